@@ -1,0 +1,45 @@
+-- Document 01, "Checked examples": the starred ones on values, one table that the checker computes.
+use Prim.Native.Nat.{ℕ}
+use mathlib.Core.Path.{_≡_, refl}
+use mathlib.Core.List.{List, [], _∷_, map}
+use Rattle.wire.specs.Utf8.{ends}
+use Rattle.wire.specs.Field.{u8At, u16At, u32At, u64At, strAt, textAt}
+use Rattle.image.specs.Record.{bytesOf}
+use Rattle.image.specs.Whole.{Whole, accepted, refused, bytes, ended, settled}
+use Rattle.amf0.specs.Marker.{markerOf}
+use Rattle.amf0.specs.Fields.{fieldsAt}
+use Rattle.amf0.specs.Reading.{items, pair, pairs, follow, value, readOf}
+
+-- an input, and what the public call comes to on it in a room of 24 bytes: the bytes used and the image's bytes, or an answer that refuses
+record Example : Type 0 where
+  input : List ℕ
+  result : Whole
+
+infix 1 _gives_
+abbrev _gives_ : List ℕ → Whole → Example
+s gives w = record { input = s; result = w }
+
+infixr 0 _and_
+abbrev _and_ : Example → List Example → List Example
+e and es = e ∷ es
+
+abbrev table : List Example
+table =
+    0x01 ∷ 0x02 ∷ [] gives accepted 2 (0x01 ∷ 0x01 ∷ [])
+    and 0x02 ∷ 0x00 ∷ 0x02 ∷ 0x68 ∷ 0x69 ∷ [] gives accepted 5 (0x02 ∷ 0x00 ∷ 0x00 ∷ 0x03 ∷ 0x00 ∷ 0x00 ∷ 0x02 ∷ [])
+    and 0x0C ∷ 0x00 ∷ 0x00 ∷ 0x00 ∷ 0x02 ∷ 0x68 ∷ 0x69 ∷ [] gives accepted 7 (0x02 ∷ 0x00 ∷ 0x00 ∷ 0x05 ∷ 0x00 ∷ 0x00 ∷ 0x02 ∷ [])
+    and 0x03 ∷ 0x00 ∷ 0x01 ∷ 0x61 ∷ 0x09 ∷ [] gives accepted 5 (0x03 ∷ 0x09 ∷ [])
+    and 0x03 ∷ 0x00 ∷ 0x00 ∷ 0x05 ∷ 0x00 ∷ 0x00 ∷ 0x09 ∷ []
+    gives accepted 7 (0x03 ∷ 0x20 ∷ 0x00 ∷ 0x00 ∷ 0x03 ∷ 0x00 ∷ 0x00 ∷ 0x05 ∷ 0x09 ∷ [])
+    and 0x0A ∷ 0x00 ∷ 0x00 ∷ 0x00 ∷ 0x00 ∷ [] gives accepted 5 (0x0A ∷ 0x00 ∷ 0x00 ∷ 0x00 ∷ 0x00 ∷ [])
+    and 0x0A ∷ 0x00 ∷ 0x00 ∷ 0x00 ∷ 0x01 ∷ [] gives refused 2
+    and 0x0A ∷ 0x00 ∷ 0x00 ∷ 0x00 ∷ 0x02 ∷ 0x04 ∷ [] gives refused 2
+    and 0x12 ∷ [] gives accepted 1 (0x0D ∷ [])
+    and 0x11 ∷ 0x05 ∷ [] gives accepted 1 (0x0D ∷ [])
+    and 0x04 ∷ [] gives refused 3
+    and 0x02 ∷ 0x00 ∷ 0x01 ∷ 0xFF ∷ [] gives refused 3
+    and []
+
+pub examples : map (λ e. readOf (e .input) 24) table ≡ map (λ e. e .result) table
+unfolding settled ended bytes bytesOf value items pair pairs follow fieldsAt markerOf u8At u16At u32At u64At textAt strAt ends
+examples = refl

@@ -1,0 +1,9 @@
+-- What reading a value is, by document 01 (Marker, Fields, Reading, Why), by Adobe's document (Standard), and how the two meet (Shown).
+pub mod Marker
+pub mod Fields
+pub mod Reading
+pub mod Why
+pub mod Standard
+pub mod Shown
+pub mod Examples
+pub mod Code

@@ -1,0 +1,64 @@
+-- What the records of a reading show: a tree told from left to right, its texts taken out of the input.
+use Prim.Native.Nat.{ℕ, _+_, _≤_}
+use mathlib.Core.Path.{_≡_}
+use mathlib.Core.List.{List, [], _∷_, _++_}
+use mathlib.Core.Bool.{Bool}
+use lib.ListN.{length, take, drop}
+use Rattle.image.specs.declared.record.Record.{Record}
+use Rattle.image.specs.declared.record.Record.the-variants.{Number, Boolean, Text, Object, Null, Undefined, Reference, EcmaArray, ObjectEnd, StrictArray, Date, Unsupported, Xml, TypedObject, Key, Packet, Header, Message, Lso}
+use Rattle.image.specs.Record.{bytesOf}
+use Rattle.wire.specs.Field.{bytesAt}
+use Rattle.amf0.specs.Standard.{Item, Tree, Sort}
+use Rattle.amf0.specs.Standard.Tree.{node, none, property, nil, cons}
+
+-- a tree's words: an item, a property's name, or the end of the properties
+pub data Word : Type 0 where
+  item : Item → Word
+  name : List ℕ → Word
+  close : Word
+  -- a record that is no part of a value
+  other : Word
+
+-- the words of a tree, and then more
+abbrev pub told : {k : Sort} → Tree k → List Word → List Word
+told (node i t) r = item i ∷ told t r
+told none r = close ∷ r
+told (property k v ps) r = name k ∷ told v (told ps r)
+told nil r = r
+told (cons v vs) r = told v (told vs r)
+
+-- the word that a record says
+abbrev pub look : List ℕ → Record → Word
+look s (Number n) = item (Item.number n)
+look s (Boolean b) = item (Item.boolean b)
+look s (Text p n) = item (Item.string (bytesAt n s p))
+look s Object = item Item.object
+look s Null = item Item.null
+look s Undefined = item Item.undefined
+look s (Reference n) = item (Item.reference n)
+look s (EcmaArray n) = item (Item.ecma-array n)
+look s ObjectEnd = close
+look s (StrictArray n) = item (Item.strict-array n)
+look s (Date n present zone) = item (Item.date n zone)
+look s Unsupported = item Item.unsupported
+look s (Xml p n) = item (Item.xml-document (bytesAt n s p))
+look s (TypedObject p n) = item (Item.typed-object (bytesAt n s p))
+look s (Key p n) = name (bytesAt n s p)
+look s (Packet h m) = other
+look s (Header p n f) = other
+look s (Message p n q m) = other
+look s (Lso l p n) = other
+
+abbrev pub words : List ℕ → List Record → List Word
+words s [] = []
+words s (r ∷ rs) = look s r ∷ words s rs
+
+abbrev pub laid : List Record → List ℕ
+laid [] = []
+laid (r ∷ rs) = bytesOf r ++ laid rs
+
+-- image bytes that are records which, over the input s, tell the tree t
+pub record Shows (s : List ℕ) (t : Tree Sort.value) (image : List ℕ) : Type 0 where
+  pub records : List Record
+  pub tells : words s records ≡ told t []
+  pub lies : image ≡ laid records

@@ -1,0 +1,3 @@
+// AMF0 values: read into a tree image.
+pub mod read;
+pub mod type_marker;

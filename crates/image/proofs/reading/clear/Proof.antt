@@ -1,0 +1,59 @@
+-- Each turn stores one zero more; what is to come is the same zeros behind what stands before them.
+use Prim.Native.Nat.{_-_}
+use mathlib.Core.Path.{_≡_, sym, _∙_}
+use mathlib.Core.List.{_++_}
+use native.Mathlib.Omega.{arith}
+use lib.ListN.{length, take, replicate, length-set}
+use borrow.Author.Needs.{needs}
+use Rattle.image.proofs.Laws.{clear-more, clear-all}
+use Rattle.image.proofs.reading.clear.Statement.{statement}
+use Rattle.image.proofs.reading.clear.Tie as tie
+
+abbrev Inv-loop : tie.InvT-loop
+Inv-loop image₀ from i₀ image i =
+    (length image ≡ length image₀) ×
+    (take from image₀ ++ replicate (length image₀ - from) 0 ≡ take i image ++ replicate (length image₀ - i) 0)
+
+abbrev μ-loop : tie.MeasureT-loop
+μ-loop image₀ from i₀ image i = length image₀ - i
+
+loop-holds : tie.Need-loop-holds Inv-loop μ-loop
+loop-holds c = search needs
+
+slice-write-image : tie.Need-slice-write-image Inv-loop μ-loop
+slice-write-image c = search needs
+
+add-i : tie.Need-add-i Inv-loop μ-loop
+add-i c = search needs
+
+loop-less : tie.Need-loop-less Inv-loop μ-loop
+loop-less c = search needs
+
+loop-again : tie.Need-loop-again Inv-loop μ-loop
+loop-again c =
+    let l = c .before .loop in
+    let n = length (c .before .before .args .image .now) in
+    (simp length-set (l .inv .0), l .inv .1 ∙ clear-more (l .image) (l .i) n (omega arith) (omega arith))
+
+same-length : tie.Need-same-length Inv-loop μ-loop
+same-length c = search needs
+
+returns : tie.Need-returns Inv-loop μ-loop
+returns c =
+    let l = c .before .loop in
+    let n = length (c .before .before .args .image .now) in
+    sym (l .inv .1 ∙ clear-all (l .image) (l .i) n (omega arith) (omega arith))
+
+pub clear-spec : {M : Type 1} → statement M
+clear-spec =
+    tie.close
+    (tie.spec
+    Inv-loop
+    μ-loop
+    loop-holds
+    slice-write-image
+    add-i
+    loop-less
+    loop-again
+    same-length
+    returns)

@@ -1,0 +1,75 @@
+-- A reading, with no word of room: the records in the order in which they fall due, each with the place that a refusal for room would name, and how
+-- the reading ends.
+use Prim.Native.Nat.{ℕ, _+_, _≤_}
+use mathlib.Core.Path.{_≡_}
+use mathlib.Core.List.{List, [], _∷_, _++_}
+use lib.ListN.{length}
+use lib.Seq.{sets}
+use lib.Dec.{leb}
+use Rattle.wire.specs.Choice.{pick}
+use Rattle.wire.specs.Field.{to}
+use Rattle.wire.specs.declared.cursor.Cursor.{Cursor}
+use Rattle.image.specs.declared.record.Record.{Record}
+use Rattle.image.specs.declared.reading.Step.{Step}
+use Rattle.image.specs.declared.reading.Step.the-variants.{Next, Stop}
+use Rattle.image.specs.Record.{bytesOf, size, moved}
+
+pub data Due : Type 0 where
+  -- read up to here
+  end : (next : ℕ) → Due
+  -- refused, by the field at this place
+  stop : (answer place : ℕ) → Due
+  -- a record is due, and then the rest
+  due : (r : Record) (place : ℕ) (rest : Due) → Due
+
+-- one reading and then another, from where it ends
+infixl 20 _>>=_
+abbrev pub _>>=_ : Due → (ℕ → Due) → Due
+end n >>= k = k n
+stop a p >>= k = stop a p
+due r p d >>= k = due r p (d >>= k)
+
+-- the reading of a part that begins at the place a of a whole: every place, but for where it ends in the part, counts from the whole's start
+abbrev pub based : ℕ → Due → Due
+based a (end n) = end n
+based a (stop w p) = stop w (a + p)
+based a (due r p d) = due (moved a r) (a + p) (based a d)
+
+-- the same reading further on in an input: every place is moved, also that where it ends
+abbrev pub shifted : ℕ → Due → Due
+shifted a (end n) = end (a + n)
+shifted a (stop w p) = stop w (a + p)
+shifted a (due r p d) = due (moved a r) (a + p) (shifted a d)
+
+-- the reading is not refused, and ends at n
+abbrev pub Ends : Due → ℕ → Type 0
+Ends (end m) n = n ≡ m
+Ends (stop a p) n = ⊥
+Ends (due r p d) n = Ends d n
+
+-- the reading is refused with the answer a, by the field at p
+abbrev pub Stops : Due → ℕ → ℕ → Type 0
+Stops (end n) a p = ⊥
+Stops (stop b q) a p = (a ≡ b) × (p ≡ q)
+Stops (due r q d) a p = Stops d a p
+
+-- how a reading that was carried out went, and the image then
+pub record Ran : Type 0 where
+  pub step : Step
+  pub image : List ℕ
+
+abbrev pub ran : Step → List ℕ → Ran
+ran x i = record { step = x; image = i }
+
+-- The reading carried out in a room: each record is laid behind what is made, and the first that does not fit refuses the whole with 4.
+unfoldable pub run : Due → ℕ → List ℕ → Ran
+run (end n) made image = ran (Next (to n) made) image
+run (stop a p) made image = ran (Stop a p) image
+run (due r p d) made image =
+    pick (leb (made + size r) (length image))
+    (run d (made + size r) (sets image made (bytesOf r)))
+    (ran (Stop 4 p) image)
+
+-- a step that goes on does so at a place from `low` to `high`, with no more made than there is room
+pub record Within (x : Step) (low high room : ℕ) : Type 0 where
+  pub bounds : (c : Cursor) (m : ℕ) → x ≡ Next c m → (low ≤ c .at) × (c .at ≤ high) × (m ≤ room)

@@ -1,0 +1,3 @@
+// The tree image: its records, laid one behind another into a lent buffer and taken out of one, and what a reading that lays them comes to.
+pub mod reading;
+pub mod record;

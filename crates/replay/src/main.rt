@@ -1,0 +1,187 @@
+// Replays cases: reads frames from standard input until it ends, makes the call that each asks for, and prints a line for it.
+//
+// A frame is one byte of operation; two numbers, a and b; and two rows of bytes, each behind its length. Numbers and lengths have four bytes, the highest
+// first. A line is decimal numbers and rows of bytes in lower-case hex, an empty row as `-`, with a space between them. A frame that the buffers can't
+// hold prints `over`.
+//
+//     01  parse_single_element(first row, an image of a bytes)     answer used made image
+//     0B  inside and part(first row, place a, length b)            0 or 1, the part
+mod output;
+
+ghost use Prim.Native.Nat.{_<_};
+use libc::STDIN_FILENO;
+use output::number;
+use output::row;
+use output::word;
+use wire::cursor::Cursor;
+use wire::cursor::U32;
+
+// What stands in every byte of a lent image before a reading.
+const UNREAD: u8 = 0xA5;
+
+enum Number {
+    Is(usize),
+    End,
+}
+
+// A row that was read: its length, or that the buffer can't hold it, or that the input ended before it did.
+enum Row {
+    Held(usize),
+    Over,
+    End,
+}
+
+fn read_number() -> Number {
+    let mut four = [0u8; 4];
+    if io::read_full(STDIN_FILENO, &mut four) < 4 {
+        return Number::End;
+    }
+    let c = Cursor { at: 0 };
+    match c.be_u32(&four) {
+        U32::Got(n, _) => Number::Is(n as usize),
+        U32::Stop(_, _) => Number::End,
+    }
+}
+
+// Reads some of the `left` bytes and drops them: how many are left then.
+fn skip_some(left: usize) -> usize
+    requires { ⌜ 0 < left ⌝ }
+    ensures { λ r. ⌜ r < left ⌝ }
+{
+    let mut chunk = io::large_buffer();
+    if left < 65536 {
+        io::read_full(STDIN_FILENO, &mut chunk[..left]);
+        return 0;
+    }
+    io::read_full(STDIN_FILENO, &mut chunk);
+    left - 65536
+}
+
+fn skip(n: usize) {
+    let mut left = n;
+    while 0 < left {
+        left = skip_some(left);
+    }
+}
+
+fn read_row(buffer: &mut [u8]) -> Row {
+    match read_number() {
+        Number::End => Row::End,
+        Number::Is(n) => {
+            if n <= buffer.len() {
+                if io::read_full(STDIN_FILENO, &mut buffer[..n]) < n {
+                    Row::End
+                } else {
+                    Row::Held(n)
+                }
+            } else {
+                skip(n);
+                Row::Over
+            }
+        }
+    }
+}
+
+fn fill(buffer: &mut [u8], b: u8) {
+    let mut i: usize = 0;
+    while i < buffer.len() {
+        buffer[i] = b;
+        i += 1;
+    }
+}
+
+fn read_value(input: &[u8], image: &mut [u8]) {
+    fill(image, UNREAD);
+    let r = amf0::read::parse_single_element(input, image);
+    number(r.answer as usize);
+    word(b" ");
+    number(r.used);
+    word(b" ");
+    number(r.made);
+    word(b" ");
+    row(image);
+    word(b"\n");
+}
+
+fn name_text(input: &[u8], place: usize, length: usize) {
+    if wire::text::inside(input, place, length) {
+        word(b"1 ");
+    } else {
+        word(b"0 ");
+    }
+    row(wire::text::part(input, place, length));
+    word(b"\n");
+}
+
+// Makes the call of a frame whose rows are held.
+fn call(operation: u8, a: usize, b: usize, first: &[u8], room: &mut [u8]) {
+    match operation {
+        0x01 => {
+            if a <= room.len() {
+                read_value(first, &mut room[..a]);
+            } else {
+                word(b"over\n");
+            }
+        }
+        0x0B => {
+            name_text(first, a, b);
+        }
+        _ => {
+            word(b"no such operation\n");
+        }
+    }
+}
+
+// Replays one frame, and says whether there was one.
+fn frame(first: &mut [u8], second: &mut [u8], room: &mut [u8]) -> bool {
+    let mut one = [0u8; 1];
+    if io::read_full(STDIN_FILENO, &mut one) < 1 {
+        return false;
+    }
+    let operation = one[0];
+    let Number::Is(a) = read_number() else {
+        return false;
+    };
+    let Number::Is(b) = read_number() else {
+        return false;
+    };
+    let left = read_row(first);
+    let right = read_row(second);
+    match left {
+        Row::End => false,
+        Row::Over => {
+            word(b"over\n");
+            true
+        }
+        Row::Held(n) => match right {
+            Row::End => false,
+            Row::Over => {
+                word(b"over\n");
+                true
+            }
+            Row::Held(_) => {
+                if n <= first.len() {
+                    call(operation, a, b, &first[..n], room);
+                    true
+                } else {
+                    false
+                }
+            }
+        },
+    }
+}
+
+// A proved loop has to end, and nothing says that an input does: the turns are more than any run has.
+fn frames(first: &mut [u8], second: &mut [u8], room: &mut [u8]) {
+    let mut turns = u64::MAX;
+    while 0 < turns && frame(first, second, room) {
+        turns -= 1;
+    }
+}
+
+fn main() {
+    let mut first = [0u8; 3_145_729];
+    let mut second = [0u8; 1_048_577];
+    let mut room = [0u8; 3_145_729];
+    frames(&mut first, &mut second, &mut room);
+}

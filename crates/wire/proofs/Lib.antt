@@ -1,0 +1,4 @@
+pub mod Laws
+pub mod Stands
+pub mod Rfc3629
+mod Steps

@@ -1,0 +1,14 @@
+-- The text that a place and a length name: inside where the place and the length end within the input.
+use Prim.Native.Nat.{ℕ, _+_}
+use mathlib.Core.List.{List, []}
+use mathlib.Core.Bool.{Bool}
+use lib.ListN.{length, take, drop}
+use lib.Dec.{leb}
+use Rattle.wire.specs.Choice.{pick}
+
+abbrev pub insideOf : List ℕ → ℕ → ℕ → Bool
+insideOf s place n = leb (place + n) (length s)
+
+-- the named part; the empty one where it is not inside
+abbrev pub partOf : List ℕ → ℕ → ℕ → List ℕ
+partOf s place n = pick (insideOf s place n) (take n (drop place s)) []
