@@ -34,6 +34,10 @@ pub size-bytes : (r : Record) → length (bytesOf r) ≡ size r
 unfolding bytesOf size
 size-bytes r = length-field (layoutOf r)
 
+pub size-some : (r : Record) → 1 ≤ size r
+unfolding size
+size-some r = omega arith
+
 -- a kind is a byte, and the longest record a date
 pub small : (r : Record) → (layoutOf r .kind < 256) × (sizeIn (layoutOf r) ≤ 12)
 small (Number n) = omega arith

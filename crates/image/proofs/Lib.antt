@@ -1,3 +1,4 @@
 -- What the proofs of several functions and of the layers above use.
 pub mod Laws
 pub mod Settle
+pub mod Found

@@ -1,3 +1,4 @@
 pub mod Record
 pub mod Due
 pub mod Whole
+pub mod Taking

@@ -1,8 +1,7 @@
 -- The tree image of document 01: how each record lies, the table's lines in the table's order.
 use Prim.Native.Nat.{ℕ, _+_}
-use mathlib.Core.List.{List, [], _∷_, _++_}
+use mathlib.Core.List.{List, _∷_, _++_}
 use mathlib.Core.Bool.{Bool, true, false}
-use lib.ListN.{length}
 use Rattle.wire.specs.Number.{digits}
 use Rattle.image.specs.declared.record.Field.{Field}
 use Rattle.image.specs.declared.record.Layout.{Layout}

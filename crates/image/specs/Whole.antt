@@ -1,6 +1,6 @@
 -- What a reading in a room comes to: the answer, the counts and every byte of the image, with no word of the order in which the image is made.
-use Prim.Native.Nat.{ℕ, _+_, _-_}
-use mathlib.Core.List.{List, [], _∷_, _++_}
+use Prim.Native.Nat.{ℕ, _-_}
+use mathlib.Core.List.{List, [], _++_}
 use lib.ListN.{length, take, replicate}
 use lib.Dec.{leb}
 use Rattle.wire.specs.Choice.{pick}
