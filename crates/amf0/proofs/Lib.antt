@@ -7,4 +7,4 @@ pub mod Telling
 pub mod Reasons
 pub mod Shifting
 pub mod Outcome
-mod Laws
+pub mod Laws

@@ -1,19 +1,22 @@
 -- What one more byte does: to the UTF-8 check, and to the comparison of two rows.
-use Prim.Native.Nat.{ℕ, zero, suc, _+_, _-_, _≤_, _<_}
-use mathlib.Core.Path.{_≡_, refl, sym, ap, _∙_}
+use Prim.Native.Nat.{ℕ, zero, suc, _+_, _≤_, _<_}
+use mathlib.Core.Path.{_≡_, refl, ap, _∙_}
 use mathlib.Core.List.{List, [], _∷_}
 use mathlib.Core.Bool.{Bool, true, false}
-use native.Mathlib.Numerals.{add-one, sub-one}
+use mathlib.Core.Logic.{_⊎_, ⊎-elim}
+use native.Mathlib.Numerals.{add-one}
 use native.Mathlib.Omega.{arith}
-use lib.ListN.{length, getD, drop, replicate}
+use lib.ListN.{length, getD, drop, drop-of-length-le}
 use lib.Seq.{drop-cons}
+use lib.Bits.{bitOr, or-add-and, and-le-l, and-le-r}
 use lib.Dec.{leb, eqb, T}
 use borrow.Author.Tests.{le-leb, lt-leb, leb-true, eq-eqb, ne-eqb}
 use Rattle.wire.specs.declared.utf8.Lead.{Lead}
-use Rattle.wire.specs.declared.utf8.Lead.the-variants.{Asks, Bad}
+use Rattle.wire.specs.declared.utf8.Lead.the-variants.{Bad}
+use Rattle.wire.specs.declared.utf8.Step.the-variants.{To, Stuck}
 use Rattle.wire.specs.Choice.{pick}
-use Rattle.wire.specs.Utf8.{Range, Form, _to_, has, tail, forms, begun, ends}
-use Rattle.wire.specs.Code.{ranges, goes, Asked}
+use Rattle.wire.specs.Utf8.{Range, Form, _to_, has, forms, begun, ends}
+use Rattle.wire.specs.Code.{goes, Asked, Over, Stepped, Run}
 use Rattle.wire.specs.Field.{equal}
 
 alike : (t : Bool) → pick t false false ≡ false
@@ -72,9 +75,9 @@ unfolding ends
 begins-at {f} {fs} b k e t x y s =
     past b (λ rs. ends rs s) k (f .first .low) forms t x ∙ rw (e, has-yes (f .first .low) (f .first .high) b x y)
 
-pub begins : {f : Form} {fs : List Form} (b k n l h : ℕ) → drop k forms ≡ f ∷ fs → f .behind ≡ ranges n l h
-    → T (below k (f .first .low) forms) → f .first .low ≤ b → b ≤ f .first .high → Asked b (Asks n l h)
-begins b k n l h e g t x y = record { same = λ s. begins-at b k e t x y s ∙ rw g }
+pub begins : {f : Form} {fs : List Form} (b k : ℕ) (r : Lead) → drop k forms ≡ f ∷ fs → ((s : List ℕ) → ends (f .behind) s ≡ goes r s)
+    → T (below k (f .first .low) forms) → f .first .low ≤ b → b ≤ f .first .high → Asked b r
+begins b k r e g t x y = record { same = λ s. begins-at b k e t x y s ∙ g s }
 
 -- a byte behind the first k forms and before the others
 pub begins-none : (b k m n : ℕ) → T (below k m forms) → T (above n (drop k forms)) → m ≤ b → b < n → Asked b Bad
@@ -84,36 +87,53 @@ begins-none b k m n t u x y =
 
 -- ---- the bytes behind it
 
-tails : (n : ℕ) → replicate n tail ≡ ranges n 0x80 0xBF
-tails zero = refl
-tails (suc n) = refl
+module _ (s : List ℕ) (i : ℕ) (h : i < length s) where
+  pub ends-lead : {x r : Lead} → Asked (getD s i 0) x → x ≡ r → ends [] (drop i s) ≡ goes r (drop (i + 1) s)
+  ends-lead a e = rw (drop-cons s i 0 h, add-one, ← e) (a .same (drop (suc i) s))
 
-pub ends-end : (more low high : ℕ) → ends (ranges more low high) [] ≡ eqb more 0
+  pub over-in : (low high : ℕ) → low ≤ getD s i 0 → getD s i 0 ≤ high → Over s (To i) low high (To (i + 1))
+  unfolding ends
+  over-in low high f g =
+      record {
+        same = λ rs. rw (drop-cons s i 0 h, add-one, has-yes low high (getD s i 0) f g);
+        ahead = λ k a. omega arith;
+      }
+
+  pub over-out : (low high : ℕ) → (high < getD s i 0) ⊎ (getD s i 0 < low) → Over s (To i) low high Stuck
+  unfolding ends
+  over-out low high d =
+      let e = ⊎-elim (has-above low high (getD s i 0)) (has-below low high (getD s i 0)) d in
+      record { same = λ rs. rw (drop-cons s i 0 h, e); ahead = λ k a. tt }
+
+pub over-end : (s : List ℕ) (i low high : ℕ) → length s ≤ i → Over s (To i) low high Stuck
 unfolding ends
-ends-end zero low high = refl
-ends-end (suc more) low high = sym (ne-eqb (suc more) 0 (omega arith))
+over-end s i low high h = record { same = λ rs. rw (drop-of-length-le s h); ahead = λ k a. tt }
 
--- of a byte that is asked for, its range decides
-asked-for : (more low high b : ℕ) (s : List ℕ) → (more ≡ 0 → ⊥)
-    → ends (ranges more low high) (b ∷ s) ≡ pick (has (low to high) b) (ends (ranges (more - 1) 0x80 0xBF) s) false
-unfolding ends
-asked-for zero low high b s z = absurd (z refl)
-asked-for (suc more) low high b s z = rw (sub-one (suc more), tails more)
+pub over-stuck : {s : List ℕ} {low high : ℕ} → Over s Stuck low high Stuck
+over-stuck = record { same = λ rs. refl; ahead = λ k a. tt }
 
-module _ (s : List ℕ) (i more low high : ℕ) (h : i < length s) where
-  pub ends-lead : {x r : Lead} → more ≡ 0 → Asked (getD s i 0) x → x ≡ r → ends (ranges more low high) (drop i s) ≡ goes r (drop (i + 1) s)
-  ends-lead {x} {r} z a e = rw (z, drop-cons s i 0 h, add-one, ← e) (a .same (drop (suc i) s))
+-- ---- runs
 
-  pub ends-below : (more ≡ 0 → ⊥) → getD s i 0 < low → ends (ranges more low high) (drop i s) ≡ false
-  ends-below z g = rw (drop-cons s i 0 h, asked-for more low high (getD s i 0) (drop (suc i) s) z, has-below low high (getD s i 0) g)
+pub run-on : {s : List ℕ} {i j k : ℕ} → Run s i j → Run s j k → Run s i k
+run-on f g = record { from = omega arith; within = g .within; same = f .same ∙ g .same }
 
-  pub ends-above : (more ≡ 0 → ⊥) → high < getD s i 0 → ends (ranges more low high) (drop i s) ≡ false
-  ends-above z g = rw (drop-cons s i 0 h, asked-for more low high (getD s i 0) (drop (suc i) s) z, has-above low high (getD s i 0) g)
+pub run-one : (s : List ℕ) (i j : ℕ) → i < length s → getD s i 0 < 0x80 → j ≡ i + 1 → Run s i j
+run-one s i j h b e =
+    record {
+      from = omega arith;
+      within = omega arith;
+      same = rw (e, drop-cons s i 0 h, add-one) (begins-at (getD s i 0) 0 refl tt (omega arith) (omega arith) (drop (suc i) s));
+    }
 
-  pub ends-more : (more ≡ 0 → ⊥) → low ≤ getD s i 0 → getD s i 0 ≤ high
-      → ends (ranges more low high) (drop i s) ≡ ends (ranges (more - 1) 0x80 0xBF) (drop (i + 1) s)
-  ends-more z f g =
-      rw (add-one, drop-cons s i 0 h, asked-for more low high (getD s i 0) (drop (suc i) s) z, has-yes low high (getD s i 0) f g)
+pub step-run : {s : List ℕ} {i j : ℕ} → Stepped s i (To j) → Run s i j
+step-run t = record { from = omega arith; within = t .ahead .1; same = t .same }
+
+-- a is the bytes from i to j or-ed together: with the byte at j it is below 0x80 only if both are
+pub run-or : {s : List ℕ} {i j a : ℕ} (k : ℕ) → (a < 0x80 → Run s i j) → j < length s → k ≡ j + 1 → bitOr a (getD s j 0) < 0x80 → Run s i k
+run-or {s} {i} {j} {a} k f h e o =
+    let b = getD s j 0 in
+    let sum = or-add-and a b in
+    run-on (f (omega (arith, and-le-r a b))) (run-one s j k h (omega (arith, and-le-l a b)) e)
 
 -- ---- two rows
 

@@ -1,22 +1,49 @@
 -- What the steps of the UTF-8 check say of the bytes behind them.
-use Prim.Native.Nat.{ℕ, zero, suc}
+use Prim.Native.Nat.{ℕ, _≤_, _<_}
 use mathlib.Core.Path.{_≡_}
 use mathlib.Core.List.{List, [], _∷_}
-use mathlib.Core.Bool.{Bool, true, false}
-use lib.ListN.{replicate}
+use mathlib.Core.Bool.{Bool, false}
+use lib.ListN.{length, drop}
 use Rattle.wire.specs.declared.utf8.Lead.{Lead}
-use Rattle.wire.specs.declared.utf8.Lead.the-variants.{Asks, Bad}
+use Rattle.wire.specs.declared.utf8.Lead.the-variants.{One, Two, Three, Four, Bad}
+use Rattle.wire.specs.declared.utf8.Step.{Step}
+use Rattle.wire.specs.declared.utf8.Step.the-variants.{To, Stuck}
 use Rattle.wire.specs.Utf8.{Range, _to_, tail, ends}
 
--- n bytes, the first from low to high
-abbrev pub ranges : ℕ → ℕ → ℕ → List Range
-ranges zero low high = []
-ranges (suc n) low high = low to high ∷ replicate n tail
-
+-- what is left to check behind a first byte
 abbrev pub goes : Lead → List ℕ → Bool
-goes (Asks n l h) s = ends (ranges n l h) s
+goes One s = ends [] s
+goes Two s = ends (tail ∷ []) s
+goes (Three l h) s = ends (l to h ∷ tail ∷ []) s
+goes (Four l h) s = ends (l to h ∷ tail ∷ tail ∷ []) s
 goes Bad s = false
 
 -- what a first byte asks for is what its form has behind it
 pub record Asked (b : ℕ) (r : Lead) : Type 0 where
   pub same : (s : List ℕ) → ends [] (b ∷ s) ≡ goes r s
+
+-- what is left to check behind a step: bytes in these ranges, and then characters to the end
+abbrev pub left : List Range → Step → List ℕ → Bool
+left rs (To i) s = ends rs (drop i s)
+left rs Stuck s = false
+
+-- a step comes to a place behind i
+abbrev pub Ahead : List ℕ → ℕ → Step → Type 0
+Ahead s i (To j) = (i < j) × (j ≤ length s)
+Ahead s i Stuck = Unit
+
+-- the step over a byte from low to high
+pub record Over (s : List ℕ) (at : Step) (low high : ℕ) (r : Step) : Type 0 where
+  pub same : (rs : List Range) → left (low to high ∷ rs) at s ≡ left rs r s
+  pub ahead : (i : ℕ) → Ahead s i at → Ahead s i r
+
+-- the step over a character, and maybe more of them
+pub record Stepped (s : List ℕ) (i : ℕ) (r : Step) : Type 0 where
+  pub same : ends [] (drop i s) ≡ left [] r s
+  pub ahead : Ahead s i r
+
+-- whole characters stand from i to j
+pub record Run (s : List ℕ) (i j : ℕ) : Type 0 where
+  pub from : i ≤ j
+  pub within : j ≤ length s
+  pub same : ends [] (drop i s) ≡ ends [] (drop j s)
