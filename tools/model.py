@@ -1,8 +1,9 @@
 """Document 01's readings, written down once more in Python: plain, slow and independent of the library.
 
-read_value(input, room) gives (answer, used, made, image), the image as it stands after the call."""
+read_value(input, room) gives (answer, used, made, image), the image as it stands after the call; write_value(image, text, out) gives
+(answer, count, output), likewise."""
 
-LIMIT, LEVELS = 1048576, 32
+LIMIT, LEVELS, IMAGE_LIMIT = 1048576, 32, 3145728
 
 
 class Refused(Exception):
@@ -105,6 +106,110 @@ def read_value(data, room):
     except Refused as why:
         return why.args[0], 0, 0, bytes(room)
     return 0, r.at, len(r.image), r.image + bytes(room - len(r.image))
+
+
+VALUES = (0, 1, 2, 3, 5, 6, 7, 8, 10, 11, 13, 15, 16)
+BODIES = {0: 8, 1: 1, 2: 6, 15: 6, 3: 0, 5: 0, 6: 0, 9: 0, 13: 0, 7: 2, 8: 4, 10: 4, 11: 11, 16: 5, 32: 5}
+
+
+class Writing:
+    """A place in an image, and the bytes put out so far."""
+
+    def __init__(self, image, text):
+        self.image, self.text, self.at, self.out = image, text, 0, []
+
+    def kind(self):
+        return self.image[self.at] if self.at < len(self.image) else None
+
+    def body(self):
+        n = BODIES[self.image[self.at]]
+        body = self.image[self.at + 1 : self.at + 1 + n]
+        if len(body) < n:
+            raise Refused(6)
+        self.at += 1 + n
+        return body
+
+    def named(self, place, length):
+        place, length = (int.from_bytes(b, "big") for b in (place, length))
+        if place + length > len(self.text):
+            raise Refused(6)
+        text = self.text[place : place + length]
+        try:
+            text.decode("utf-8", "strict")
+        except UnicodeDecodeError:
+            raise Refused(6)
+        return text
+
+    def put(self, *rows):
+        self.out.extend(rows)
+
+
+def put_value(w, depth):
+    kind = w.kind()
+    if kind not in VALUES:
+        raise Refused(6)
+    if depth > LEVELS:
+        raise Refused(5)
+    body = w.body()
+    if kind == 1 and body[0] > 1:
+        raise Refused(6)
+    if kind in (2, 15):
+        text = w.named(body[:3], body[3:])
+        short = kind == 2 and len(text) < 65536
+        w.put(bytes([2 if short else 12 if kind == 2 else 15]), big(len(text), 2 if short else 4), text)
+    elif kind == 16:
+        text = w.named(body[:3], body[3:])
+        w.put(b"\x10", big(len(text), 2), text)
+    elif kind == 11:
+        if body[8] > 1 or (body[8] == 0 and body[9:] != b"\0\0"):
+            raise Refused(6)
+        w.put(b"\x0b", body[:8], body[9:])
+    else:
+        w.put(bytes([kind]), body)
+    if kind == 10:
+        for _ in range(int.from_bytes(body, "big")):
+            put_value(w, depth + 1)
+    if kind == 8:
+        index = 0
+        while w.kind() in VALUES:
+            key = str(index).encode()
+            w.put(big(len(key), 2), key)
+            put_value(w, depth + 1)
+            index += 1
+    if kind in (3, 8, 16):
+        put_pairs(w, depth)
+
+
+def put_pairs(w, depth):
+    while True:
+        kind = w.kind()
+        if kind not in (9, 32):
+            raise Refused(6)
+        body = w.body()
+        if kind == 9:
+            w.put(b"\0\0\x09")
+            return
+        key = w.named(body[:3], body[3:])
+        w.put(big(len(key), 2), key)
+        put_value(w, depth + 1)
+
+
+def write_value(image, text, out):
+    try:
+        if len(text) > LIMIT or len(image) > IMAGE_LIMIT:
+            raise Refused(1)
+        w = Writing(image, text)
+        put_value(w, 1)
+        if w.at < len(image):
+            raise Refused(6)
+        size = sum(map(len, w.out))
+        if size > LIMIT:
+            raise Refused(1)
+        if size > len(out):
+            raise Refused(4)
+    except Refused as why:
+        return why.args[0], 0, out
+    return 0, size, b"".join(w.out) + out[size:]
 
 
 def inside(data, place, length):

@@ -122,7 +122,7 @@ held (Encodes.property u e f) = omega arith
 held Encodes.nil = omega arith
 held (Encodes.cons {x} {y} e f) = omega (arith, held f, ap length (begun e .same), length-append x y)
 
-within : {s x r : List ℕ} {at : ℕ} → Here s at x r → length x ≤ length s
+pub within : {s x r : List ℕ} {at : ℕ} → Here s at x r → length x ≤ length s
 within {s} {x} {r} {at} h = omega (arith, length-drop at s, ap length (h .same), length-append x r)
 
 pub complete : {k : Sort} {t : Tree k} {x : List ℕ} (e : Encodes k t x) (s r : List ℕ) (at n left fuel : ℕ)

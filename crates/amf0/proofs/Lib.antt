@@ -1,4 +1,5 @@
--- `Theorems` has what is proved of the reading, with `Telling` and below what it is proved by; `Laws` is what the functions' proofs cite.
+-- `Theorems` has what is proved of the reading, and `WriteTheorems` what is proved of the writing and of the round trip. The files below each are what it
+-- is proved by; `Laws` and `Putting` are what the proofs of the functions cite.
 pub mod Theorems
 pub mod Complete
 pub mod Sound
@@ -7,4 +8,14 @@ pub mod Telling
 pub mod Reasons
 pub mod Shifting
 pub mod Outcome
+pub mod WriteTheorems
+pub mod Says
+pub mod Puts
+pub mod Shortest
+pub mod Spelling
+pub mod Alike
+pub mod WriteOutcome
+pub mod WriteSound
+pub mod WriteReasons
 pub mod Laws
+pub mod Putting

@@ -106,7 +106,7 @@ bytes-laid (stop a p) = refl
 bytes-laid (due r p d) = rw (bytes-laid d)
 
 -- a text of w bytes of length, behind a marker
-text-there : {s r : List ℕ} {at : ℕ} (m w : ℕ) (t : List ℕ) → length (digits w (length t)) ≡ w → Here s at (m ∷ digits w (length t) ++ t) r
+pub text-there : {s r : List ℕ} {at : ℕ} (m w : ℕ) (t : List ℕ) → length (digits w (length t)) ≡ w → Here s at (m ∷ digits w (length t) ++ t) r
     → bytesAt (length t) s (at + 1 + w) ≡ t
 text-there m w t l h = there (length t) (behind (cut (digits w (length t)) t (skip (m ∷ []) (digits w (length t) ++ t) h)) l refl) refl
 

@@ -1,3 +1,4 @@
-// AMF0 values: read into a tree image.
+// AMF0 values: read into a tree image, and written from one.
 pub mod read;
 pub mod type_marker;
+pub mod write;

@@ -1,4 +1,5 @@
 -- What the proofs of several functions and of the layers above use.
 pub mod Laws
 pub mod Settle
+pub mod Pouring
 pub mod Found

@@ -2,3 +2,4 @@ pub mod Record
 pub mod Due
 pub mod Whole
 pub mod Taking
+pub mod Out

@@ -2,3 +2,4 @@
 pub mod reading;
 pub mod record;
 pub mod taking;
+pub mod writing;

@@ -30,7 +30,7 @@ pub struct Reading {
 }
 
 // Stores a field, and returns the place behind it.
-fn lay(image: &mut [u8], at: usize, f: Field) -> usize
+pub(crate) fn lay(image: &mut [u8], at: usize, f: Field) -> usize
     requires { ⌜ at + f .width ≤ length (now image) ⌝ }
     ensures { λ n. ⌜ n ≡ at + f .width ⌝ }
     ensures { λ _. ⌜ now (image .exit) ≡ sets (now (image .entry)) at (fieldBytes f) ⌝ }

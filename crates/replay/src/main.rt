@@ -5,19 +5,25 @@
 // hold prints `over`.
 //
 //     01  parse_single_element(first row, an image of a bytes)     answer used made image
+//     02  write_value(image, text, an output of a bytes)           answer count output
 //     0B  inside and part(first row, place a, length b)            0 or 1, the part
 mod output;
 
 ghost use Prim.Native.Nat.{_<_};
+use image::reading::Reading;
+use image::writing::Writing;
 use libc::STDIN_FILENO;
 use output::number;
 use output::row;
 use output::word;
 use wire::cursor::Cursor;
 use wire::cursor::U32;
+use wire::text::part;
 
 // What stands in every byte of a lent image before a reading.
 const UNREAD: u8 = 0xA5;
+// And in every byte of a lent output before a writing.
+const UNWRITTEN: u8 = 0x5A;
 
 enum Number {
     Is(usize),
@@ -90,9 +96,8 @@ fn fill(buffer: &mut [u8], b: u8) {
     }
 }
 
-fn read_value(input: &[u8], image: &mut [u8]) {
-    fill(image, UNREAD);
-    let r = amf0::read::parse_single_element(input, image);
+// What a reading returned, and the image that it left.
+fn tell_reading(r: Reading, image: &[u8]) {
     number(r.answer as usize);
     word(b" ");
     number(r.used);
@@ -101,6 +106,26 @@ fn read_value(input: &[u8], image: &mut [u8]) {
     word(b" ");
     row(image);
     word(b"\n");
+}
+
+// What a writing returned, and the output that it left.
+fn tell_writing(w: Writing, out: &[u8]) {
+    number(w.answer as usize);
+    word(b" ");
+    number(w.count);
+    word(b" ");
+    row(out);
+    word(b"\n");
+}
+
+fn read_value(input: &[u8], image: &mut [u8]) {
+    fill(image, UNREAD);
+    tell_reading(amf0::read::parse_single_element(input, image), image);
+}
+
+fn write_value(image: &[u8], text: &[u8], out: &mut [u8]) {
+    fill(out, UNWRITTEN);
+    tell_writing(amf0::write::write_value(image, text, out), out);
 }
 
 fn name_text(input: &[u8], place: usize, length: usize) {
@@ -113,22 +138,23 @@ fn name_text(input: &[u8], place: usize, length: usize) {
     word(b"\n");
 }
 
-// Makes the call of a frame whose rows are held.
-fn call(operation: u8, a: usize, b: usize, first: &[u8], room: &mut [u8]) {
+// Makes a call on a buffer of the asked length.
+fn call(operation: u8, first: &[u8], second: &[u8], buffer: &mut [u8]) {
     match operation {
-        0x01 => {
-            if a <= room.len() {
-                read_value(first, &mut room[..a]);
-            } else {
-                word(b"over\n");
-            }
-        }
-        0x0B => {
-            name_text(first, a, b);
-        }
-        _ => {
-            word(b"no such operation\n");
-        }
+        0x01 => read_value(first, buffer),
+        0x02 => write_value(first, second, buffer),
+        _ => word(b"no such operation\n"),
+    }
+}
+
+// Makes the call of a frame whose rows are held.
+fn answer(operation: u8, a: usize, b: usize, first: &[u8], second: &[u8], room: &mut [u8]) {
+    if operation == 0x0B {
+        name_text(first, a, b);
+    } else if a <= room.len() {
+        call(operation, first, second, &mut room[..a]);
+    } else {
+        word(b"over\n");
     }
 }
 
@@ -159,13 +185,9 @@ fn frame(first: &mut [u8], second: &mut [u8], room: &mut [u8]) -> bool {
                 word(b"over\n");
                 true
             }
-            Row::Held(_) => {
-                if n <= first.len() {
-                    call(operation, a, b, &first[..n], room);
-                    true
-                } else {
-                    false
-                }
+            Row::Held(m) => {
+                answer(operation, a, b, part(first, 0, n), part(second, 0, m), room);
+                true
             }
         },
     }

@@ -7,8 +7,8 @@ use mathlib.Core.Logic.{_⊎_, inl, inr}
 use native.Mathlib.Nat.{add-zero, add-suc, suc-add, pow-suc, pow-succ', one-le-pow, div-one, mod-one, mod-eq-of-lt, div-div-eq-div-mul, mul-add-mod-self-right, mul-add-div-right, mul-assoc}
 use native.Mathlib.Numerals.{add-one, sub-one}
 use native.Mathlib.Omega.{arith}
-use lib.ListN.{length, getD, drop, set, length-drop, length-append}
-use lib.Seq.{sets, take-suc, drop-cons, getD-drop, set-comm}
+use lib.ListN.{length, getD, drop, set, length-drop, length-append, drop-of-length-le}
+use lib.Seq.{sets, take-suc, drop-cons, getD-drop, set-comm, length-sets}
 use lib.Arith.{mod-mul, digits-lt, digits-div}
 use lib.Dec.{leb, eqb, lit<}
 use borrow.Author.Tests.{le-leb, lt-leb, leb-true, leb-false, eq-eqb, eqb-true}
@@ -17,6 +17,7 @@ use Rattle.wire.specs.declared.cursor.Text.{Text}
 use Rattle.wire.specs.declared.cursor.Tag.{Tag}
 use Rattle.wire.specs.Choice.{pick}
 use Rattle.wire.specs.Number.{digits, number, Bytes, stored}
+use Rattle.wire.specs.Bytes.{laid}
 use Rattle.wire.specs.Utf8.{utf8}
 use Rattle.wire.specs.Field.{bytesAt, numberAt, got8, got16, got32, got64, u8At, u16At, u24At, u32At, u64At, strAt, textAt, equal, tagAt}
 use Rattle.wire.specs.declared.cursor.U8.the-variants as U8
@@ -349,3 +350,22 @@ module _ (w n at : ℕ) (out : List ℕ) where
 
   pub stored-none : length out < at + w → (false ≡ leb (at + w) (length out)) × (out ≡ stored w n at out)
   stored-none h = (sym (lt-leb _ _ h), sym (pick-no (at + w) (length out) _ _ h))
+
+-- a row laid where it has room, and where it has none
+module _ (b : List ℕ) (at : ℕ) (out : List ℕ) where
+  pub laid-room : at + length b ≤ length out → laid b at out ≡ sets out at b
+  laid-room h = pick-yes (at + length b) (length out) _ _ h
+
+  pub laid-none : length out < at + length b → laid b at out ≡ out
+  laid-none h = pick-no (at + length b) (length out) _ _ h
+
+  pub length-laid : length (laid b at out) ≡ length out
+  length-laid = picked (λ (x : List ℕ). length x ≡ length out) (leb (at + length b) (length out)) _ _ (λ h. length-sets out at b) (λ h. refl)
+
+-- a row stored byte by byte
+module _ (l : List ℕ) (at : ℕ) (row : List ℕ) (i : ℕ) where
+  pub sets-next : i < length row → sets l (at + i) (drop i row) ≡ sets (set l (at + i) (getD row i 0)) (at + (i + 1)) (drop (i + 1) row)
+  sets-next h = rw (drop-cons row i 0 h, add-one i, add-suc at i)
+
+  pub sets-done : length row ≤ i → sets l (at + i) (drop i row) ≡ l
+  sets-done h = rw (drop-of-length-le row h)

@@ -1,4 +1,5 @@
 pub mod Laws
+pub mod Decimal
 pub mod Stands
 pub mod Rfc3629
 mod Steps

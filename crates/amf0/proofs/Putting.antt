@@ -1,0 +1,280 @@
+-- The laws of the writing, step by step, that the functions' proofs cite.
+use Prim.Native.Nat.{ℕ, zero, suc, _+_, _-_, _≤_, _<_}
+use mathlib.Core.Path.{_≡_, refl, sym, ap, _∙_}
+use mathlib.Core.List.{List, [], _∷_}
+use mathlib.Core.Bool.{true, false}
+use native.Mathlib.Numerals.{sub-one}
+use native.Mathlib.Omega.{arith}
+use lib.ListN.{length, getD}
+use lib.Dec.{leb}
+use borrow.Author.Tests.{leb-true, leb-false}
+use Rattle.wire.specs.Choice.{pick}
+use Rattle.wire.specs.Number.{digits, Bytes}
+use Rattle.wire.specs.Bytes.{laid, decimal}
+use Rattle.wire.specs.Limit as limit
+use Rattle.wire.specs.declared.cursor.Cursor.{Cursor}
+use Rattle.wire.proofs.Laws.{pick-yes, pick-no, picked}
+use Rattle.image.specs.declared.record.Record.{Record}
+use Rattle.image.specs.declared.record.Record.the-variants.{Number, Boolean, Text, Object, Null, Undefined, Reference, EcmaArray, ObjectEnd, StrictArray, Date, Unsupported, Xml, TypedObject, Key, Packet, Header, Message, Lso}
+use Rattle.image.specs.declared.reading.Step.{Step}
+use Rattle.image.specs.declared.reading.Step.the-variants.{Next, Stop}
+use Rattle.image.specs.declared.taking.Taken.the-variants.{Found, Bad}
+use Rattle.image.specs.Taking.{recordAt}
+use Rattle.image.specs.Out.{Out, end, stop, _>>=_, row, pour, poured, Grown, bytes, settled, Written, written, unwritten}
+use Rattle.image.proofs.Laws.{size-some}
+use Rattle.image.proofs.Found.{found-stood}
+use Rattle.image.proofs.Pouring.{Slim, pour-then, pour-halt, pour-stop, pour-end, went, bytes-bind, settled-stop, settled-halt, settled-over, settled-full, settled-fits}
+use Rattle.amf0.specs.declared.write.Rest.the-variants.{Nothing, Pairs, Dense, Values}
+use Rattle.amf0.specs.declared.write.Shape.{Shape}
+use Rattle.amf0.specs.declared.write.Shape.the-variants as S
+use Rattle.amf0.specs.Writing.{shapeOf, indexed, valueAt, valued, paired, items, pairs, dense, rest, value, before, valueIn, whole, writeOf}
+use Rattle.amf0.specs.Code.{Ahead, room}
+
+-- ---- the places that a step goes on at
+
+pub ahead : {x : Step} {l h l′ h′ : ℕ} → Ahead x l h → l′ ≤ l → h ≤ h′ → Ahead x l′ h′
+ahead w lo hi = record { bounds = λ c n e. let b = w .bounds c n e in omega arith }
+
+pub ahead-stop : {a p l h : ℕ} → Ahead (Stop a p) l h
+ahead-stop = record { bounds = λ c n e. let z : _≡_ {A = ℕ} 0 1 = cc in absurd (omega arith) }
+
+pub ahead-next : {c : Cursor} {n l h : ℕ} → l ≤ c .at → c .at ≤ h → n ≤ room (c .at) → Ahead (Next c n) l h
+ahead-next {c} {n} lo hi ro =
+    record { bounds = λ d m e. let f : c .at ≡ d .at = ap (λ (x : Cursor). x .at) (cc) in let g : n ≡ m = cc in omega arith }
+
+pub ahead-grown : {x : Step} {next high l h : ℕ} → Grown x next high → l ≤ next → next ≤ h → high ≤ room next → Ahead x l h
+ahead-grown w lo hi ro = record { bounds = λ c n e. let b = w .bounds c n e in omega arith }
+
+-- ---- a record that is found
+
+known-bytes : (s : List ℕ) → ((i : ℕ) → getD s i 0 < 256) → Bytes s
+known-bytes [] h = tt
+known-bytes (b ∷ s) h = (h 0, known-bytes s (λ i. h (suc i)))
+
+-- it takes bytes of the image
+pub record Past (image : List ℕ) (at : ℕ) (c : Cursor) : Type 0 where
+  pub from : at + 1 ≤ c .at
+  pub fits : c .at ≤ length image
+
+pub past : (image : List ℕ) → ((i : ℕ) → getD image i 0 < 256) → (at : ℕ) {r : Record} {c : Cursor} → recordAt image at ≡ Found r c → Past image at c
+past image h at {r} {c} e =
+    let k = found-stood image (known-bytes image h) at r c e in
+    let z = size-some r in
+    record { from = omega (arith, k .next); fits = k .within }
+
+-- the row of every shape is slim
+abbrev Thin : Shape → Type 0
+Thin (S.Value w f) = Slim w
+Thin (S.Key w) = Slim w
+Thin (S.End w) = Slim w
+Thin S.Other = Unit {0}
+
+thin : (r : Record) → Thin (shapeOf r)
+thin (Number n) = omega arith
+thin (Boolean b) = omega arith
+thin (Text p n) =
+    picked Thin (leb n 65535) _ _
+    (λ h. omega arith)
+    (λ h. omega arith)
+thin Object = omega arith
+thin Null = omega arith
+thin Undefined = omega arith
+thin (Reference n) = omega arith
+thin (EcmaArray n) = omega arith
+thin ObjectEnd = omega arith
+thin (StrictArray n) = omega arith
+thin (Date n z t) = omega arith
+thin Unsupported = omega arith
+thin (Xml p n) = omega arith
+thin (TypedObject p n) = omega arith
+thin (Key p n) = omega arith
+thin (Packet h m) = tt
+thin (Header p n f) = tt
+thin (Message p n q m) = tt
+thin (Lso l p n) = tt
+
+-- the same of a shape that is known
+pub thin-shape : (r : Record) {x : Shape} → shapeOf r ≡ x → Thin x
+thin-shape r e = rw e at (thin r)
+
+-- ---- a value
+
+module _ (image text : List ℕ) (at : ℕ) where
+  pub value-deep : (left : ℕ) → left ≡ 0 → valueAt image at ≡ true → value left image text at ≡ stop 5 at
+  unfolding value
+  value-deep left z e = rw (z, e)
+
+  pub value-none : (left : ℕ) → left ≡ 0 → valueAt image at ≡ false → value left image text at ≡ stop 6 at
+  unfolding value
+  value-none left z e = rw (z, e)
+
+  pub value-bad : (left : ℕ) → (left ≡ 0 → ⊥) → recordAt image at ≡ Bad → value left image text at ≡ stop 6 at
+  unfolding value
+  value-bad zero z e = absurd (z refl)
+  value-bad (suc left) z e = rw e
+
+  pub value-shaped : (left : ℕ) {r : Record} {c : Cursor} {x : Shape} → (left ≡ 0 → ⊥) → recordAt image at ≡ Found r c → shapeOf r ≡ x
+      → value left image text at ≡ valued at x (λ w f. row text w at (rest (value (left - 1) image text) image text f (c .at)))
+  unfolding value
+  value-shaped zero z e f = absurd (z refl)
+  value-shaped (suc left) z e f = rw (e, f, sub-one (suc left))
+
+  -- ---- pairs
+
+  module _ (inner : ℕ → Out) (fuel : ℕ) where
+    pub pairs-bad : recordAt image at ≡ Bad → pairs inner image text fuel at ≡ stop 6 at
+    unfolding pairs
+    pairs-bad e = go fuel
+      where
+        go : (f : ℕ) → pairs inner image text f at ≡ stop 6 at
+        go zero = refl
+        go (suc f) = rw e
+
+    pub pairs-shaped : {r : Record} {c : Cursor} {x : Shape} → 0 < fuel → recordAt image at ≡ Found r c → shapeOf r ≡ x
+        → pairs inner image text fuel at
+        ≡ paired at x (λ w. row text w at (inner (c .at) >>= pairs inner image text (fuel - 1))) (λ w. row text w at (end (c .at)))
+    unfolding pairs
+    pairs-shaped {r} {c} {x} h e f = go fuel h
+      where
+        go : (f : ℕ) → 0 < f → pairs inner image text f at
+            ≡ paired at x (λ w. row text w at (inner (c .at) >>= pairs inner image text (f - 1))) (λ w. row text w at (end (c .at)))
+        go zero h = absurd (omega arith)
+        go (suc n) h = rw (e, f, sub-one (suc n))
+
+    -- ---- values without a key
+
+    pub dense-value : (k : ℕ) → 0 < fuel → valueAt image at ≡ true
+        → dense inner image text fuel k at ≡ indexed k (inner at >>= dense inner image text (fuel - 1) (k + 1))
+    unfolding dense
+    dense-value k h e = go fuel h
+      where
+        go : (f : ℕ) → 0 < f → dense inner image text f k at ≡ indexed k (inner at >>= dense inner image text (f - 1) (k + 1))
+        go zero h = absurd (omega arith)
+        go (suc n) h = rw (e, sub-one (suc n))
+
+    pub dense-pairs : (k : ℕ) → 0 < fuel → valueAt image at ≡ false → dense inner image text fuel k at ≡ pairs inner image text (length image) at
+    unfolding dense
+    dense-pairs k h e = go fuel h
+      where
+        go : (f : ℕ) → 0 < f → dense inner image text f k at ≡ pairs inner image text (length image) at
+        go zero h = absurd (omega arith)
+        go (suc n) h = rw e
+
+-- the key is put out, and the rest goes on behind it
+pub pour-indexed : (k : ℕ) (d : Out) (count : ℕ) (out : List ℕ) {n : ℕ} {o : List ℕ} → n ≡ count + 2 + length (decimal k)
+    → o ≡ laid (decimal k) (count + 2) (laid (digits 2 (length (decimal k))) count out) → pour (indexed k d) count out ≡ pour d n o
+unfolding pour
+pour-indexed k d count out e f = rw (e, f)
+
+-- ---- values in a row
+
+module _ (inner : ℕ → Out) (image text : List ℕ) where
+  pub items-done : (k at : ℕ) → k ≤ 0 → items inner image text k at ≡ end at
+  unfolding items
+  items-done zero at h = refl
+  items-done (suc k) at h = absurd (omega arith)
+
+  pub items-item : (k at : ℕ) → 0 < k → items inner image text k at ≡ inner at >>= items inner image text (k - 1)
+  unfolding items
+  items-item zero at h = absurd (omega arith)
+  items-item (suc k) at h = rw (sub-one (suc k))
+
+  -- ---- what follows a value's own bytes
+
+  pub rest-nothing : (at : ℕ) → rest inner image text Nothing at ≡ end at
+  unfolding rest
+  rest-nothing at = refl
+
+  pub rest-pairs : (at : ℕ) → rest inner image text Pairs at ≡ pairs inner image text (length image) at
+  unfolding rest
+  rest-pairs at = refl
+
+  pub rest-dense : (at : ℕ) → rest inner image text Dense at ≡ dense inner image text (suc (length image)) 0 at
+  unfolding rest
+  rest-dense at = refl
+
+  pub rest-values : (n at : ℕ) → rest inner image text (Values n) at ≡ items inner image text n at
+  unfolding rest
+  rest-values n at = refl
+
+-- ---- the calls
+
+module _ (image text : List ℕ) (count at : ℕ) where
+  pub in-text : limit.bytes < length text → valueIn image text count at ≡ stop 1 0
+  unfolding valueIn
+  in-text h = pick-no (length text) limit.bytes _ _ h
+
+  module _ (t : length text ≤ limit.bytes) where
+    pub in-image : limit.image < length image → valueIn image text count at ≡ stop 1 0
+    unfolding valueIn
+    in-image h = pick-yes (length text) limit.bytes _ _ t ∙ pick-no (length image) limit.image _ _ h
+
+    module _ (i : length image ≤ limit.image) where
+      pub in-place : length image < at → valueIn image text count at ≡ stop 1 0
+      unfolding valueIn
+      in-place h = pick-yes (length text) limit.bytes _ _ t ∙ pick-yes (length image) limit.image _ _ i ∙ pick-no at (length image) _ _ h
+
+      module _ (p : at ≤ length image) where
+        pub in-count : before < count → valueIn image text count at ≡ stop 1 0
+        unfolding valueIn
+        in-count h =
+            pick-yes (length text) limit.bytes _ _ t ∙ pick-yes (length image) limit.image _ _ i ∙ pick-yes at (length image) _ _ p
+            ∙ pick-no count before _ _ h
+
+        pub in-value : count ≤ before → valueIn image text count at ≡ value limit.levels image text at
+        unfolding valueIn
+        in-value h =
+            pick-yes (length text) limit.bytes _ _ t ∙ pick-yes (length image) limit.image _ _ i ∙ pick-yes at (length image) _ _ p
+            ∙ pick-yes count before _ _ h
+
+-- the check for bytes past the end of the tree puts nothing out
+check-bytes : (image : List ℕ) (n : ℕ) → bytes (pick (leb (length image) n) (end n) (stop 6 n)) ≡ []
+unfolding bytes
+check-bytes image n = picked (λ (d : Out). bytes d ≡ []) (leb (length image) n) _ _ (λ h. refl) (λ h. refl)
+
+module _ (image text : List ℕ) (room : ℕ) where
+  whole-write : settled (whole image (valueIn image text 0 0)) room ≡ writeOf image text room
+  whole-write =
+      let P : Written → Type 0 = λ (x : Written). settled (whole image (valueIn image text 0 0)) room ≡ x in
+      let none : valueIn image text 0 0 ≡ stop 1 0 → P (unwritten 1) = λ e. rw e (settled-stop 1 0 room) in
+      picked P (leb (length text) limit.bytes) _ _
+      (λ t.
+      let h = leb-true (length text) limit.bytes t in
+      picked P (leb (length image) limit.image) _ _
+      (λ i. rw (in-value image text 0 0 h (leb-true (length image) limit.image i) (omega arith) (omega arith)))
+      (λ i. none (in-image image text 0 0 h (leb-false (length image) limit.image i))))
+      (λ t. none (in-text image text 0 0 (leb-false (length text) limit.bytes t)))
+
+  -- the first of the two passes, on an output z, tells what the call comes to
+  module _ (z : List ℕ) where
+    pub write-halt : {a p : ℕ} {o : List ℕ} → poured (Stop a p) o ≡ pour (valueIn image text 0 0) 0 z → writeOf image text room ≡ unwritten a
+    write-halt e = sym whole-write ∙ settled-halt (whole image (valueIn image text 0 0)) 0 z room (sym (pour-halt (valueIn image text 0 0) _ 0 z e))
+
+    module _ {c : Cursor} {n : ℕ} {o : List ℕ} (e : poured (Next c n) o ≡ pour (valueIn image text 0 0) 0 z) where
+      checked : pour (whole image (valueIn image text 0 0)) 0 z ≡ pour (pick (leb (length image) (c .at)) (end (c .at)) (stop 6 (c .at))) n o
+      checked = pour-then (valueIn image text 0 0) _ 0 z e
+
+      pub write-past : c .at < length image → writeOf image text room ≡ unwritten 6
+      write-past h =
+          sym whole-write
+          ∙ settled-halt (whole image (valueIn image text 0 0)) 0 z room
+          (sym (checked ∙ ap (λ (d : Out). pour d n o) (pick-no (length image) (c .at) _ _ h) ∙ pour-stop n o 6 (c .at)))
+
+      module _ (h : length image ≤ c .at) where
+        through : poured (Next c n) o ≡ pour (whole image (valueIn image text 0 0)) 0 z
+        through = sym (checked ∙ ap (λ (d : Out). pour d n o) (pick-yes (length image) (c .at) _ _ h) ∙ pour-end n o (c .at))
+
+        pub write-over : limit.bytes < n → writeOf image text room ≡ unwritten 1
+        write-over g = sym whole-write ∙ settled-over (whole image (valueIn image text 0 0)) z through room g
+
+        pub write-full : n ≤ limit.bytes → room < n → writeOf image text room ≡ unwritten 4
+        write-full g f = sym whole-write ∙ settled-full (whole image (valueIn image text 0 0)) z through room g f
+
+        pub write-fits : n ≤ limit.bytes → n ≤ room → writeOf image text room ≡ written (bytes (valueIn image text 0 0))
+        write-fits g f =
+            sym whole-write
+            ∙ settled-fits (whole image (valueIn image text 0 0)) z through room g f
+            ∙ ap written (bytes-bind (valueIn image text 0 0) _ (check-bytes image))
+
+        pub write-size : n ≡ length (bytes (valueIn image text 0 0))
+        write-size = let w = went (valueIn image text 0 0) 0 z e in omega (arith, w .size)

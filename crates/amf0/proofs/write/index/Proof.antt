@@ -1,0 +1,52 @@
+-- The key's length in two bytes, and its digits behind it.
+use mathlib.Core.Path.{_≡_}
+use native.Mathlib.Omega.{arith}
+use lib.ListN.{length}
+use denote.Ref.{now}
+use Rattle.wire.specs.Number.{digits}
+use Rattle.wire.specs.Bytes.{laid, decimal}
+use borrow.Author.Needs.{needs}
+use Rattle.amf0.proofs.write.index.Statement.{statement}
+use Rattle.amf0.proofs.write.index.Tie as tie
+
+decimal-width-requires : tie.Need-decimal-width-requires
+decimal-width-requires c κs = search needs
+
+write-number-requires : tie.Need-write-number-requires
+write-number-requires c κs = search needs
+
+add-write-decimal : tie.Need-add-write-decimal
+add-write-decimal c = search needs
+
+write-decimal-requires : tie.Need-write-decimal-requires
+write-decimal-requires c κs = search needs
+
+add-result : tie.Need-add-result
+add-result c = search needs
+
+add-result-2 : tie.Need-add-result-2
+add-result-2 c = search needs
+
+same-length : tie.Need-same-length
+same-length c = search needs
+
+returns : tie.Need-returns
+returns c =
+    let a = c .before .before .before .before .before .before .before .before .before .before .args in
+    let w = c .before .before .before .before .before .before .before .decimal-width .ensures .0 in
+    let e = c .before .before .before .before .before .before .write-number .ensures .1 in
+    let f : c .before .before .before .before .before .before .write-number .last .0 ≡ laid (digits 2 (length (decimal (a .k)))) (a .count) (now (a .out)) = rw (e, w) in
+    (omega arith, rw (← f) (c .before .before .write-decimal .ensures .1))
+
+pub index-spec : {M : Type 1} → statement M
+index-spec =
+    tie.close
+    (tie.spec
+    decimal-width-requires
+    write-number-requires
+    add-write-decimal
+    write-decimal-requires
+    add-result
+    add-result-2
+    same-length
+    returns)

@@ -1,0 +1,45 @@
+-- The value is put out where what was asked for is within the limits.
+use mathlib.Core.Path.{sym}
+use native.Mathlib.Omega.{arith}
+use denote.Ref.{now}
+use Rattle.image.proofs.Pouring.{pour-stop}
+use Rattle.amf0.proofs.Putting.{ahead-stop, in-text, in-image, in-place, in-count, in-value}
+use borrow.Author.Needs.{needs}
+use Rattle.amf0.proofs.write.pour_value.Statement.{statement}
+use Rattle.amf0.proofs.write.pour_value.Tie as tie
+
+returns : tie.Need-returns
+returns c =
+    let a = c .before .before .before .before .args in
+    (rw (in-text (now (a .image)) (now (a .text)) (a .count) (a .c .at) (omega arith)) (sym (pour-stop _ _ _ _)), ahead-stop)
+
+returns-2 : tie.Need-returns-2
+returns-2 c =
+    let a = c .before .before .before .before .before .args in
+    (rw (in-image (now (a .image)) (now (a .text)) (a .count) (a .c .at) (omega arith) (omega arith)) (sym (pour-stop _ _ _ _)), ahead-stop)
+
+returns-3 : tie.Need-returns-3
+returns-3 c =
+    let a = c .before .before .before .before .before .before .before .args in
+    (rw (in-place (now (a .image)) (now (a .text)) (a .count) (a .c .at) (omega arith) (omega arith) (omega arith)) (sym (pour-stop _ _ _ _)), ahead-stop)
+
+returns-4 : tie.Need-returns-4
+returns-4 c =
+    let a = c .before .before .before .before .before .before .before .before .args in
+    (rw (in-count (now (a .image)) (now (a .text)) (a .count) (a .c .at) (omega arith) (omega arith) (omega arith) (omega arith)) (sym (pour-stop _ _ _ _)), ahead-stop)
+
+value-requires : tie.Need-value-requires
+value-requires c κs = search needs
+
+same-length : tie.Need-same-length
+same-length c = search needs
+
+returns-5 : tie.Need-returns-5
+returns-5 c =
+    let a = c .before .before .before .before .before .before .before .before .before .before .before .before .args in
+    let v = c .before .before .value .ensures in
+    (rw (in-value (now (a .image)) (now (a .text)) (a .count) (a .c .at) (omega arith) (omega arith) (omega arith) (omega arith)) (v .0), v .1)
+
+pub pour-value-spec : {M : Type 1} → statement M
+pour-value-spec =
+    tie.close (tie.spec returns returns-2 returns-3 returns-4 value-requires same-length returns-5)

@@ -1,0 +1,203 @@
+-- What the records of an image given to a writer mean, and the bytes that a tree is written as.
+use Prim.Native.Nat.{ℕ, suc, _+_, _<_, _≤_}
+use mathlib.Core.Path.{_≡_}
+use mathlib.Core.List.{List, [], _∷_, _++_, map}
+use mathlib.Core.Bool.{true}
+use lib.ListN.{length}
+use lib.Dec.{leb}
+use Rattle.wire.specs.Choice.{pick}
+use Rattle.wire.specs.Number.{digits}
+use Rattle.wire.specs.Bytes.{decimal}
+use Rattle.wire.specs.Utf8.{utf8}
+use Rattle.wire.specs.Field.{bytesAt}
+use Rattle.wire.specs.Limit as limit
+use Rattle.image.specs.declared.record.Record.{Record}
+use Rattle.image.specs.declared.record.Record.the-variants as R
+use Rattle.image.specs.Record.{bitOf}
+use Rattle.image.specs.Taking.{Fits}
+use Rattle.image.specs.Out.{Written, written, unwritten}
+use Rattle.amf0.specs.Standard.{Item, Sort, Tree, depth, follows, Encodes}
+use Rattle.amf0.specs.Standard.Item.{number, boolean, string, object, null, undefined, reference, ecma-array, strict-array, date, unsupported, xml-document, typed-object}
+use Rattle.amf0.specs.Standard.Sort.{value, properties, values}
+use Rattle.amf0.specs.Shown.{Word, look, laid}
+use Rattle.amf0.specs.Reading.{readOf}
+use Rattle.amf0.specs.Writing.{writeOf}
+
+-- ---- the bytes of a tree
+
+-- a string of up to 65,535 bytes is a short one
+abbrev pub writeString : List ℕ → List ℕ
+writeString t = pick (leb (length t) 65535) (0x02 ∷ digits 2 (length t) ++ t) (0x0C ∷ digits 4 (length t) ++ t)
+
+abbrev pub writeItem : Item → List ℕ
+writeItem (number n) = 0x00 ∷ digits 8 n
+writeItem (boolean b) = 0x01 ∷ bitOf b ∷ []
+writeItem (string t) = writeString t
+writeItem object = 0x03 ∷ []
+writeItem null = 0x05 ∷ []
+writeItem undefined = 0x06 ∷ []
+writeItem (reference n) = 0x07 ∷ digits 2 n
+writeItem (ecma-array n) = 0x08 ∷ digits 4 n
+writeItem (strict-array n) = 0x0A ∷ digits 4 n
+writeItem (date n z) = 0x0B ∷ digits 8 n ++ digits 2 z
+writeItem unsupported = 0x0D ∷ []
+writeItem (xml-document t) = 0x0F ∷ digits 4 (length t) ++ t
+writeItem (typed-object t) = 0x10 ∷ digits 2 (length t) ++ t
+
+-- what a tree is written as
+abbrev pub write : {k : Sort} → Tree k → List ℕ
+write (Tree.node i t) = writeItem i ++ write t
+write Tree.none = 0 ∷ 0 ∷ 0x09 ∷ []
+write (Tree.property k v ps) = (digits 2 (length k) ++ k) ++ (write v ++ write ps)
+write Tree.nil = []
+write (Tree.cons v vs) = write v ++ write vs
+
+-- an encoding of a tree, and none of its encodings is shorter
+pub record Shortest (t : Tree value) (x : List ℕ) : Type 0 where
+  pub encodes : Encodes value t x
+  pub least : (y : List ℕ) → Encodes value t y → length x ≤ length y
+
+-- ---- the tree of an image
+
+-- a text of n bytes at p is inside the given one, and UTF-8
+pub record Stands (s : List ℕ) (p n : ℕ) : Type 0 where
+  pub inside : p + n ≤ length s
+  pub right : utf8 (bytesAt n s p) ≡ true
+
+-- the text that a value's record names stands
+abbrev pub Named : List ℕ → Record → Type 0
+Named s (R.Number n) = Unit {0}
+Named s (R.Boolean b) = Unit {0}
+Named s (R.Text p n) = Stands s p n
+Named s R.Object = Unit {0}
+Named s R.Null = Unit {0}
+Named s R.Undefined = Unit {0}
+Named s (R.Reference n) = Unit {0}
+Named s (R.EcmaArray n) = Unit {0}
+Named s R.ObjectEnd = Unit {0}
+Named s (R.StrictArray n) = Unit {0}
+Named s (R.Date n present zone) = Unit {0}
+Named s R.Unsupported = Unit {0}
+Named s (R.Xml p n) = Stands s p n
+Named s (R.TypedObject p n) = Stands s p n
+Named s (R.Key p n) = Stands s p n
+Named s (R.Packet h m) = Unit {0}
+Named s (R.Header p n f) = Unit {0}
+Named s (R.Message p n q m) = Unit {0}
+Named s (R.Lso l p n) = Unit {0}
+
+-- records that can stand in an image, over a text
+abbrev pub Right : List ℕ → List Record → Type 0
+Right s [] = Unit {0}
+Right s (r ∷ rs) = Fits r × Named s r × Right s rs
+
+-- whether values without a key may come before pairs, and then the number of the next one
+pub data Lead : Type 0 where
+  keyed : Lead
+  keyless : (next : ℕ) → Lead
+
+-- they may in an 08
+abbrev pub lead : Item → Lead
+lead (number n) = keyed
+lead (boolean b) = keyed
+lead (string t) = keyed
+lead object = keyed
+lead null = keyed
+lead undefined = keyed
+lead (reference n) = keyed
+lead (ecma-array n) = keyless 0
+lead (strict-array n) = keyed
+lead (date n z) = keyed
+lead unsupported = keyed
+lead (xml-document t) = keyed
+lead (typed-object t) = keyed
+
+-- Records that spell a tree over a text, left to right. A value without a key is a property under its number in decimal.
+pub data Spells (s : List ℕ) : Lead → (k : Sort) → Tree k → List Record → Type 0 where
+  node : {r : Record} {i : Item} {t : Tree (follows i)} {rs : List Record} → look s r ≡ Word.item i → Spells s (lead i) (follows i) t rs
+      → Spells s keyed value (Tree.node i t) (r ∷ rs)
+  none : {r : Record} → look s r ≡ Word.close → Spells s keyed properties Tree.none (r ∷ [])
+  property : {r : Record} {k : List ℕ} {v : Tree value} {ps : Tree properties} {rs qs : List Record} → look s r ≡ Word.name k
+      → Spells s keyed value v rs → Spells s keyed properties ps qs → Spells s keyed properties (Tree.property k v ps) (r ∷ (rs ++ qs))
+  nil : Spells s keyed (values 0) Tree.nil []
+  cons : {n : ℕ} {v : Tree value} {vs : Tree (values n)} {rs qs : List Record} → Spells s keyed value v rs → Spells s keyed (values n) vs qs
+      → Spells s keyed (values (suc n)) (Tree.cons v vs) (rs ++ qs)
+  dense : {n : ℕ} {v : Tree value} {ps : Tree properties} {rs qs : List Record} → Spells s keyed value v rs → Spells s (keyless (n + 1)) properties ps qs
+      → Spells s (keyless n) properties (Tree.property (decimal n) v ps) (rs ++ qs)
+  pairs : {n : ℕ} {ps : Tree properties} {rs : List Record} → Spells s keyed properties ps rs → Spells s (keyless n) properties ps rs
+
+-- image bytes that are records which, over the text s, spell the tree t
+pub record Images (s : List ℕ) (t : Tree value) (image : List ℕ) : Type 0 where
+  pub records : List Record
+  pub right : Right s records
+  pub spells : Spells s keyed value t records
+  pub lies : image ≡ laid records
+
+-- an image that can be written, but for the bytes that this takes: its size and that of the text are within the limits, and it is that of a tree, at most
+-- as deep as the limit
+pub record Writable (image text : List ℕ) (t : Tree value) : Type 0 where
+  pub text-size : length text ≤ limit.bytes
+  pub image-size : length image ≤ limit.image
+  pub images : Images text t image
+  pub deep : depth t ≤ limit.levels
+
+-- What the public call can come to in a room, and when.
+pub data Outcome (image text : List ℕ) (room : ℕ) : Written → Type 0 where
+  text-over : limit.bytes < length text → Outcome image text room (unwritten 1)
+  image-over : limit.image < length image → Outcome image text room (unwritten 1)
+  -- the image is that of no tree
+  no-tree : length text ≤ limit.bytes → length image ≤ limit.image → ((t : Tree value) → Images text t image → ⊥) → Outcome image text room (unwritten 6)
+  -- the image is that of a tree that is too deep, or of none
+  too-deep : length text ≤ limit.bytes → length image ≤ limit.image → ((t : Tree value) → Images text t image → limit.levels < depth t)
+      → Outcome image text room (unwritten 5)
+  output-over : {t : Tree value} → Writable image text t → limit.bytes < length (write t) → Outcome image text room (unwritten 1)
+  no-room : {t : Tree value} → Writable image text t → length (write t) ≤ limit.bytes → room < length (write t) → Outcome image text room (unwritten 4)
+  put-out : {t : Tree value} → Writable image text t → length (write t) ≤ limit.bytes → length (write t) ≤ room
+      → Outcome image text room (written (write t))
+
+-- the reasons for the answer 1
+pub data Over (image text : List ℕ) : Type 0 where
+  text-over : limit.bytes < length text → Over image text
+  image-over : limit.image < length image → Over image text
+  output-over : {t : Tree value} → Writable image text t → limit.bytes < length (write t) → Over image text
+
+-- values without a key, from number k on, and then properties
+abbrev pub numbered : {n : ℕ} → ℕ → Tree (values n) → Tree properties → Tree properties
+numbered k Tree.nil ps = ps
+numbered k (Tree.cons v vs) ps = Tree.property (decimal k) v (numbered (k + 1) vs ps)
+
+-- a record with its places taken for 0
+abbrev pub unplaced : Record → Record
+unplaced (R.Number n) = R.Number n
+unplaced (R.Boolean b) = R.Boolean b
+unplaced (R.Text p n) = R.Text 0 n
+unplaced R.Object = R.Object
+unplaced R.Null = R.Null
+unplaced R.Undefined = R.Undefined
+unplaced (R.Reference n) = R.Reference n
+unplaced (R.EcmaArray n) = R.EcmaArray n
+unplaced R.ObjectEnd = R.ObjectEnd
+unplaced (R.StrictArray n) = R.StrictArray n
+unplaced (R.Date n present zone) = R.Date n present zone
+unplaced R.Unsupported = R.Unsupported
+unplaced (R.Xml p n) = R.Xml 0 n
+unplaced (R.TypedObject p n) = R.TypedObject 0 n
+unplaced (R.Key p n) = R.Key 0 n
+unplaced (R.Packet h m) = R.Packet h m
+unplaced (R.Header p n f) = R.Header 0 n f
+unplaced (R.Message p n q m) = R.Message 0 n 0 m
+unplaced (R.Lso l p n) = R.Lso l 0 n
+
+-- two images, over two texts, that are alike, record by record, but for the places of texts
+pub record Alike (s b i j : List ℕ) : Type 0 where
+  pub first : List Record
+  pub second : List Record
+  pub right : Right s first
+  pub right-too : Right b second
+  pub lies : i ≡ laid first
+  pub lies-too : j ≡ laid second
+  pub same : map unplaced first ≡ map unplaced second
+
+-- an input is read in one room, and what was read is written in another
+abbrev pub rewriteOf : List ℕ → ℕ → ℕ → Written
+rewriteOf s room out = writeOf (readOf s room .bytes) s out

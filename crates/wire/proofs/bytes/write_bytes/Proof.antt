@@ -1,0 +1,83 @@
+-- `write_bytes` meets its contract. The loop's invariant: what is to be stored at first is what is to be stored yet, the row from the place `i` on.
+use Prim.Native.Nat.{_+_, _-_, _≤_}
+use mathlib.Core.Path.{_≡_, refl, sym, _∙_}
+use native.Mathlib.Nat.{add-zero}
+use native.Mathlib.Omega.{arith}
+use lib.ListN.{length, drop, length-set}
+use lib.Seq.{sets}
+use denote.Ref.{now}
+use borrow.Author.Needs.{needs}
+use Rattle.wire.proofs.Laws.{sets-next, sets-done, laid-room, laid-none}
+use Rattle.wire.proofs.bytes.write_bytes.Statement.{statement}
+use Rattle.wire.proofs.bytes.write_bytes.Tie as tie
+
+abbrev Inv-loop : tie.InvT-loop
+Inv-loop out₀ at row i₀ out i = (i ≤ length row) × (length out ≡ length out₀) × (sets out₀ at row ≡ sets out (at + i) (drop i row))
+
+abbrev μ-loop : tie.MeasureT-loop
+μ-loop out₀ at row i₀ out i = length row - i
+
+sub-if2 : tie.Need-sub-if2 Inv-loop μ-loop
+sub-if2 c = search needs
+
+loop-holds : tie.Need-loop-holds Inv-loop μ-loop
+loop-holds c = (omega arith, refl, rw add-zero)
+
+shared-slice-read-out : tie.Need-shared-slice-read-out Inv-loop μ-loop
+shared-slice-read-out c = search needs
+
+add-out : tie.Need-add-out Inv-loop μ-loop
+add-out c = search needs
+
+slice-write-out : tie.Need-slice-write-out Inv-loop μ-loop
+slice-write-out c = search needs
+
+add-i : tie.Need-add-i Inv-loop μ-loop
+add-i c = search needs
+
+loop-less : tie.Need-loop-less Inv-loop μ-loop
+loop-less c = search needs
+
+loop-again : tie.Need-loop-again Inv-loop μ-loop
+loop-again c =
+    let l = c .before .before .loop in
+    let a = c .before .before .before .before .before .args in
+    (omega arith, simp length-set (l .inv .1), l .inv .2 ∙ sets-next (l .out) (a .at) (now (a .row)) (l .i) (omega arith))
+
+same-length : tie.Need-same-length Inv-loop μ-loop
+same-length c = search needs
+
+returns : tie.Need-returns Inv-loop μ-loop
+returns c =
+    let l = c .before .loop in
+    let a = c .before .before .before .before .args in
+    (refl, sym (laid-room (now (a .row)) (a .at) (now (a .out)) (omega arith) ∙ l .inv .2 ∙ sets-done (l .out) (a .at) (now (a .row)) (l .i) (omega arith)))
+
+returns-2 : tie.Need-returns-2 Inv-loop μ-loop
+returns-2 c =
+    let a = c .before .before .args in
+    (refl, sym (laid-none (now (a .row)) (a .at) (now (a .out)) (omega arith)))
+
+returns-3 : tie.Need-returns-3 Inv-loop μ-loop
+returns-3 c =
+    let a = c .before .args in
+    (refl, sym (laid-none (now (a .row)) (a .at) (now (a .out)) (omega arith)))
+
+pub write-bytes-spec : {M : Type 1} → statement M
+write-bytes-spec =
+    tie.close
+    (tie.spec
+    Inv-loop
+    μ-loop
+    sub-if2
+    loop-holds
+    shared-slice-read-out
+    add-out
+    slice-write-out
+    add-i
+    loop-less
+    loop-again
+    same-length
+    returns
+    returns-2
+    returns-3)
