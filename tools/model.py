@@ -212,6 +212,224 @@ def write_value(image, text, out):
     return 0, size, b"".join(w.out) + out[size:]
 
 
+HEADER = b"\x00\xbf"
+SIGNATURE = b"TCSO\0\x04\0\0\0\0"
+
+
+def fixed(r, want):
+    if r.take(len(want)) != want:
+        raise Refused(3)
+
+
+def file(r):
+    fixed(r, HEADER)
+    length = r.take(4)
+    fixed(r, SIGNATURE)
+    place, n = r.text(2)
+    for _ in range(4):
+        fixed(r, b"\0")
+    r.due(b"\x33" + length + big(place, 3) + big(n, 2))
+    while True:
+        at, image = r.at, r.image
+        try:
+            place, n = r.text(2)
+            r.due(b"\x20" + big(place, 3) + big(n, 2))
+            value(r, 1)
+            fixed(r, b"\0")
+        except Refused as why:
+            if why.args[0] not in (2, 3):
+                raise
+            r.at, r.image = at, image
+            return
+
+
+def read_file(data, room, whole):
+    r = Reading(data, room)
+    try:
+        if len(data) > LIMIT:
+            raise Refused(1)
+        file(r)
+        if whole and r.at < len(data):
+            raise Refused(3)
+    except Refused as why:
+        return why.args[0], 0, 0, bytes(room)
+    return 0, r.at, len(r.image), r.image + bytes(room - len(r.image))
+
+
+BODIES[51] = 9
+
+
+def write_file(image, text, out):
+    try:
+        if len(text) > LIMIT or len(image) > IMAGE_LIMIT:
+            raise Refused(1)
+        w = Writing(image, text)
+        if w.kind() != 0x33:
+            raise Refused(6)
+        body = w.body()
+        name = w.named(body[4:7], body[7:])
+        while w.at < len(image):
+            if w.kind() != 0x20:
+                raise Refused(6)
+            body = w.body()
+            key = w.named(body[:3], body[3:])
+            w.put(big(len(key), 2), key)
+            put_value(w, 1)
+            w.put(b"\0")
+        size = sum(map(len, w.out))
+        if size + 22 + len(name) > LIMIT:
+            raise Refused(1)
+        if size + 22 + len(name) > len(out):
+            raise Refused(4)
+    except Refused as why:
+        return why.args[0], 0, out
+    done = HEADER + big(16 + len(name) + size, 4) + SIGNATURE + big(len(name), 2) + name + b"\0\0\0\0" + b"".join(w.out)
+    return 0, len(done), done + out[len(done) :]
+
+
+def head(r, kind):
+    """An entry's fields before its value: where it begins, its texts, its flag and the length that it declares."""
+    at = r.at
+    first = r.text(2)
+    second, flag = (0, 0), 0
+    if kind == 0x31:
+        flag = int(r.number(1) != 0)
+    else:
+        second = r.text(2)
+    return at, first, second, flag, r.number(4)
+
+
+def opening(r):
+    fixed(r, b"\0")
+    version = r.number(1)
+    if version:
+        raise Refused(7 if version == 3 else 3)
+
+
+def packet(r):
+    opening(r)
+    headers = r.number(2)
+    r.due(b"\x30" + big(headers, 2) + b"\0\0")
+    entries(r, 0x31, headers)
+    messages = r.number(2)
+    r.image = r.image[:3] + big(messages, 2) + r.image[5:]
+    entries(r, 0x32, messages)
+
+
+def entries(r, kind, count):
+    for _ in range(count):
+        _, first, second, flag, _ = head(r, kind)
+        named = big(first[0], 3) + big(first[1], 2)
+        r.due(bytes([kind]) + named + (bytes([flag]) if kind == 0x31 else big(second[0], 3) + big(second[1], 2)))
+        value(r, 1)
+
+
+def read_packet(data, room, whole):
+    r = Reading(data, room)
+    try:
+        if len(data) > LIMIT:
+            raise Refused(1)
+        packet(r)
+        if whole and r.at < len(data):
+            raise Refused(3)
+    except Refused as why:
+        return why.args[0], 0, 0, bytes(room)
+    return 0, r.at, len(r.image), r.image + bytes(room - len(r.image))
+
+
+def cut(data):
+    """The entries by declared lengths, each as (kind, flag, first, second, (place, length))."""
+    if len(data) > LIMIT:
+        raise Refused(1)
+    r = Reading(data, 0)
+    opening(r)
+    found = []
+    for kind in (0x31, 0x32):
+        for _ in range(r.number(2)):
+            _, first, second, flag, length = head(r, kind)
+            place = r.at
+            r.take(length)
+            found.append((kind, flag, first, second, (place, length)))
+    if r.at < len(data):
+        raise Refused(3)
+    return found
+
+
+def cut_list(data, room):
+    try:
+        found = cut(data)
+        if len(found) > room:
+            raise Refused(4)
+    except Refused as why:
+        return why.args[0], 0, 0, [(0, 0, (0, 0), (0, 0), (0, 0))] * room
+    return 0, len(data), len(found), found + [(0, 0, (0, 0), (0, 0), (0, 0))] * (room - len(found))
+
+
+def read_entry(data, number, room):
+    try:
+        found = cut(data)
+        if number >= len(found):
+            raise Refused(8)
+    except Refused as why:
+        return why.args[0], 0, 0, bytes(room)
+    place, length = found[number][4]
+    r = Reading(data[place : place + length], room, place)
+    try:
+        value(r, 1)
+        if r.at < length:
+            raise Refused(3)
+    except Refused as why:
+        return {2: 9, 3: 9}.get(why.args[0], why.args[0]), 0, 0, bytes(room)
+    return 0, length, len(r.image), r.image + bytes(room - len(r.image))
+
+
+BODIES.update({48: 4, 49: 6, 50: 10})
+
+
+def write_packet(image, text, exact, out):
+    try:
+        if len(text) > LIMIT or len(image) > IMAGE_LIMIT:
+            raise Refused(1)
+        w = Writing(image, text)
+        if w.kind() != 0x30:
+            raise Refused(6)
+        counts = w.body()
+        w.put(b"\0\0")
+        for kind, count in ((0x31, counts[:2]), (0x32, counts[2:])):
+            w.put(count)
+            for _ in range(int.from_bytes(count, "big")):
+                put_entry(w, kind, exact)
+        if w.at < len(image):
+            raise Refused(6)
+        size = sum(map(len, w.out))
+        if size > LIMIT:
+            raise Refused(1)
+        if size > len(out):
+            raise Refused(4)
+    except Refused as why:
+        return why.args[0], 0, out
+    return 0, size, b"".join(w.out) + out[size:]
+
+
+def put_entry(w, kind, exact):
+    if w.kind() != kind:
+        raise Refused(6)
+    body = w.body()
+    first = w.named(body[:3], body[3:5])
+    w.put(big(len(first), 2), first)
+    if kind == 0x31:
+        if body[5] > 1:
+            raise Refused(6)
+        w.put(body[5:])
+    else:
+        second = w.named(body[5:8], body[8:])
+        w.put(big(len(second), 2), second)
+    rest, w.out = w.out, []
+    put_value(w, 1)
+    size = sum(map(len, w.out))
+    w.out = rest + [big(size % 2**32, 4) if exact else b"\xff\xff\xff\xff"] + w.out
+
+
 def inside(data, place, length):
     return place + length <= len(data)
 

@@ -37,7 +37,7 @@ ofItem Item.unsupported = R.Unsupported
 ofItem (Item.xml-document t) = R.Xml 0 (length t)
 ofItem (Item.typed-object t) = R.TypedObject 0 (length t)
 
-abbrev ofTree : {k : Sort} → Tree k → List Record → List Record
+abbrev pub ofTree : {k : Sort} → Tree k → List Record → List Record
 ofTree (Tree.node i t) r = ofItem i ∷ ofTree t r
 ofTree Tree.none r = R.ObjectEnd ∷ r
 ofTree (Tree.property k v ps) r = R.Key 0 (length k) ∷ ofTree v (ofTree ps r)
@@ -77,25 +77,25 @@ marks-alike Encodes.nil at d = refl
 marks-alike (Encodes.cons {x} e f) at d =
     rw (← lay-append (marks e at) (marks f (at + length x)) d, marks-alike e at (lay (marks f (at + length x)) d), marks-alike f (at + length x) d)
 
--- what is read of an encoding
-record Of (s : List ℕ) (t : Tree Sort.value) : Type 0 where
-  right : Right s (recordsOf (value limit.levels s 0))
-  same : map unplaced (recordsOf (value limit.levels s 0)) ≡ ofTree t []
+-- what is read of an encoding that stands at a place
+pub record Of (s : List ℕ) (at : ℕ) (t : Tree Sort.value) : Type 0 where
+  pub right : Right s (recordsOf (value limit.levels s at))
+  pub same : map unplaced (recordsOf (value limit.levels s at)) ≡ ofTree t []
 
-read : {t : Tree Sort.value} (s x z : List ℕ) → Encodes Sort.value t x → Here s 0 x z → depth t ≤ limit.levels → length s ≤ limit.bytes → Of s t
-read s x z e h d l =
-    let c = complete e s z 0 (0 + length x) limit.levels (length x) h refl d (omega arith) in
+pub read : {t : Tree Sort.value} (s x z : List ℕ) (at : ℕ) → Encodes Sort.value t x → Here s at x z → depth t ≤ limit.levels → length s ≤ limit.bytes → Of s at t
+read s x z at e h d l =
+    let c = complete e s z at (at + length x) limit.levels (length x) h refl d (omega arith) in
     record {
-      right = rw c (marks-right e s z 0 (end (0 + length x)) l h tt);
-      same = ap (λ g. map unplaced (recordsOf g)) c ∙ marks-alike e 0 (end (0 + length x));
+      right = rw c (marks-right e s z at (end (at + length x)) l h tt);
+      same = ap (λ g. map unplaced (recordsOf g)) c ∙ marks-alike e at (end (at + length x));
     }
 
 pub read-alike : {s x z b y w : List ℕ} {t : Tree Sort.value} → Encodes Sort.value t x → Here s 0 x z → Encodes Sort.value t y → Here b 0 y w
     → depth t ≤ limit.levels → length s ≤ limit.bytes → length b ≤ limit.bytes
     → Alike s b (bytes (value limit.levels s 0)) (bytes (value limit.levels b 0))
 read-alike {s} {x} {z} {b} {y} {w} e h f i d l k =
-    let m = read s x z e h d l in
-    let n = read b y w f i d k in
+    let m = read s x z 0 e h d l in
+    let n = read b y w 0 f i d k in
     record {
       first = recordsOf (value limit.levels s 0);
       second = recordsOf (value limit.levels b 0);

@@ -100,10 +100,10 @@ module _ (s image : List ℕ) where
   rest-part v (Item.typed-object t) q = refl
 
   module _ {at : ℕ} (r : Record) (rs : List Record) (z : List ℕ) (h : Here image at (laid (r ∷ rs)) z) where
-    first : Fits r → recordAt image at ≡ Found r (to (at + size r))
+    pub first : Fits r → recordAt image at ≡ Found r (to (at + size r))
     first f = found-here image (laid rs ++ z) at r f (cut (bytesOf r) (laid rs) h)
 
-    others : Here image (at + size r) (laid rs) z
+    pub others : Here image (at + size r) (laid rs) z
     others = rw (← size-bytes r) (skip (bytesOf r) (laid rs) h)
 
     kind-at : valueAt image at ≡ among kinds (layoutOf r .kind)

@@ -1,5 +1,5 @@
 -- The laws of the writing, step by step, that the functions' proofs cite.
-use Prim.Native.Nat.{ℕ, zero, suc, _+_, _-_, _≤_, _<_}
+use Prim.Native.Nat.{ℕ, zero, suc, _+_, _-_, _*_, _≤_, _<_}
 use mathlib.Core.Path.{_≡_, refl, sym, ap, _∙_}
 use mathlib.Core.List.{List, [], _∷_}
 use mathlib.Core.Bool.{true, false}
@@ -28,22 +28,22 @@ use Rattle.amf0.specs.declared.write.Rest.the-variants.{Nothing, Pairs, 
 use Rattle.amf0.specs.declared.write.Shape.{Shape}
 use Rattle.amf0.specs.declared.write.Shape.the-variants as S
 use Rattle.amf0.specs.Writing.{shapeOf, indexed, valueAt, valued, paired, items, pairs, dense, rest, value, before, valueIn, whole, writeOf}
-use Rattle.amf0.specs.Code.{Ahead, room}
+use Rattle.amf0.specs.Code.{Ahead, growth}
 
 -- ---- the places that a step goes on at
 
-pub ahead : {x : Step} {l h l′ h′ : ℕ} → Ahead x l h → l′ ≤ l → h ≤ h′ → Ahead x l′ h′
-ahead w lo hi = record { bounds = λ c n e. let b = w .bounds c n e in omega arith }
+pub ahead : {x : Step} {l h k l′ h′ k′ : ℕ} → Ahead x l h k → l′ ≤ l → h ≤ h′ → k + growth * l′ ≤ k′ + growth * l → Ahead x l′ h′ k′
+ahead w lo hi gr = record { bounds = λ c n e. let b = w .bounds c n e in omega arith }
 
-pub ahead-stop : {a p l h : ℕ} → Ahead (Stop a p) l h
+pub ahead-stop : {a p l h k : ℕ} → Ahead (Stop a p) l h k
 ahead-stop = record { bounds = λ c n e. let z : _≡_ {A = ℕ} 0 1 = cc in absurd (omega arith) }
 
-pub ahead-next : {c : Cursor} {n l h : ℕ} → l ≤ c .at → c .at ≤ h → n ≤ room (c .at) → Ahead (Next c n) l h
-ahead-next {c} {n} lo hi ro =
+pub ahead-next : {c : Cursor} {n l h k : ℕ} → l ≤ c .at → c .at ≤ h → n + growth * l ≤ k + growth * c .at → Ahead (Next c n) l h k
+ahead-next {c} {n} lo hi gr =
     record { bounds = λ d m e. let f : c .at ≡ d .at = ap (λ (x : Cursor). x .at) (cc) in let g : n ≡ m = cc in omega arith }
 
-pub ahead-grown : {x : Step} {next high l h : ℕ} → Grown x next high → l ≤ next → next ≤ h → high ≤ room next → Ahead x l h
-ahead-grown w lo hi ro = record { bounds = λ c n e. let b = w .bounds c n e in omega arith }
+pub ahead-grown : {x : Step} {next most l h k : ℕ} → Grown x next most → l ≤ next → next ≤ h → most + growth * l ≤ k + growth * next → Ahead x l h k
+ahead-grown w lo hi gr = record { bounds = λ c n e. let b = w .bounds c n e in omega arith }
 
 -- ---- a record that is found
 

@@ -102,11 +102,14 @@ no-words : (s : List ℕ) (rs : List Record) → words s rs ≡ [] → rs ≡ []
 no-words s [] e = refl
 no-words s (r ∷ rs) e = let z : _≡_ {A = ℕ} 0 1 = cc in absurd (omega arith)
 
+pub spelled : (s : List ℕ) (t : Tree Sort.value) (rs : List Record) → words s rs ≡ told t [] → Spells s keyed Sort.value t rs
+spelled s t rs e =
+    let p = split s t [] rs e in
+    let f : rs ≡ p .first = p .same ∙ (ap (λ x. p .first ++ x) (no-words s (p .rest) (p .tells)) ∙ append-nil (p .first)) in
+    rw f (p .spells)
+
 pub images : {s : List ℕ} {t : Tree Sort.value} {image : List ℕ} (w : Shows s t image) → Right s (w .records) → Images s t image
-images {s} {t} w h =
-    let p = split s t [] (w .records) (w .tells) in
-    let e : w .records ≡ p .first = p .same ∙ (ap (λ x. p .first ++ x) (no-words s (p .rest) (p .tells)) ∙ append-nil (p .first)) in
-    record { records = w .records; right = h; spells = rw e (p .spells); lies = w .lies }
+images {s} {t} w h = record { records = w .records; right = h; spells = spelled s t (w .records) (w .tells); lies = w .lies }
 
 -- ---- the records that a reading makes
 

@@ -29,24 +29,24 @@ use Rattle.amf0.proofs.WriteSound.{Ends, image-of}
 
 -- ---- a refusal's answer
 
-abbrev Either : ℕ → Type 0
+abbrev pub Either : ℕ → Type 0
 Either a = (a ≡ 5) ⊎ (a ≡ 6)
 
 -- a refusal is 5 or 6
-abbrev Refuses : Out → Type 0
+abbrev pub Refuses : Out → Type 0
 Refuses (end n) = Unit {0}
 Refuses (stop a p) = Either a
 Refuses (put b d) = Refuses d
 
-six : Either 6
+pub six : Either 6
 six = inr refl
 
-bind-refuses : (d : Out) (k : ℕ → Out) → Refuses d → ((n : ℕ) → Refuses (k n)) → Refuses (d >>= k)
+pub bind-refuses : (d : Out) (k : ℕ → Out) → Refuses d → ((n : ℕ) → Refuses (k n)) → Refuses (d >>= k)
 bind-refuses (end n) k h g = g n
 bind-refuses (stop a p) k h g = h
 bind-refuses (put b d) k h g = bind-refuses d k h g
 
-taken-refuses : (at : ℕ) (t : Taken) (k : Record → ℕ → Out) → ((r : Record) (q : ℕ) → Refuses (k r q)) → Refuses (taken at t k)
+pub taken-refuses : (at : ℕ) (t : Taken) (k : Record → ℕ → Out) → ((r : Record) (q : ℕ) → Refuses (k r q)) → Refuses (taken at t k)
 taken-refuses at (Found r c) k g = g r (c .at)
 taken-refuses at Bad k g = six
 
@@ -63,7 +63,7 @@ paired-refuses at (S.End w) k l g i = i w
 paired-refuses at S.Other k l g i = six
 
 module _ (s image : List ℕ) where
-  row-refuses : (w : Row) (at : ℕ) (d : Out) → Refuses d → Refuses (row s w at d)
+  pub row-refuses : (w : Row) (at : ℕ) (d : Out) → Refuses d → Refuses (row s w at d)
   unfolding row
   row-refuses w at d h = picked Refuses (namedOf s w) (put (rowBytes s w) d) (stop 6 at) (λ e. h) (λ e. six)
 
@@ -94,7 +94,7 @@ module _ (s image : List ℕ) where
     rest-refuses Dense at = dense-refuses (suc (length image)) 0 at
     rest-refuses (Values n) at = items-refuses n at
 
-  value-refuses : (left at : ℕ) → Refuses (value left image s at)
+  pub value-refuses : (left at : ℕ) → Refuses (value left image s at)
   unfolding value
   value-refuses zero at = picked Either (valueAt image at) 5 6 (λ e. inl refl) (λ e. inr refl)
   value-refuses (suc left) at =
@@ -109,12 +109,12 @@ module _ (s image : List ℕ) where
 -- ---- how a writing ends
 
 -- the writing is refused with a
-abbrev Stops : Out → ℕ → Type 0
+abbrev pub Stops : Out → ℕ → Type 0
 Stops (end n) a = ⊥
 Stops (stop b p) a = a ≡ b
 Stops (put b d) a = Stops d a
 
-ended-either : (P : Written → Type 0) (d : Out) (b : List ℕ) (room : ℕ) → Refuses d → ((n : ℕ) → Ends d n → P (sized b room))
+pub ended-either : (P : Written → Type 0) (d : Out) (b : List ℕ) (room : ℕ) → Refuses d → ((n : ℕ) → Ends d n → P (sized b room))
     → (Stops d 5 → P (unwritten 5)) → (Stops d 6 → P (unwritten 6)) → P (ended d b room)
 unfolding ended
 ended-either P (end n) b room h f g i = f n refl
@@ -123,7 +123,7 @@ ended-either P (stop a p) b room (inr e) f g i = rw e (i (sym e))
 ended-either P (put x d) b room h f g i = ended-either P d b room h f g i
 
 -- the image of a tree is refused with 5 at most
-stops-deep : {D : Type 0} {d : Out} {x : List ℕ} {n : ℕ} → Puts D d x n → (a : ℕ) → Stops d a → (a ≡ 5) × D
+pub stops-deep : {D : Type 0} {d : Out} {x : List ℕ} {n : ℕ} → Puts D d x n → (a : ℕ) → Stops d a → (a ≡ 5) × D
 stops-deep Puts.done a e = absurd e
 stops-deep (Puts.more p) a e = stops-deep p a e
 stops-deep (Puts.shut h) a e = (e, h)

@@ -43,7 +43,7 @@ Ends (end m) n = n ≡ m
 Ends (stop a p) n = ⊥
 Ends (put b d) n = Ends d n
 
-bind-ends : {P : Type 0} (d : Out) (k : ℕ → Out) (n : ℕ) → Ends (d >>= k) n → ((m : ℕ) → Ends d m → Ends (k m) n → P) → P
+pub bind-ends : {P : Type 0} (d : Out) (k : ℕ → Out) (n : ℕ) → Ends (d >>= k) n → ((m : ℕ) → Ends d m → Ends (k m) n → P) → P
 bind-ends (end m) k n h go = go m refl h
 bind-ends (stop a p) k n h go = absurd h
 bind-ends (put b d) k n h go = bind-ends d k n h go
@@ -51,7 +51,7 @@ bind-ends (put b d) k n h go = bind-ends d k n h go
 -- ---- what a record is put out as is what it says
 
 module _ (s : List ℕ) where
-  named-stands : (m : Field) (w p n : ℕ) → namedOf s (texted m w p n) ≡ true → Stands s p n
+  pub named-stands : (m : Field) (w p n : ℕ) → namedOf s (texted m w p n) ≡ true → Stands s p n
   named-stands m w p n = go (leb (p + n) (length s)) refl
     where
       go : (t : Bool) → leb (p + n) (length s) ≡ t → pick t (utf8 (pick t (bytesAt n s p) [])) false ≡ true → Stands s p n
@@ -111,30 +111,30 @@ module _ (s : List ℕ) where
 
 module _ (s image : List ℕ) (bs : Bytes image) where
   -- from the place `at` of the image to n stand the records of a tree of at most `left` levels
-  record Stood (l : Lead) (k : Sort) (left at n : ℕ) : Type 0 where
-    tree : Tree k
-    records : List Record
-    rest : List ℕ
-    right : Right s records
-    spells : Spells s l k tree records
-    here : Here image at (laid records) rest
-    next : n ≡ at + length (laid records)
-    deep : depth tree ≤ left
+  pub record Stood (l : Lead) (k : Sort) (left at n : ℕ) : Type 0 where
+    pub tree : Tree k
+    pub records : List Record
+    pub rest : List ℕ
+    pub right : Right s records
+    pub spells : Spells s l k tree records
+    pub here : Here image at (laid records) rest
+    pub next : n ≡ at + length (laid records)
+    pub deep : depth tree ≤ left
 
   -- a row that is put out names a text that stands
-  row-ends : (w : Row) (at n : ℕ) (d : Out) → Ends (row s w at d) n → (namedOf s w ≡ true) × Ends d n
+  pub row-ends : (w : Row) (at n : ℕ) (d : Out) → Ends (row s w at d) n → (namedOf s w ≡ true) × Ends d n
   unfolding row
   row-ends w at n d =
       picked (λ (x : Out). Ends x n → (namedOf s w ≡ true) × Ends d n) (namedOf s w) (put (rowBytes s w) d) (stop 6 at) (λ h e. (h, e)) (λ h e. absurd e)
 
   -- a record that is taken stood there
-  record Took (at : ℕ) (r : Record) (q : ℕ) : Type 0 where
-    fits : Fits r
-    rest : List ℕ
-    here : Here image at (bytesOf r) rest
-    next : q ≡ at + length (bytesOf r)
+  pub record Took (at : ℕ) (r : Record) (q : ℕ) : Type 0 where
+    pub fits : Fits r
+    pub rest : List ℕ
+    pub here : Here image at (bytesOf r) rest
+    pub next : q ≡ at + length (bytesOf r)
 
-  took : (at n : ℕ) {P : Type 0} (k : Record → ℕ → Out) → Ends (taken at (recordAt image at) k) n
+  pub took : (at n : ℕ) {P : Type 0} (k : Record → ℕ → Out) → Ends (taken at (recordAt image at) k) n
       → ((r : Record) (q : ℕ) → Took at r q → Ends (k r q) n → P) → P
   took at n {P} k e go = cases (recordAt image at) refl e
     where
@@ -152,7 +152,7 @@ module _ (s image : List ℕ) (bs : Bytes image) where
       cases Bad h e = absurd e
 
   -- one record more
-  before : {at q n : ℕ} {r : Record} {z : List ℕ} (rs : List Record) → Took at r q → Here image q (laid rs) z → n ≡ q + length (laid rs)
+  pub before : {at q n : ℕ} {r : Record} {z : List ℕ} (rs : List Record) → Took at r q → Here image q (laid rs) z → n ≡ q + length (laid rs)
       → Here image at (laid (r ∷ rs)) z × (n ≡ at + length (laid (r ∷ rs)))
   before {r} rs t h e = (join (t .here) refl (rw (t .next) at h), omega (arith, t .next, length-append (bytesOf r) (laid rs)))
 
@@ -313,7 +313,7 @@ module _ (s image : List ℕ) (bs : Bytes image) where
               deep = omega arith;
             }
 
-  sound : (left at n : ℕ) → Ends (value left image s at) n → Stood keyed Sort.value left at n
+  pub sound : (left at n : ℕ) → Ends (value left image s at) n → Stood keyed Sort.value left at n
   unfolding value Looks
   sound zero at n e = absurd e
   sound (suc left) at n e =

@@ -16,14 +16,18 @@ pub record FieldsWithin (x : Fields) (low high : ℕ) : Type 0 where
 
 -- ---- writing
 
--- the most that a byte of an image can be put out as, with the key that a value without one gets
+-- the most bytes that a row comes to: three numbers, and a text
+abbrev pub longest : ℕ
+longest = 1048600
+
+-- the most that a byte of an image is put out as, with what a layer puts around its values: four rows
 abbrev pub growth : ℕ
-growth = 1048640
+growth = 4194400
 
 -- how many bytes a writing can have put out at a place of the image
 abbrev pub room : ℕ → ℕ
 room at = before + growth * at
 
--- a step that goes on does so at a place from `low` to `high`, with no more put out than there can be
-pub record Ahead (x : Step) (low high : ℕ) : Type 0 where
-  pub bounds : (c : Cursor) (n : ℕ) → x ≡ Next c n → (low ≤ c .at) × (c .at ≤ high) × (n ≤ room (c .at))
+-- a step that goes on does so at a place from `low` to `high`, with no more put out than `count` and what the image's bytes from `low` on can be
+pub record Ahead (x : Step) (low high count : ℕ) : Type 0 where
+  pub bounds : (c : Cursor) (n : ℕ) → x ≡ Next c n → (low ≤ c .at) × (c .at ≤ high) × (n + growth * low ≤ count + growth * c .at)

@@ -28,7 +28,7 @@ ghost use Rattle.image.specs.Record.{_bytes_, none as noField, bitOf};
 ghost use Rattle.image.specs.Out.{pour, poured, onto};
 ghost use Rattle.amf0.specs.declared.write.Shape.the-variants.{Value};
 ghost use Rattle.amf0.specs.Writing.{shapeOf, plain as plainOf, texted as textedOf, among, kinds, valueAt, value, pairs, dense, items, valueIn, writeOf};
-ghost use Rattle.amf0.specs.Code.{Ahead, room};
+ghost use Rattle.amf0.specs.Code.{Ahead, longest, room};
 
 // What follows a value's own bytes: nothing, pairs up to the end, values without a key before such pairs, or so many values.
 pub enum Rest {
@@ -190,7 +190,7 @@ fn index(out: &mut [u8], count: usize, k: u32) -> usize
 fn value(out: &mut [u8], image: &[u8], text: &[u8], c: Cursor, count: usize, left: usize) -> Step
     requires { ⌜ (length (now text) ≤ most-bytes) × (length (now image) ≤ most-image) × (c .at ≤ length (now image)) × (count ≤ room (c .at) + 16) ⌝ }
     ensures { λ r. ⌜ poured r (now (out .exit)) ≡ pour (value left (now (image .entry)) (now (text .entry)) (c .at)) count (now (out .entry)) ⌝ }
-    ensures { λ r. ⌜ Ahead r (c .at + 1) (length (now (image .entry))) ⌝ }
+    ensures { λ r. ⌜ Ahead r (c .at + 1) (length (now (image .entry))) (count + longest) ⌝ }
 {
     let at = c.at;
     if left == 0 {
@@ -225,7 +225,7 @@ fn value(out: &mut [u8], image: &[u8], text: &[u8], c: Cursor, count: usize, lef
 fn pairs(out: &mut [u8], image: &[u8], text: &[u8], start: Cursor, done: usize, left: usize) -> Step
     requires { ⌜ (length (now text) ≤ most-bytes) × (length (now image) ≤ most-image) × (start .at ≤ length (now image)) × (done ≤ room (start .at)) ⌝ }
     ensures { λ r. ⌜ poured r (now (out .exit)) ≡ pour (pairs (value left (now (image .entry)) (now (text .entry))) (now (image .entry)) (now (text .entry)) (length (now (image .entry))) (start .at)) done (now (out .entry)) ⌝ }
-    ensures { λ r. ⌜ Ahead r (start .at) (length (now (image .entry))) ⌝ }
+    ensures { λ r. ⌜ Ahead r (start .at) (length (now (image .entry))) done ⌝ }
 {
     let mut c = start;
     let mut count = done;
@@ -270,7 +270,7 @@ fn pairs(out: &mut [u8], image: &[u8], text: &[u8], start: Cursor, done: usize, 
 fn dense(out: &mut [u8], image: &[u8], text: &[u8], start: Cursor, done: usize, left: usize) -> Step
     requires { ⌜ (length (now text) ≤ most-bytes) × (length (now image) ≤ most-image) × (start .at ≤ length (now image)) × (done ≤ room (start .at)) ⌝ }
     ensures { λ r. ⌜ poured r (now (out .exit)) ≡ pour (dense (value left (now (image .entry)) (now (text .entry))) (now (image .entry)) (now (text .entry)) (suc (length (now (image .entry)))) 0 (start .at)) done (now (out .entry)) ⌝ }
-    ensures { λ r. ⌜ Ahead r (start .at) (length (now (image .entry))) ⌝ }
+    ensures { λ r. ⌜ Ahead r (start .at) (length (now (image .entry))) done ⌝ }
 {
     let mut c = start;
     let mut count = done;
@@ -303,7 +303,7 @@ fn items(
 ) -> Step
     requires { ⌜ (length (now text) ≤ most-bytes) × (length (now image) ≤ most-image) × (start .at ≤ length (now image)) × (done ≤ room (start .at)) ⌝ }
     ensures { λ r. ⌜ poured r (now (out .exit)) ≡ pour (items (value left (now (image .entry)) (now (text .entry))) (now (image .entry)) (now (text .entry)) n (start .at)) done (now (out .entry)) ⌝ }
-    ensures { λ r. ⌜ Ahead r (start .at) (length (now (image .entry))) ⌝ }
+    ensures { λ r. ⌜ Ahead r (start .at) (length (now (image .entry))) done ⌝ }
 {
     let mut c = start;
     let mut count = done;
@@ -326,7 +326,7 @@ fn items(
 // The value at a cursor of an image, put out behind so many bytes: for the layers above. On an output without room it counts alone.
 pub fn pour_value(out: &mut [u8], image: &[u8], text: &[u8], c: Cursor, count: usize) -> Step
     ensures { λ r. ⌜ poured r (now (out .exit)) ≡ pour (valueIn (now (image .entry)) (now (text .entry)) count (c .at)) count (now (out .entry)) ⌝ }
-    ensures { λ r. ⌜ Ahead r (c .at + 1) (length (now (image .entry))) ⌝ }
+    ensures { λ r. ⌜ Ahead r (c .at + 1) (length (now (image .entry))) (count + longest) ⌝ }
 {
     if limit::BYTES < text.len() {
         return Step::Stop(OVER_LIMIT, 0);
@@ -357,7 +357,8 @@ pub fn write_value(image: &[u8], text: &[u8], out: &mut [u8]) -> Writing
     ensures { λ r. ⌜ r ≡ writeOf (now (image .entry)) (now (text .entry)) (length (now (out .entry))) .writing ⌝ }
     ensures { λ r. ⌜ now (out .exit) ≡ onto (writeOf (now (image .entry)) (now (text .entry)) (length (now (out .entry))) .bytes) (now (out .entry)) ⌝ }
 {
-    match pour_value(&mut out[..0], image, text, Cursor { at: 0 }, 0) {
+    let empty: usize = 0;
+    match pour_value(&mut out[..empty], image, text, Cursor { at: 0 }, 0) {
         Step::Stop(a, _) => refused(a),
         Step::Next(c, n) => {
             if c.at < image.len() {

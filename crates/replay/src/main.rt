@@ -6,6 +6,12 @@
 //
 //     01  parse_single_element(first row, an image of a bytes)     answer used made image
 //     02  write_value(image, text, an output of a bytes)           answer count output
+//     03  lso parse(first row, an image of a bytes)                answer used made image
+//     04  lso parse_incomplete, likewise
+//     05  lso write_to_bytes(image, text, an output of a bytes)    answer count output
+//     06  packet parse(first row, an image of a bytes)             answer used made image
+//     07  packet parse_incomplete, likewise
+//     0A  parse_entry(first row, number b, an image of a bytes)    answer used made image
 //     0B  inside and part(first row, place a, length b)            0 or 1, the part
 mod output;
 
@@ -128,6 +134,36 @@ fn write_value(image: &[u8], text: &[u8], out: &mut [u8]) {
     tell_writing(amf0::write::write_value(image, text, out), out);
 }
 
+fn read_file(input: &[u8], image: &mut [u8]) {
+    fill(image, UNREAD);
+    tell_reading(lso::read::parse(input, image), image);
+}
+
+fn read_part_of_file(input: &[u8], image: &mut [u8]) {
+    fill(image, UNREAD);
+    tell_reading(lso::read::parse_incomplete(input, image), image);
+}
+
+fn write_file(image: &[u8], text: &[u8], out: &mut [u8]) {
+    fill(out, UNWRITTEN);
+    tell_writing(lso::write::write_to_bytes(image, text, out), out);
+}
+
+fn read_packet(input: &[u8], image: &mut [u8]) {
+    fill(image, UNREAD);
+    tell_reading(packet::read::parse(input, image), image);
+}
+
+fn read_part_of_packet(input: &[u8], image: &mut [u8]) {
+    fill(image, UNREAD);
+    tell_reading(packet::read::parse_incomplete(input, image), image);
+}
+
+fn read_entry(input: &[u8], number: usize, image: &mut [u8]) {
+    fill(image, UNREAD);
+    tell_reading(packet::entry::parse_entry(input, number, image), image);
+}
+
 fn name_text(input: &[u8], place: usize, length: usize) {
     if wire::text::inside(input, place, length) {
         word(b"1 ");
@@ -139,10 +175,16 @@ fn name_text(input: &[u8], place: usize, length: usize) {
 }
 
 // Makes a call on a buffer of the asked length.
-fn call(operation: u8, first: &[u8], second: &[u8], buffer: &mut [u8]) {
+fn call(operation: u8, b: usize, first: &[u8], second: &[u8], buffer: &mut [u8]) {
     match operation {
         0x01 => read_value(first, buffer),
         0x02 => write_value(first, second, buffer),
+        0x03 => read_file(first, buffer),
+        0x04 => read_part_of_file(first, buffer),
+        0x05 => write_file(first, second, buffer),
+        0x06 => read_packet(first, buffer),
+        0x07 => read_part_of_packet(first, buffer),
+        0x0A => read_entry(first, b, buffer),
         _ => word(b"no such operation\n"),
     }
 }
@@ -152,7 +194,7 @@ fn answer(operation: u8, a: usize, b: usize, first: &[u8], second: &[u8], room: 
     if operation == 0x0B {
         name_text(first, a, b);
     } else if a <= room.len() {
-        call(operation, first, second, &mut room[..a]);
+        call(operation, b, first, second, &mut room[..a]);
     } else {
         word(b"over\n");
     }

@@ -10,7 +10,7 @@ use Rattle.image.specs.Out.{Out, pour, end, row, _>>=_}
 use Rattle.image.proofs.Pouring.{pour-then, pour-halt, pour-stop, pour-end, row-in, row-then, row-halt}
 use Rattle.amf0.specs.declared.write.Rest.{Rest}
 use Rattle.amf0.specs.declared.write.Shape.{Shape}
-use Rattle.amf0.specs.Code.{room}
+use Rattle.amf0.specs.Code.{longest, growth}
 use Rattle.amf0.specs.Writing.{value as valueOf, pairs as pairsOf, dense as denseOf, items as itemsOf, rest as restOf, paired, valued}
 use Rattle.amf0.proofs.Putting.{ahead, ahead-stop, ahead-next, ahead-grown, past, thin-shape, value-deep, value-none, value-bad, value-shaped, pairs-bad, pairs-shaped, dense-value, dense-pairs, pour-indexed, items-done, items-item, rest-nothing, rest-pairs, rest-dense, rest-values}
 use borrow.Fn.Kinds.{In}
@@ -87,7 +87,7 @@ abbrev dense-Inv-loop : dense-lts.InvT-loop
 dense-Inv-loop out₀ image text done left c₀ count₀ k₀ out c count k =
     (c₀ .at ≤ c .at) ×
     (c .at ≤ length image) ×
-    (count ≤ room (c .at)) ×
+    (count + growth * c₀ .at ≤ done + growth * c .at) ×
     (length out ≡ length out₀) ×
     (k ≤ c .at) ×
     (f : ℕ) ×
@@ -101,7 +101,7 @@ dense-μ-loop out₀ image text done left c₀ count₀ k₀ out c count k = len
 dense-loop-holds : (t : ℕ) → dense-lts.Need-loop-holds (dense-claims t) (dense-at t) dense.Post dense-Inv-loop dense-μ-loop
 dense-loop-holds t c =
     let p = c .before .before .before .pre .1 in
-    (le-refl _, p .2, p .3, refl, omega arith, suc (length (now (c .before .before .before .args .image))), omega arith, refl)
+    (le-refl _, p .2, le-refl _, refl, omega arith, suc (length (now (c .before .before .before .args .image))), omega arith, refl)
 
 dense-value-at-requires : (t : ℕ) → dense-lts.Need-value-at-requires (dense-claims t) (dense-at t) dense.Post dense-Inv-loop dense-μ-loop
 dense-value-at-requires t c κs = search needs
@@ -131,7 +131,9 @@ dense-keyed t c =
 dense-value-requires : (t : ℕ) → dense-lts.Need-value-requires (dense-claims t) (dense-at t) dense.Post dense-Inv-loop dense-μ-loop
 dense-value-requires t c κs =
     let p = c .before .before .before .before .before .before .before .before .before .before .before .pre in
-    (omega (arith, p .0), (p .1 .0, p .1 .1, c .before .before .before .before .before .before .before .loop .inv .1, omega arith))
+    let m = p .1 .3 in
+    let j = c .before .before .before .before .before .before .before .loop .inv in
+    (omega (arith, p .0), (p .1 .0, p .1 .1, j .1, omega arith))
 
 dense-enum-known-a : (t : ℕ) → dense-lts.Need-enum-known-a (dense-claims t) (dense-at t) dense.Post dense-Inv-loop dense-μ-loop
 dense-enum-known-a t c = search needs
@@ -170,10 +172,11 @@ dense-loop-again t c =
     let inner = valueOf (a .left) i x in
     let v = c .before .g .given .0 in
     let b = c .before .before .before .before .before .value .ensures .1 .bounds (v .0) (v .1 .0) (c .before .g .given .1) in
-    let j = l .inv in (
+    let j = l .inv in
+    let n = c .before .before .before .before .before .before .before .before .before .index .ensures .0 .1 in (
       omega arith,
       b .1,
-      b .2,
+      omega arith,
       c .before .before .before .before .before .value .kept .0 ∙ c .before .before .before .before .before .before .before .before .before .index .kept .0 ∙ j .3,
       omega arith,
       j .5 - 1,
@@ -184,7 +187,9 @@ dense-loop-again t c =
 dense-pairs-requires : (t : ℕ) → dense-lts.Need-pairs-requires (dense-claims t) (dense-at t) dense.Post dense-Inv-loop dense-μ-loop
 dense-pairs-requires t c κs =
     let p = c .before .before .before .before .before .before .before .pre in
-    (omega (arith, p .0), (p .1 .0, p .1 .1, c .before .before .before .loop .inv .1, c .before .before .before .loop .inv .2))
+    let j = c .before .before .before .loop .inv in
+    let m = p .1 .3 in
+    (omega (arith, p .0), (p .1 .0, p .1 .1, j .1, omega arith))
 
 dense-same-length-2 : (t : ℕ) → dense-lts.Need-same-length-2 (dense-claims t) (dense-at t) dense.Post dense-Inv-loop dense-μ-loop
 dense-same-length-2 t c = search needs
@@ -198,14 +203,14 @@ dense-returns-2 t c =
     let inner = valueOf (a .left) i x in
     let e = sym (c .before .before .before .before .before .value-at .ensures) ∙ c .before .before .before .before .if1 .left in (
       rw (l .inv .7, dense-pairs i x (l .c .at) inner (l .inv .5) (l .k) (omega arith) e) (c .before .before .pairs .ensures .0),
-      ahead (c .before .before .pairs .ensures .1) (l .inv .0) (le-refl _),
+      ahead (c .before .before .pairs .ensures .1) (l .inv .0) (le-refl _) (l .inv .2),
     )
 
 abbrev items-Inv-loop : items-lts.InvT-loop
 items-Inv-loop out₀ image text done left n c₀ count₀ k₀ out c count k =
     (c₀ .at ≤ c .at) ×
     (c .at ≤ length image) ×
-    (count ≤ room (c .at)) ×
+    (count + growth * c₀ .at ≤ done + growth * c .at) ×
     (length out ≡ length out₀) ×
     (pour (itemsOf (valueOf left image text) image text n (c₀ .at)) done out₀
     ≡ pour (itemsOf (valueOf left image text) image text k (c .at)) count out)
@@ -216,12 +221,14 @@ items-μ-loop out₀ image text done left n c₀ count₀ k₀ out c count k = k
 items-loop-holds : (t : ℕ) → items-lts.Need-loop-holds (items-claims t) (items-at t) items.Post items-Inv-loop items-μ-loop
 items-loop-holds t c =
     let p = c .before .before .before .pre .1 in
-    (le-refl _, p .2, p .3, refl, refl)
+    (le-refl _, p .2, le-refl _, refl, refl)
 
 items-value-requires : (t : ℕ) → items-lts.Need-value-requires (items-claims t) (items-at t) items.Post items-Inv-loop items-μ-loop
 items-value-requires t c κs =
     let p = c .before .before .before .before .before .before .pre in
-    (omega (arith, p .0), (p .1 .0, p .1 .1, c .before .before .loop .inv .1, omega arith))
+    let m = p .1 .3 in
+    let j = c .before .before .loop .inv in
+    (omega (arith, p .0), (p .1 .0, p .1 .1, j .1, omega arith))
 
 items-enum-known-a : (t : ℕ) → items-lts.Need-enum-known-a (items-claims t) (items-at t) items.Post items-Inv-loop items-μ-loop
 items-enum-known-a t c = search needs
@@ -258,11 +265,12 @@ items-loop-again t c =
     let l = c .before .before .before .before .before .before .before .before .loop in
     let inner = valueOf (a .left) i x in
     let v = c .before .g .given .0 in
-    let b = c .before .before .before .before .before .value .ensures .1 .bounds (v .0) (v .1 .0) (c .before .g .given .1) in (
+    let b = c .before .before .before .before .before .value .ensures .1 .bounds (v .0) (v .1 .0) (c .before .g .given .1) in
+    let j = l .inv in (
       omega arith,
       b .1,
-      b .2,
-      c .before .before .before .before .before .value .kept .0 ∙ l .inv .3,
+      omega arith,
+      c .before .before .before .before .before .value .kept .0 ∙ j .3,
       rw (l .inv .4, items-item inner i x (l .k) (l .c .at) (c .before .before .before .before .before .before .before .loop-test .taken))
           (pour-then (inner (l .c .at)) (itemsOf inner i x (l .k - 1)) _ _ (rw (c .before .g .given .1) at (c .before .before .before .before .before .value .ensures .0))),
     )
@@ -285,7 +293,7 @@ abbrev pairs-Inv-loop : pairs-lts.InvT-loop
 pairs-Inv-loop out₀ image text done left c₀ count₀ out c count =
     (c₀ .at ≤ c .at) ×
     (c .at ≤ length image) ×
-    (count ≤ room (c .at)) ×
+    (count + growth * c₀ .at ≤ done + growth * c .at) ×
     (length out ≡ length out₀) ×
     (f : ℕ) ×
     (length image ≤ f + c .at) ×
@@ -298,7 +306,7 @@ pairs-μ-loop out₀ image text done left c₀ count₀ out c count = length ima
 pairs-loop-holds : (t : ℕ) → pairs-lts.Need-loop-holds (pairs-claims t) (pairs-at t) pairs.Post pairs-Inv-loop pairs-μ-loop
 pairs-loop-holds t c =
     let p = c .before .before .before .pre .1 in
-    (le-refl _, p .2, p .3, refl, length (now (c .before .before .before .args .image)), omega arith, refl)
+    (le-refl _, p .2, le-refl _, refl, length (now (c .before .before .before .args .image)), omega arith, refl)
 
 pairs-record-at-requires : (t : ℕ) → pairs-lts.Need-record-at-requires (pairs-claims t) (pairs-at t) pairs.Post pairs-Inv-loop pairs-μ-loop
 pairs-record-at-requires t c κs = search needs
@@ -442,7 +450,7 @@ record Keyed (t : ℕ) (c : pairs-lts.After-known-told5 (pairs-claims t) (pairs-
   enough : length (now (c .before .before .before .before .before .before .before .before .before .before .before .before .before .before .before .before .before .before .before .args .image)) ≤ fuel + c .before .before .before .before .before .before .before .before .before .before .before .before .before .before .before .loop .c .at + 1
   from : c .before .before .before .before .before .before .before .before .before .before .before .before .before .before .before .loop .c .at + 1 ≤ c .before .e .given .0 .0 .at
   fits : c .before .e .given .0 .0 .at ≤ length (now (c .before .before .before .before .before .before .before .before .before .before .before .before .before .before .before .before .before .before .before .args .image))
-  most : c .before .e .given .0 .1 .0 ≤ room (c .before .e .given .0 .0 .at)
+  most : let a = c .before .before .before .before .before .before .before .before .before .before .before .before .before .before .before .before .before .before .before .args in c .before .e .given .0 .1 .0 + growth * a .start .at ≤ a .done + growth * c .before .e .given .0 .0 .at
   long : length (c .before .before .before .before .before .emit2 .last .0) ≡ length (now (c .before .before .before .before .before .before .before .before .before .before .before .before .before .before .before .before .before .before .before .args .out))
   same : let a = c .before .before .before .before .before .before .before .before .before .before .before .before .before .before .before .before .before .before .before .args in
       let i = now (a .image) in
@@ -485,6 +493,7 @@ pairs-value-requires : (t : ℕ) → pairs-lts.Need-value-requires (pairs-claims
 pairs-value-requires t c κs =
     let k = pairs-keyed t (c .before) in
     let p = c .before .before .before .before .before .before .before .before .before .before .before .before .before .before .before .before .before .before .before .before .pre in
+    let m = p .1 .3 in
     (omega (arith, p .0), (p .1 .0, p .1 .1, k .fits, omega arith))
 
 pairs-enum-known-a-2 : (t : ℕ) → pairs-lts.Need-enum-known-a-2 (pairs-claims t) (pairs-at t) pairs.Post pairs-Inv-loop pairs-μ-loop
@@ -529,7 +538,7 @@ pairs-loop-again t c =
     let j = c .before .before .before .before .before .before .before .before .before .before .before .before .before .before .before .before .before .before .before .before .before .before .loop .inv in (
       omega arith,
       b .1,
-      b .2,
+      omega arith,
       c .before .before .before .before .before .value .kept .0 ∙ k .long,
       k .fuel,
       omega arith,
@@ -611,7 +620,7 @@ value-enum-known-e t c = search needs
 record Bodied (t : ℕ) (c : value-lts.After-known-told4 (value-claims t) (value-at t) value.Post) : Type 0 where
   from : c .before .before .before .before .before .before .before .before .before .before .before .before .before .before .before .before .before .before .before .args .c .at + 1 ≤ c .before .e .given .0 .0 .at
   fits : c .before .e .given .0 .0 .at ≤ length (now (c .before .before .before .before .before .before .before .before .before .before .before .before .before .before .before .before .before .before .before .args .image))
-  most : c .before .e .given .0 .1 .0 ≤ room (c .before .e .given .0 .0 .at)
+  most : c .before .e .given .0 .1 .0 ≤ c .before .before .before .before .before .before .before .before .before .before .before .before .before .before .before .before .before .before .before .args .count + longest
   same : let a = c .before .before .before .before .before .before .before .before .before .before .before .before .before .before .before .before .before .before .before .args in
       let i = now (a .image) in
       let x = now (a .text) in
@@ -652,7 +661,8 @@ value-pairs-requires : (t : ℕ) → value-lts.Need-pairs-requires (value-claims
 value-pairs-requires t c κs =
     let k = value-bodied t (c .before .before .before) in
     let p = c .before .before .before .before .before .before .before .before .before .before .before .before .before .before .before .before .before .before .before .before .before .before .pre in
-    (omega (arith, p .0, c .before .before .before .before .before .before .before .before .before .before .before .before .before .before .before .before .before .before .if1 .left), (p .1 .0, p .1 .1, k .fits, k .most))
+    let m = p .1 .3 in
+    (omega (arith, p .0, c .before .before .before .before .before .before .before .before .before .before .before .before .before .before .before .before .before .before .if1 .left), (p .1 .0, p .1 .1, k .fits, omega arith))
 
 value-enum-told-7 : (t : ℕ) → value-lts.Need-enum-told-7 (value-claims t) (value-at t) value.Post
 value-enum-told-7 t c = search needs
@@ -664,7 +674,8 @@ value-dense-requires : (t : ℕ) → value-lts.Need-dense-requires (value-claims
 value-dense-requires t c κs =
     let k = value-bodied t (c .before .before .before) in
     let p = c .before .before .before .before .before .before .before .before .before .before .before .before .before .before .before .before .before .before .before .before .before .before .pre in
-    (omega (arith, p .0, c .before .before .before .before .before .before .before .before .before .before .before .before .before .before .before .before .before .before .if1 .left), (p .1 .0, p .1 .1, k .fits, k .most))
+    let m = p .1 .3 in
+    (omega (arith, p .0, c .before .before .before .before .before .before .before .before .before .before .before .before .before .before .before .before .before .before .if1 .left), (p .1 .0, p .1 .1, k .fits, omega arith))
 
 value-enum-known-f : (t : ℕ) → value-lts.Need-enum-known-f (value-claims t) (value-at t) value.Post
 value-enum-known-f t c = search needs
@@ -676,7 +687,8 @@ value-items-requires : (t : ℕ) → value-lts.Need-items-requires (value-claims
 value-items-requires t c κs =
     let k = value-bodied t (c .before .before .before .before) in
     let p = c .before .before .before .before .before .before .before .before .before .before .before .before .before .before .before .before .before .before .before .before .before .before .before .pre in
-    (omega (arith, p .0, c .before .before .before .before .before .before .before .before .before .before .before .before .before .before .before .before .before .before .before .if1 .left), (p .1 .0, p .1 .1, k .fits, k .most))
+    let m = p .1 .3 in
+    (omega (arith, p .0, c .before .before .before .before .before .before .before .before .before .before .before .before .before .before .before .before .before .before .before .if1 .left), (p .1 .0, p .1 .1, k .fits, omega arith))
 
 value-returns-3 : (t : ℕ) → value-lts.Need-returns-3 (value-claims t) (value-at t) value.Post
 value-returns-3 t c =
@@ -729,7 +741,7 @@ value-returns-8 t c =
     let inner = valueOf (a .left - 1) i x in
     let k = value-bodied t (c .before .before) in
     let v = c .before .before .before .e .given .0 in
-    (rw (k .same _ (c .enum-told5 .given .1), rest-nothing inner i x (v .0 .at)) (sym (pour-end _ _ _)), ahead-next (k .from) (k .fits) (k .most))
+    (rw (k .same _ (c .enum-told5 .given .1), rest-nothing inner i x (v .0 .at)) (sym (pour-end _ _ _)), ahead-next (k .from) (k .fits) (omega arith))
 
 value-same-length-3 : (t : ℕ) → value-lts.Need-same-length-3 (value-claims t) (value-at t) value.Post
 value-same-length-3 t c = search needs
@@ -743,7 +755,7 @@ value-returns-9 t c =
     let k = value-bodied t (c .before .before .before .before .before .before) in
     let v = c .before .before .before .before .before .before .before .e .given .0 in (
       rw (k .same _ (c .before .before .before .before .enum-told6 .given .1), rest-pairs inner i x (v .0 .at)) (c .before .before .pairs .ensures .0),
-      ahead (c .before .before .pairs .ensures .1) (k .from) (le-refl _),
+      ahead (c .before .before .pairs .ensures .1) (k .from) (le-refl _) (omega arith),
     )
 
 value-same-length-4 : (t : ℕ) → value-lts.Need-same-length-4 (value-claims t) (value-at t) value.Post
@@ -758,7 +770,7 @@ value-returns-10 t c =
     let k = value-bodied t (c .before .before .before .before .before .before) in
     let v = c .before .before .before .before .before .before .before .e .given .0 in (
       rw (k .same _ (c .before .before .before .before .enum-told7 .given .1), rest-dense inner i x (v .0 .at)) (c .before .before .dense .ensures .0),
-      ahead (c .before .before .dense .ensures .1) (k .from) (le-refl _),
+      ahead (c .before .before .dense .ensures .1) (k .from) (le-refl _) (omega arith),
     )
 
 value-same-length-5 : (t : ℕ) → value-lts.Need-same-length-5 (value-claims t) (value-at t) value.Post
@@ -773,7 +785,7 @@ value-returns-11 t c =
     let k = value-bodied t (c .before .before .before .before .before .before .before) in
     let v = c .before .before .before .before .before .before .before .before .e .given .0 in (
       rw (k .same _ (c .before .before .before .before .before .f .given .1), rest-values inner i x (c .before .before .before .before .before .f .given .0 .0) (v .0 .at)) (c .before .before .items .ensures .0),
-      ahead (c .before .before .items .ensures .1) (k .from) (le-refl _),
+      ahead (c .before .before .items .ensures .1) (k .from) (le-refl _) (omega arith),
     )
 
 pub +dense+items+pairs+value-spec : {M : Type 1} → statement M

@@ -1,0 +1,139 @@
+-- The laws of the file's reading, step by step, that the functions' proofs cite.
+use Prim.Native.Nat.{ℕ, zero, suc, _+_, _-_, _≤_, _<_}
+use mathlib.Core.Path.{_≡_, refl, ap, _∙_}
+use mathlib.Core.Logic.{_⊎_, inl, inr}
+use mathlib.Core.List.{List, [], _∷_}
+use native.Mathlib.Numerals.{sub-one}
+use native.Mathlib.Omega.{arith}
+use lib.ListN.{length}
+use borrow.Author.Tests.{eq-eqb, ne-eqb, lt-leb}
+use Rattle.wire.specs.declared.cursor.Cursor.{Cursor}
+use Rattle.wire.specs.declared.cursor.Tag.{Tag}
+use Rattle.wire.specs.declared.cursor.Tag.the-variants as Tag
+use Rattle.wire.specs.declared.cursor.Text.the-variants as Text
+use Rattle.wire.specs.Field.{to, tagAt, textAt, pastTag}
+use Rattle.wire.specs.Limit as limit
+use Rattle.wire.proofs.Laws.{tag-next, pick-yes, pick-no}
+use Rattle.image.specs.declared.reading.Step.the-variants.{Next, Stop}
+use Rattle.image.specs.declared.record.Record.the-variants.{Key}
+use Rattle.image.specs.Due.{Due, end, stop, due, _>>=_, Ran, ran, run}
+use Rattle.image.proofs.Laws.{run-stop}
+use Rattle.amf0.specs.Reading.{value}
+use Rattle.lso.specs.Reading.{zerosAt, headerAt, elementAt}
+use Rattle.lso.specs.Code.{tried, runBody, runFile}
+
+-- ---- zeros
+
+module _ (s : List ℕ) (at : ℕ) where
+  pub zeros-done : (k : ℕ) → k ≤ 0 → zerosAt k s at ≡ Tag.Past (to at)
+  unfolding zerosAt
+  zeros-done zero h = refl
+  zeros-done (suc k) h = absurd (omega arith)
+
+  pub zeros-stop : (k : ℕ) {a p : ℕ} → 0 < k → tagAt (0 ∷ []) s at ≡ Tag.Stop a p → zerosAt k s at ≡ Tag.Stop a p
+  unfolding zerosAt
+  zeros-stop zero h e = absurd (omega arith)
+  zeros-stop (suc k) h e = rw e
+
+  pub zeros-next : (k : ℕ) {c : Cursor} → 0 < k → tagAt (0 ∷ []) s at ≡ Tag.Past c → zerosAt k s at ≡ zerosAt (k - 1) s (c .at)
+  unfolding zerosAt
+  zeros-next zero h e = absurd (omega arith)
+  zeros-next (suc k) h e = rw (e, sub-one (suc k))
+
+-- The zeros stand there, and the cursor stands behind them.
+pub record Cleared (n : ℕ) (s : List ℕ) (at : ℕ) (c : Cursor) : Type 0 where
+  pub next : c .at ≡ at + n
+  pub within : at ≤ length s → at + n ≤ length s
+
+pub zeros-past : (n : ℕ) (s : List ℕ) (at : ℕ) (c : Cursor) → zerosAt n s at ≡ Tag.Past c → Cleared n s at c
+unfolding zerosAt
+zeros-past zero s at c e =
+    let f : c .at ≡ at = ap (λ (d : Cursor). d .at) (cc) in
+    record { next = omega arith; within = λ h. omega arith }
+zeros-past (suc n) s at c e = go (λ p. zeros-past n s p c) (tagAt (0 ∷ []) s at) refl e
+  where
+    go : ((p : ℕ) → zerosAt n s p ≡ Tag.Past c → Cleared n s p c) → (t : Tag) → tagAt (0 ∷ []) s at ≡ t → pastTag Tag.Stop t (λ p. zerosAt n s p) ≡ Tag.Past c → Cleared (suc n) s at c
+    go ih (Tag.Past d) f g =
+        let r = tag-next s at (0 ∷ []) d f in
+        let z = ih (d .at) g in
+        record { next = omega arith; within = λ h. let w = z .within (omega arith) in omega arith }
+    go ih (Tag.Stop a p) f g = let z : _≡_ {A = ℕ} 0 1 = cc in absurd (omega arith)
+
+-- ---- an element
+
+-- the zero behind a value
+abbrev pub closing : List ℕ → ℕ → Due
+closing s e = pastTag stop (tagAt (0 ∷ []) s e) end
+
+module _ (s : List ℕ) (at : ℕ) where
+  pub element-cut : {a p : ℕ} → textAt 2 s at ≡ Text.Stop a p → elementAt s at ≡ stop a p
+  unfolding elementAt
+  element-cut e = rw e
+
+  pub element-key : {p n : ℕ} {c : Cursor} → textAt 2 s at ≡ Text.Got p n c
+      → elementAt s at ≡ due (Key p n) at (value limit.levels s (c .at) >>= closing s)
+  unfolding elementAt
+  element-key e = rw e
+
+-- ---- the body
+
+-- where nothing is left no element is
+pub element-out : (s : List ℕ) (at : ℕ) → length s ≤ at → elementAt s at ≡ stop 2 at
+unfolding elementAt textAt
+element-out s at h = rw (lt-leb (at + 2) (length s) (omega arith))
+
+module _ (s : List ℕ) (at : ℕ) (fuel : ℕ) (h : length s ≤ fuel + at) (made : ℕ) (image : List ℕ) where
+  pub body-next : {c : Cursor} {m : ℕ} {i : List ℕ} → ran (Next c m) i ≡ run (elementAt s at) made image → at < length s
+      → runBody s fuel at made image ≡ runBody s (fuel - 1) (c .at) m i
+  unfolding runBody
+  body-next {c} {m} {i} e l = go fuel h
+    where
+      go : (f : ℕ) → length s ≤ f + at → runBody s f at made image ≡ runBody s (f - 1) (c .at) m i
+      go zero g = absurd (omega arith)
+      go (suc f) g = rw (← e, sub-one (suc f))
+
+  -- an element that gave 2 or 3 ends the body before it
+  pub body-ends : {a p : ℕ} {i : List ℕ} → ran (Stop a p) i ≡ run (elementAt s at) made image → (a ≡ 2) ⊎ (a ≡ 3)
+      → runBody s fuel at made image ≡ ran (Next (to at) made) i
+  unfolding runBody
+  body-ends {a} {p} {i} e w = go fuel h
+    where
+      pass : (a ≡ 2) ⊎ (a ≡ 3) → tried (Stop a p) i at made (runBody s 0) ≡ ran (Next (to at) made) i
+      pass (inl x) = rw (eq-eqb a 2 x)
+      pass (inr x) = let y : a ≡ 2 → ⊥ = λ z. omega arith in rw (ne-eqb a 2 y, eq-eqb a 3 x)
+
+      go : (f : ℕ) → length s ≤ f + at → runBody s f at made image ≡ ran (Next (to at) made) i
+      go zero g =
+          let d = e ∙ ap (λ (x : Due). run x made image) (element-out s at (omega arith)) ∙ run-stop made image 2 at in
+          let same : i ≡ image = ap (λ (x : Ran). x .image) d in
+          rw same
+      go (suc f) g = rw (← e) (pass w)
+
+  -- any other answer ends the call
+  pub body-stops : {a p : ℕ} {i : List ℕ} → ran (Stop a p) i ≡ run (elementAt s at) made image → (a ≡ 2 → ⊥) → (a ≡ 3 → ⊥)
+      → runBody s fuel at made image ≡ ran (Stop a p) i
+  unfolding runBody
+  body-stops {a} {p} {i} e x y = go fuel h
+    where
+      go : (f : ℕ) → length s ≤ f + at → runBody s f at made image ≡ ran (Stop a p) i
+      go zero g =
+          let d = e ∙ ap (λ (x : Due). run x made image) (element-out s at (omega arith)) ∙ run-stop made image 2 at in
+          let same : Stop a p ≡ Stop 2 at = ap (λ (x : Ran). x .step) d in
+          absurd (x (cc))
+      go (suc f) g = rw (← e, ne-eqb a 2 x, ne-eqb a 3 y)
+
+-- ---- the file
+
+module _ (s image : List ℕ) where
+  pub file-over : limit.bytes < length s → runFile s image ≡ ran (Stop 1 0) image
+  unfolding runFile
+  file-over h = pick-no (length s) limit.bytes _ _ h
+
+  pub file-stops : {a p : ℕ} {i : List ℕ} → length s ≤ limit.bytes → ran (Stop a p) i ≡ run (headerAt s) 0 image → runFile s image ≡ ran (Stop a p) i
+  unfolding runFile
+  file-stops h e = pick-yes (length s) limit.bytes _ _ h ∙ rw (← e)
+
+  pub file-body : {c : Cursor} {m : ℕ} {i : List ℕ} → length s ≤ limit.bytes → ran (Next c m) i ≡ run (headerAt s) 0 image
+      → runFile s image ≡ runBody s (length s) (c .at) m i
+  unfolding runFile
+  file-body h e = pick-yes (length s) limit.bytes _ _ h ∙ rw (← e)

@@ -1,0 +1,163 @@
+-- The header carries out what its reading says: field after field, and then its one record is laid.
+use mathlib.Core.Path.{_≡_, sym, _∙_}
+use native.Mathlib.Nat.{le-refl}
+use native.Mathlib.Omega.{arith}
+use denote.Ref.{now}
+use borrow.Author.Needs.{needs}
+use Rattle.wire.specs.declared.cursor.Tag.the-variants as Tag
+use Rattle.wire.specs.declared.cursor.U32.the-variants as U32
+use Rattle.wire.specs.declared.cursor.Text.the-variants as Text
+use Rattle.wire.specs.Field.{tagAt, u32At, textAt}
+use Rattle.wire.proofs.Laws.{text-next}
+use Rattle.image.proofs.Laws.{run-stop, within, within-stop}
+use Rattle.lso.specs.File.{version, signature}
+use Rattle.lso.specs.Reading.{zerosAt, headerAt}
+use Rattle.lso.proofs.Laws.{zeros-past}
+use Rattle.lso.proofs.read.parse_header.Statement.{statement}
+use Rattle.lso.proofs.read.parse_header.Tie as tie
+
+-- the fields, by the places behind them
+version-at : (c : tie.After-known-told2) → tagAt version (now (c .before .before .before .before .before .before .before .args .s)) 0 ≡ Tag.Past (c .before .d .given .0 .0)
+version-at c = sym (c .before .before .before .tag .ensures) ∙ c .before .d .given .1
+
+stored-at : (c : tie.After-known-told4)
+    → u32At (now (c .before .before .before .before .before .before .before .before .before .before .before .args .s)) (c .before .before .before .before .before .d .given .0 .0 .at) ≡ U32.Got (c .before .stored .given .0 .0) (c .before .stored .given .0 .1 .0)
+stored-at c = sym (c .before .before .before .be-u32 .ensures) ∙ c .before .stored .given .1
+
+signature-at : (c : tie.After-known-told6) → tagAt signature (now (c .before .before .before .before .before .before .before .before .before .before .before .before .before .before .before .before .args .s)) (c .before .before .before .before .before .before .stored .given .0 .1 .0 .at) ≡ Tag.Past (c .before .f .given .0 .0)
+signature-at c = sym (c .before .before .before .tag2 .ensures) ∙ c .before .f .given .1
+
+name-at : (c : tie.After-known-told8)
+    → textAt 2 (now (c .before .before .before .before .before .before .before .before .before .before .before .before .before .before .before .before .before .before .before .before .args .s)) (c .before .before .before .before .before .f .given .0 .0 .at) ≡ Text.Got (c .before .name .given .0 .0) (c .before .name .given .0 .1 .0) (c .before .name .given .0 .1 .1 .0)
+name-at c = sym (c .before .before .before .parse-string .ensures) ∙ c .before .name .given .1
+
+zeros-at : (c : tie.After-known-told10) → zerosAt 4 (now (c .before .before .before .before .before .before .before .before .before .before .before .before .before .before .before .before .before .before .before .before .before .before .before .before .args .s)) (c .before .before .before .before .before .name .given .0 .1 .1 .0 .at) ≡ Tag.Past (c .before .h .given .0 .0)
+zeros-at c = sym (c .before .before .before .zeros .ensures) ∙ c .before .h .given .1
+
+slice-aggregate-tag : tie.Need-slice-aggregate-tag
+slice-aggregate-tag c = search needs
+
+tag-requires : tie.Need-tag-requires
+tag-requires c κs = search needs
+
+enum-known-a : tie.Need-enum-known-a
+enum-known-a c = search needs
+
+enum-known-d : tie.Need-enum-known-d
+enum-known-d c = search needs
+
+be-u32-requires : tie.Need-be-u32-requires
+be-u32-requires c κs = search needs
+
+enum-known-a-2 : tie.Need-enum-known-a-2
+enum-known-a-2 c = search needs
+
+enum-known-stored : tie.Need-enum-known-stored
+enum-known-stored c = search needs
+
+slice-aggregate-tag-2 : tie.Need-slice-aggregate-tag-2
+slice-aggregate-tag-2 c = search needs
+
+tag-requires-2 : tie.Need-tag-requires-2
+tag-requires-2 c κs = search needs
+
+enum-known-a-3 : tie.Need-enum-known-a-3
+enum-known-a-3 c = search needs
+
+enum-known-f : tie.Need-enum-known-f
+enum-known-f c = search needs
+
+parse-string-requires : tie.Need-parse-string-requires
+parse-string-requires c κs = search needs
+
+enum-known-a-4 : tie.Need-enum-known-a-4
+enum-known-a-4 c = search needs
+
+enum-known-name : tie.Need-enum-known-name
+enum-known-name c = search needs
+
+zeros-requires : tie.Need-zeros-requires
+zeros-requires c κs = search needs
+
+enum-known-a-5 : tie.Need-enum-known-a-5
+enum-known-a-5 c = search needs
+
+enum-known-h : tie.Need-enum-known-h
+enum-known-h c = search needs
+
+put-requires : tie.Need-put-requires
+put-requires c κs = search needs
+
+returns : tie.Need-returns
+unfolding headerAt
+returns c =
+    let e : tagAt version (now (c .before .before .before .before .before .before .before .args .s)) 0 ≡ Tag.Stop (c .before .a .given .0 .0) (c .before .a .given .0 .1 .0) = sym (c .before .before .before .tag .ensures) ∙ c .before .a .given .1 in
+    (rw e (sym (run-stop _ _ _ _)), within-stop)
+
+returns-2 : tie.Need-returns-2
+unfolding headerAt
+returns-2 c =
+    let e = sym (c .before .before .before .be-u32 .ensures) ∙ c .before .a2 .given .1 in
+    (rw (version-at (c .before .before .before .before), e) (sym (run-stop _ _ _ _)), within-stop)
+
+returns-3 : tie.Need-returns-3
+unfolding headerAt
+returns-3 c =
+    let e : tagAt signature (now (c .before .before .before .before .before .before .before .before .before .before .before .before .before .before .before .before .args .s)) (c .before .before .before .before .before .before .stored .given .0 .1 .0 .at) ≡ Tag.Stop (c .before .a3 .given .0 .0) (c .before .a3 .given .0 .1 .0) =
+    sym (c .before .before .before .tag2 .ensures) ∙ c .before .a3 .given .1 in
+    (rw (version-at (c .before .before .before .before .before .before .before .before .before), stored-at (c .before .before .before .before .before), e) (sym (run-stop _ _ _ _)), within-stop)
+
+returns-4 : tie.Need-returns-4
+unfolding headerAt
+returns-4 c =
+    let e = sym (c .before .before .before .parse-string .ensures) ∙ c .before .a4 .given .1 in
+    (rw (version-at (c .before .before .before .before .before .before .before .before .before .before .before .before .before), stored-at (c .before .before .before .before .before .before .before .before .before), signature-at (c .before .before .before .before), e) (sym (run-stop _ _ _ _)), within-stop)
+
+returns-5 : tie.Need-returns-5
+unfolding headerAt
+returns-5 c =
+    let e = sym (c .before .before .before .zeros .ensures) ∙ c .before .a5 .given .1 in
+    (rw (version-at (c .before .before .before .before .before .before .before .before .before .before .before .before .before .before .before .before .before), stored-at (c .before .before .before .before .before .before .before .before .before .before .before .before .before), signature-at (c .before .before .before .before .before .before .before .before), name-at (c .before .before .before .before), e) (sym (run-stop _ _ _ _)), within-stop)
+
+same-length : tie.Need-same-length
+same-length c = search needs
+
+returns-6 : tie.Need-returns-6
+unfolding headerAt
+returns-6 c =
+    let z = zeros-past 4 _ _ _ (zeros-at (c .before .before .before .before)) in
+    let n = text-next 2 _ _ _ _ _ (name-at (c .before .before .before .before .before .before .before .before)) in
+    let w = z .within (omega arith) in (
+      rw (version-at (c .before .before .before .before .before .before .before .before .before .before .before .before .before .before .before .before .before .before .before .before .before), stored-at (c .before .before .before .before .before .before .before .before .before .before .before .before .before .before .before .before .before), signature-at (c .before .before .before .before .before .before .before .before .before .before .before .before), name-at (c .before .before .before .before .before .before .before .before), zeros-at (c .before .before .before .before)) (c .before .before .put .ensures .0),
+      within (c .before .before .put .ensures .1) (omega arith) (omega arith) (le-refl _),
+    )
+
+pub parse-header-spec : {M : Type 1} → statement M
+parse-header-spec =
+    tie.close
+    (tie.spec
+    slice-aggregate-tag
+    tag-requires
+    enum-known-a
+    enum-known-d
+    be-u32-requires
+    enum-known-a-2
+    enum-known-stored
+    slice-aggregate-tag-2
+    tag-requires-2
+    enum-known-a-3
+    enum-known-f
+    parse-string-requires
+    enum-known-a-4
+    enum-known-name
+    zeros-requires
+    enum-known-a-5
+    enum-known-h
+    put-requires
+    returns
+    returns-2
+    returns-3
+    returns-4
+    returns-5
+    same-length
+    returns-6)

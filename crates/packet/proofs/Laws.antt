@@ -1,0 +1,426 @@
+-- The laws of heads, of the cut and of an entry's reading.
+use Prim.Native.Nat.{ℕ, zero, suc, _+_, _-_, _≤_, _<_}
+use mathlib.Core.Path.{_≡_, refl, ap, _∙_}
+use mathlib.Core.List.{List, [], _∷_, _++_}
+use mathlib.Core.Bool.{Bool, true, false}
+use mathlib.Core.Logic.{_≢_, ⊎-elim}
+use native.Mathlib.Nat.{add-zero, zero-add}
+use native.Mathlib.Numerals.{sub-one}
+use native.Mathlib.Omega.{arith}
+use lib.ListN.{length, getD, length-append, length-take, length-drop}
+use lib.Seq.{sets}
+use lib.Dec.{leb, ltb, eqb}
+use borrow.Author.Tests.{leb-true, leb-false, le-leb, lt-leb, ltb-true, eq-eqb, ne-eqb}
+use Rattle.wire.specs.Choice.{pick}
+use Rattle.wire.specs.declared.cursor.Cursor.{Cursor}
+use Rattle.wire.specs.declared.cursor.U16.{U16}
+use Rattle.wire.specs.declared.cursor.U16.the-variants as U16
+use Rattle.wire.specs.declared.cursor.Tag.{Tag}
+use Rattle.wire.specs.declared.cursor.Tag.the-variants as Tag
+use Rattle.wire.specs.Limit as limit
+use Rattle.wire.specs.Number.{number}
+use Rattle.wire.specs.Field.{to, bytesAt, u8At, u16At, tagAt, got8, got16, pastTag}
+use Rattle.wire.proofs.Laws.{picked, u16-next, tag-next, tag-stop}
+use Rattle.wire.proofs.Stands.{go8, go16, go32, goText}
+use Rattle.image.specs.declared.reading.Step.{Step}
+use Rattle.image.specs.declared.reading.Step.the-variants.{Next, Stop}
+use Rattle.image.specs.Record.{bytesOf, size}
+use Rattle.image.specs.Due.{Due, end, stop, due, based, Ran, ran, run}
+use Rattle.image.specs.Whole.{refused, finished}
+use Rattle.image.proofs.Settle.{finished-ran}
+use Rattle.amf0.specs.Reading.{value, valueIn}
+use Rattle.amf0.specs.Why.{Reasoned}
+use Rattle.amf0.proofs.Laws.{part-read}
+use Rattle.amf0.proofs.Outcome.{named}
+use Rattle.amf0.proofs.Theorems.{reasoned}
+use Rattle.packet.specs.declared.head.Entry.{Entry}
+use Rattle.packet.specs.declared.head.Head.{Head}
+use Rattle.packet.specs.declared.head.Head.the-variants as Head
+use Rattle.packet.specs.declared.entry.Found.{Found}
+use Rattle.packet.specs.declared.entry.Found.the-variants as Found
+use Rattle.packet.specs.declared.entry.Walked.{Walked}
+use Rattle.packet.specs.declared.entry.Walked.the-variants as Walked
+use Rattle.packet.specs.Head.{versionAt, headerAt, messageAt, headAt, gotHead}
+use Rattle.packet.specs.Entry.{Cut, found, stops, gotCut, entryAt, walk, cutOf, noEntry, spanOf, judge, valueOf, entryIn}
+use Rattle.packet.specs.Code.{keptIn, walkedOf, foundIn, lastFound, messagesFound, judgedOf}
+
+-- ---- heads
+
+-- a field's refusal
+pub record Field (a : ℕ) : Type 0 where
+  pub low : 2 ≤ a
+  pub high : a ≤ 3
+
+pub two : Field 2
+two = record { low = omega arith; high = omega arith }
+
+pub three : Field 3
+three = record { low = omega arith; high = omega arith }
+
+-- a head at a place was read: its value begins at v, inside the input
+pub record Begun (s : List ℕ) (at : ℕ) (e : Entry) (v : ℕ) : Type 0 where
+  pub place : e .place ≡ v
+  pub from : at + 7 ≤ v
+  pub within : v ≤ length s
+
+abbrev pub Headed : List ℕ → ℕ → Head → Type 0
+Headed s at (Head.Got e c) = Begun s at e (c .at)
+Headed s at (Head.Stop a p) = Field a
+
+module _ (s : List ℕ) (at : ℕ) where
+  header-told : Headed s at (headerAt s at)
+  unfolding headerAt
+  header-told = goText (Headed s at) Head.Stop s at 2 _
+      (λ n e i u. go8 (Headed s at) Head.Stop s (at + 2 + n) _
+      (λ j. go32 (Headed s at) Head.Stop s (at + 2 + n + 1) _ (λ k. record { place = refl; from = omega arith; within = k }) (λ k. two))
+      (λ j. two))
+      (λ i. two) (λ n e i j. two) (λ n e i u. three)
+
+  message-told : Headed s at (messageAt s at)
+  unfolding messageAt
+  message-told = goText (Headed s at) Head.Stop s at 2 _
+      (λ n e i u. goText (Headed s at) Head.Stop s (at + 2 + n) 2 _
+      (λ m f j v. go32 (Headed s at) Head.Stop s (at + 2 + n + 2 + m) _ (λ k. record { place = refl; from = omega arith; within = k }) (λ k. two))
+      (λ j. two) (λ m f j k. two) (λ m f j v. three))
+      (λ i. two) (λ n e i j. two) (λ n e i u. three)
+
+  pub head-told : (kind : ℕ) → Headed s at (headAt kind s at)
+  head-told kind = picked (Headed s at) (eqb kind 0x31) _ _ (λ e. header-told) (λ e. message-told)
+
+  pub head-begun : (kind : ℕ) {e : Entry} {c : Cursor} → headAt kind s at ≡ Head.Got e c → Begun s at e (c .at)
+  head-begun kind h = rw h at (head-told kind)
+
+-- ---- entries by their declared lengths
+
+-- an entry at a place: its value is inside the input and ends at z
+pub record Spanned (s : List ℕ) (at : ℕ) (e : Entry) (z : ℕ) : Type 0 where
+  pub ends : e .place + e .length ≡ z
+  pub from : at + 7 ≤ z
+  pub within : z ≤ length s
+
+abbrev pub Placed : List ℕ → ℕ → Head → Type 0
+Placed s at (Head.Got e c) = Spanned s at e (c .at)
+Placed s at (Head.Stop a p) = Field a
+
+pub entry-told : (kind : ℕ) (s : List ℕ) (at : ℕ) → Placed s at (entryAt kind s at)
+unfolding entryAt
+entry-told kind s at = go (headAt kind s at) (head-told s at kind)
+  where
+    go : (x : Head) → Headed s at x
+        → Placed s at (gotHead Head.Stop x λ e v. pick (leb (v + e .length) (length s)) (Head.Got e (to (v + e .length))) (Head.Stop 2 (v - 4)))
+    go (Head.Got e c) h = picked (Placed s at) (leb (c .at + e .length) (length s)) _ _
+        (λ t. record { ends = rw (h .place); from = omega arith; within = leb-true _ _ t }) (λ t. two)
+    go (Head.Stop a p) h = h
+
+module _ (kind : ℕ) (s : List ℕ) (at : ℕ) where
+  pub entry-spanned : {e : Entry} {c : Cursor} → entryAt kind s at ≡ Head.Got e c → Spanned s at e (c .at)
+  entry-spanned h = rw h at (entry-told kind s at)
+
+  pub entry-cut : {a p : ℕ} → headAt kind s at ≡ Head.Stop a p → entryAt kind s at ≡ Head.Stop a p
+  unfolding entryAt
+  entry-cut h = rw h
+
+  pub entry-fits : {e : Entry} {c : Cursor} → headAt kind s at ≡ Head.Got e c → c .at + e .length ≤ length s
+      → entryAt kind s at ≡ Head.Got e (to (c .at + e .length))
+  unfolding entryAt
+  entry-fits h l = rw (h, le-leb _ _ l)
+
+  pub entry-over : {e : Entry} {c : Cursor} → headAt kind s at ≡ Head.Got e c → length s < c .at + e .length
+      → entryAt kind s at ≡ Head.Stop 2 (c .at - 4)
+  unfolding entryAt
+  entry-over h l = rw (h, lt-leb _ _ l)
+
+-- every entry's value is inside the input
+abbrev pub Inside : List ℕ → List Entry → Type 0
+Inside s [] = Unit {0}
+Inside s (e ∷ es) = (e .place + e .length ≤ length s) × Inside s es
+
+inside-both : (s : List ℕ) (hs ms : List Entry) → Inside s hs → Inside s ms → Inside s (hs ++ ms)
+inside-both s [] ms i j = j
+inside-both s (e ∷ hs) ms i j = (i .0, inside-both s hs ms (i .1) j)
+
+inside-at : (s : List ℕ) (es : List Entry) (i : ℕ) (d : Entry) → i < length es → Inside s es → getD es i d .place + getD es i d .length ≤ length s
+inside-at s [] i d h f = absurd (omega arith)
+inside-at s (e ∷ es) zero d h f = f .0
+inside-at s (e ∷ es) (suc i) d h f = inside-at s es i d (omega arith) (f .1)
+
+-- n entries were walked
+pub record Went (s : List ℕ) (n : ℕ) (es : List Entry) (z : ℕ) : Type 0 where
+  pub count : length es ≡ n
+  pub inside : Inside s es
+  pub within : z ≤ length s
+
+abbrev pub Goes : List ℕ → ℕ → Cut → Type 0
+Goes s n (found es z) = Went s n es z
+Goes s n (stops a p) = Field a
+
+goes-on : (s : List ℕ) (n : ℕ) (e : Entry) (x : Cut) → e .place + e .length ≤ length s → Goes s n x → Goes s (suc n) (gotCut x λ es z. found (e ∷ es) z)
+goes-on s n e (found es z) h g = record { count = ap suc (g .count); inside = (h, g .inside); within = g .within }
+goes-on s n e (stops a p) h g = g
+
+goes-from : (s : List ℕ) (n at : ℕ) (k : ℕ → Cut) (x : Head) → Placed s at x → ((q : ℕ) → q ≤ length s → Goes s n (k q))
+    → Goes s (suc n) (gotHead stops x λ e q. gotCut (k q) λ es z. found (e ∷ es) z)
+goes-from s n at k (Head.Got e c) p g = goes-on s n e (k (c .at)) (omega (arith, p .ends, p .within)) (g (c .at) (p .within))
+goes-from s n at k (Head.Stop a p) h g = h
+
+pub walk-told : (kind : ℕ) (s : List ℕ) (n at : ℕ) → at ≤ length s → Goes s n (walk kind s n at)
+unfolding walk
+walk-told kind s zero at h = record { count = refl; inside = tt; within = h }
+walk-told kind s (suc n) at h = goes-from s n at (walk kind s n) (entryAt kind s at) (entry-told kind s at) (walk-told kind s n)
+
+-- ---- the walk's steps
+
+walked-more : (x : Cut) (e had : Entry) (first wanted : ℕ)
+    → walkedOf (gotCut x λ es z. found (e ∷ es) z) first wanted had ≡ walkedOf x (first + 1) wanted (pick (eqb wanted first) e had)
+walked-more (found es z) e had first wanted = refl
+walked-more (stops a p) e had first wanted = refl
+
+module _ (kind : ℕ) (s : List ℕ) (n at first wanted : ℕ) (had : Entry) where
+  pub walk-done : n ≤ 0 → walkedOf (walk kind s n at) first wanted had ≡ Walked.Next (to at) had
+  unfolding walk
+  walk-done h = go n h
+    where
+      go : (n : ℕ) → n ≤ 0 → walkedOf (walk kind s n at) first wanted had ≡ Walked.Next (to at) had
+      go zero h = refl
+      go (suc n) h = absurd (omega arith)
+
+  pub walk-cut : {a p : ℕ} → 0 < n → entryAt kind s at ≡ Head.Stop a p → walkedOf (walk kind s n at) first wanted had ≡ Walked.Stop a p
+  unfolding walk
+  walk-cut {a} {p} h e = go n h
+    where
+      go : (n : ℕ) → 0 < n → walkedOf (walk kind s n at) first wanted had ≡ Walked.Stop a p
+      go zero h = absurd (omega arith)
+      go (suc n) h = rw e
+
+  pub walk-more : {e : Entry} {c : Cursor} → 0 < n → entryAt kind s at ≡ Head.Got e c
+      → walkedOf (walk kind s n at) first wanted had ≡ walkedOf (walk kind s (n - 1) (c .at)) (first + 1) wanted (pick (eqb wanted first) e had)
+  unfolding walk
+  walk-more {e} {c} h g = go n h
+    where
+      go : (n : ℕ) → 0 < n
+          → walkedOf (walk kind s n at) first wanted had ≡ walkedOf (walk kind s (n - 1) (c .at)) (first + 1) wanted (pick (eqb wanted first) e had)
+      go zero h = absurd (omega arith)
+      go (suc n) h = rw (g, sub-one (suc n)) (walked-more (walk kind s n (c .at)) e had first wanted)
+
+-- ---- the entry with a number
+
+kept-past : (es : List Entry) (first wanted : ℕ) (had : Entry) → wanted < first → keptIn es first wanted had ≡ had
+kept-past [] first wanted had h = refl
+kept-past (e ∷ es) first wanted had h = rw (ne-eqb wanted first λ e. omega arith) (kept-past es (first + 1) wanted had (omega arith))
+
+kept-at : (es : List Entry) (first wanted i : ℕ) (had : Entry) → wanted ≡ first + i → keptIn es first wanted had ≡ getD es i had
+kept-at [] first wanted i had h = refl
+kept-at (e ∷ es) first wanted zero had h = rw (eq-eqb wanted first (omega arith)) (kept-past es (first + 1) wanted e (omega arith))
+kept-at (e ∷ es) first wanted (suc i) had h =
+    rw (ne-eqb wanted first λ e. omega arith) (kept-at es (first + 1) wanted i had (omega arith))
+
+kept-both : (hs ms : List Entry) (first wanted : ℕ) (had : Entry)
+    → keptIn ms (first + length hs) wanted (keptIn hs first wanted had) ≡ keptIn (hs ++ ms) first wanted had
+kept-both [] ms first wanted had = rw add-zero
+kept-both (e ∷ hs) ms first wanted had =
+    let f : first + suc (length hs) ≡ first + 1 + length hs = omega arith in
+    rw f (kept-both hs ms (first + 1) wanted (pick (eqb wanted first) e had))
+
+-- the messages behind the headers hs, as the cut has them
+abbrev pub messagesIn : List ℕ → List Entry → ℕ → Cut
+messagesIn s hs e =
+    got16 stops (u16At s e) λ m f. gotCut (walk 0x32 s m f) λ ms z. pick (leb (length s) z) (found (hs ++ ms) z) (stops 3 z)
+
+last-found : (s : List ℕ) (number m : ℕ) (hs : List Entry) (x : Cut) → Goes s m x
+    → lastFound s number (length hs) m (walkedOf x (length hs) number (keptIn hs 0 number noEntry))
+    ≡ foundIn (gotCut x λ ms z. pick (leb (length s) z) (found (hs ++ ms) z) (stops 3 z)) number
+last-found s number m hs (stops a p) g = refl
+last-found s number m hs (found ms z) g = go (leb (length s) z)
+  where
+    k : keptIn ms (length hs) number (keptIn hs 0 number noEntry) ≡ getD (hs ++ ms) number noEntry
+    k = rw zero-add at (kept-both hs ms 0 number noEntry) ∙ kept-at (hs ++ ms) 0 number number noEntry (omega arith)
+
+    go : (t : Bool)
+        → pick t (pick (ltb number (length hs + m)) (Found.Is (keptIn ms (length hs) number (keptIn hs 0 number noEntry))) (Found.Stop 8 0)) (Found.Stop 3 z)
+        ≡ foundIn (pick t (found (hs ++ ms) z) (stops 3 z)) number
+    go true = rw (k, length-append hs ms, g .count)
+    go false = refl
+
+pub messages-found : (s : List ℕ) (e number : ℕ) (hs : List Entry)
+    → messagesFound s e number (length hs) (keptIn hs 0 number noEntry) ≡ foundIn (messagesIn s hs e) number
+messages-found s e number hs = go (u16At s e) refl
+  where
+    go : (x : U16) → u16At s e ≡ x
+        → got16 Found.Stop x (λ m p. lastFound s number (length hs) m (walkedOf (walk 0x32 s m p) (length hs) number (keptIn hs 0 number noEntry)))
+        ≡ foundIn (got16 stops x λ m f. gotCut (walk 0x32 s m f) λ ms z. pick (leb (length s) z) (found (hs ++ ms) z) (stops 3 z)) number
+    go (U16.Stop a p) h = refl
+    go (U16.Got m c) h =
+        let r = u16-next s e m c h in
+        last-found s number m hs (walk 0x32 s m (c .at)) (walk-told 0x32 s m (c .at) (omega arith))
+
+-- ---- the walk over the headers, and what comes of it
+
+module _ (s : List ℕ) (number n : ℕ) where
+  pub headers-stop : (x : Cut) {a p : ℕ} → Walked.Stop a p ≡ walkedOf x 0 number noEntry → foundIn (gotCut x (messagesIn s)) number ≡ Found.Stop a p
+  headers-stop (found es z) e = let z : _≡_ {A = ℕ} 0 1 = cc in absurd (omega arith)
+  headers-stop (stops b q) {a} {p} e = let f : b ≡ a = cc in let g : q ≡ p = cc in rw (f, g)
+
+  pub headers-next : (x : Cut) {c : Cursor} {e : Entry} → Goes s n x → Walked.Next c e ≡ walkedOf x 0 number noEntry
+      → messagesFound s (c .at) number n e ≡ foundIn (gotCut x (messagesIn s)) number
+  headers-next (found hs z) {c} {e} g h =
+      let f : c .at ≡ z = ap (λ (d : Cursor). d .at) (cc) in
+      let k : e ≡ keptIn hs 0 number noEntry = cc in
+      rw (f, k, ← g .count) (messages-found s z number hs)
+  headers-next (stops a p) g h = let z : _≡_ {A = ℕ} 0 1 = cc in absurd (omega arith)
+
+-- ---- the whole cut
+
+-- an answer that refuses the cut
+pub record Cuts (a : ℕ) : Type 0 where
+  pub low : 1 ≤ a
+  pub high : a ≤ 7
+  pub room : a ≢ 4
+  pub deep : a ≢ 5
+  pub tree : a ≢ 6
+
+field-cuts : {a : ℕ} → Field a → Cuts a
+field-cuts f = record { low = omega arith; high = omega arith; room = λ e. omega arith; deep = λ e. omega arith; tree = λ e. omega arith }
+
+one : Cuts 1
+one = record { low = omega arith; high = omega arith; room = λ e. omega arith; deep = λ e. omega arith; tree = λ e. omega arith }
+
+seven : Cuts 7
+seven = record { low = omega arith; high = omega arith; room = λ e. omega arith; deep = λ e. omega arith; tree = λ e. omega arith }
+
+abbrev pub Versioned : List ℕ → Tag → Type 0
+Versioned s (Tag.Past c) = c .at ≡ 2
+Versioned s (Tag.Stop a p) = (2 ≤ a) × Cuts a
+
+pub version-told : (s : List ℕ) → Versioned s (versionAt s)
+unfolding versionAt
+version-told s = go (tagAt (0 ∷ []) s 0) refl
+  where
+    go : (x : Tag) → tagAt (0 ∷ []) s 0 ≡ x
+        → Versioned s (pastTag Tag.Stop x λ p. got8 Tag.Stop (u8At s p) λ v q. pick (eqb v 0) (Tag.Past (to q)) (pick (eqb v 3) (Tag.Stop 7 p) (Tag.Stop 3 p)))
+    go (Tag.Stop a p) h = ⊎-elim (λ e. rw e (omega arith, field-cuts two)) (λ e. rw e (omega arith, field-cuts three)) (tag-stop s 0 (0 ∷ []) a p h (omega arith) .answer)
+    go (Tag.Past c) h =
+        let r = tag-next s 0 (0 ∷ []) c h in
+        go8 (Versioned s) Tag.Stop s (c .at) _
+        (λ i. picked (Versioned s) (eqb (getD s (c .at) 0) 0) _ _ (λ e. omega arith)
+        (λ e. picked (Versioned s) (eqb (getD s (c .at) 0) 3) _ _ (λ f. (omega arith, seven)) (λ f. (omega arith, field-cuts three))))
+        (λ i. (omega arith, field-cuts two))
+
+-- the entries of a packet that is cut
+pub record Split (s : List ℕ) (es : List Entry) : Type 0 where
+  pub short : length s ≤ limit.bytes
+  pub inside : Inside s es
+
+-- the answer that refuses the cut of a packet
+pub record Refuses (s : List ℕ) (a : ℕ) : Type 0 where
+  pub cuts : Cuts a
+  pub over : a ≡ 1 → limit.bytes < length s
+
+field-refuses : (s : List ℕ) {a : ℕ} → Field a → Refuses s a
+field-refuses s f = record { cuts = field-cuts f; over = λ e. absurd (omega arith) }
+
+abbrev pub Splits : List ℕ → Cut → Type 0
+Splits s (found es z) = Split s es
+Splits s (stops a p) = Refuses s a
+
+module _ (s : List ℕ) (l : length s ≤ limit.bytes) where
+  messages-split : (hs : List Entry) (m : ℕ) (x : Cut) → Inside s hs → Goes s m x
+      → Splits s (gotCut x λ ms z. pick (leb (length s) z) (found (hs ++ ms) z) (stops 3 z))
+  messages-split hs m (found ms z) i g = picked (Splits s) (leb (length s) z) _ _
+      (λ t. record { short = l; inside = inside-both s hs ms i (g .inside) }) (λ t. field-refuses s three)
+  messages-split hs m (stops a p) i g = field-refuses s g
+
+  headers-split : (n : ℕ) (x : Cut) → Goes s n x → Splits s (gotCut x (messagesIn s))
+  headers-split n (found hs z) g = go16 (Splits s) stops s z _
+      (λ i. messages-split hs _ (walk 0x32 s (number (bytesAt 2 s z)) (z + 2)) (g .inside) (walk-told 0x32 s _ (z + 2) i)) (λ i. field-refuses s two)
+  headers-split n (stops a p) g = field-refuses s g
+
+  version-split : (x : Tag) → Versioned s x → Splits s (pastTag stops x λ p. got16 stops (u16At s p) λ h q. gotCut (walk 0x31 s h q) (messagesIn s))
+  version-split (Tag.Past c) v = go16 (Splits s) stops s (c .at) _
+      (λ i. headers-split _ (walk 0x31 s (number (bytesAt 2 s (c .at))) (c .at + 2)) (walk-told 0x31 s _ (c .at + 2) i)) (λ i. field-refuses s two)
+  version-split (Tag.Stop a p) v = record { cuts = v .1; over = λ e. absurd (omega (arith, v .0)) }
+
+pub cut-told : (s : List ℕ) → Splits s (cutOf s)
+unfolding cutOf
+cut-told s = picked (Splits s) (leb (length s) limit.bytes) _ _ (λ t. version-split s (leb-true _ _ t) (versionAt s) (version-told s)) (λ t. record { cuts = one; over = λ e. leb-false _ _ t })
+
+-- ---- one entry
+
+module _ (s : List ℕ) (number room : ℕ) where
+  pub entry-none : (x : Cut) {a p : ℕ} → Found.Stop a p ≡ foundIn x number → entryIn s x number room ≡ refused a
+  entry-none (found es z) {a} {p} = go (ltb number (length es))
+    where
+      go : (t : Bool) → Found.Stop a p ≡ pick t (Found.Is (getD es number noEntry)) (Found.Stop 8 0)
+          → pick t (valueOf s (getD es number noEntry) room) (refused 8) ≡ refused a
+      go true e = let z : _≡_ {A = ℕ} 0 1 = cc in absurd (omega arith)
+      go false e = let f : 8 ≡ a = cc in rw f
+  entry-none (stops b q) {a} {p} = λ e. let f : b ≡ a = cc in rw f
+
+  -- the value's bytes are inside the packet, and it is read from them
+  pub record Chosen (x : Cut) (e : Entry) : Type 0 where
+    pub short : length s ≤ limit.bytes
+    pub inside : e .place + e .length ≤ length s
+    pub read : entryIn s x number room ≡ valueOf s e room
+
+  pub entry-chosen : (x : Cut) {e : Entry} → Splits s x → Found.Is e ≡ foundIn x number → Chosen x e
+  entry-chosen (found es z) {e} w = go (ltb number (length es)) refl
+    where
+      go : (t : Bool) → ltb number (length es) ≡ t → Found.Is e ≡ pick t (Found.Is (getD es number noEntry)) (Found.Stop 8 0) → Chosen (found es z) e
+      go true t h =
+          let f : e ≡ getD es number noEntry = cc in
+          record {
+            short = w .short;
+            inside = rw f (inside-at s es number noEntry (ltb-true _ _ t) (w .inside));
+            read = rw (t, f);
+          }
+      go false t h = let z : _≡_ {A = ℕ} 0 1 = cc in absurd (omega arith)
+  entry-chosen (stops b q) w = λ h. let z : _≡_ {A = ℕ} 0 1 = cc in absurd (omega arith)
+
+-- a reading's refusals have answers, and a step's
+abbrev pub Answers : Due → Type 0
+Answers (end n) = Unit {0}
+Answers (stop a p) = 1 ≤ a
+Answers (due r p d) = Answers d
+
+abbrev pub Halts : Step → Type 0
+Halts (Next c m) = Unit {0}
+Halts (Stop a p) = 1 ≤ a
+
+pub run-halts : (d : Due) (made : ℕ) (image : List ℕ) → Answers d → Halts (run d made image .step)
+unfolding run
+run-halts (end n) made image h = tt
+run-halts (stop a p) made image h = h
+run-halts (due r p d) made image h =
+    picked (λ (x : Ran). Halts (x .step)) (leb (made + size r) (length image)) _ _
+    (λ t. run-halts d (made + size r) (sets image made (bytesOf r)) h) (λ t. omega arith)
+
+pub reasoned-answers : (b : ℕ) (s : List ℕ) (d : Due) → Reasoned s d → Answers (based b d)
+reasoned-answers b s (end n) r = tt
+reasoned-answers b s (stop a p) r = omega (arith, named r .low)
+reasoned-answers b s (due q p d) r = reasoned-answers b s d r
+
+-- a step judged, and the whole judged
+judge-finished : (base n : ℕ) (i : List ℕ) (x : Step) → Halts x → finished (judgedOf x base n) i ≡ judge n (finished x i)
+judge-finished base n i (Next c m) h = go (leb n (c .at))
+  where
+    go : (t : Bool) → finished (pick t (Next c m) (Stop 9 (base + c .at))) i ≡ pick t (finished (Next c m) i) (refused 9)
+    go true = refl
+    go false = refl
+judge-finished base n i (Stop a p) h = rw (ne-eqb a 0 λ e. omega arith) (go (eqb a 2) (eqb a 3))
+  where
+    go : (t u : Bool) → finished (pick t (Stop 9 p) (pick u (Stop 9 p) (Stop a p))) i ≡ pick t (refused 9) (pick u (refused 9) (refused a))
+    go true u = refl
+    go false true = refl
+    go false false = refl
+
+-- the step of the value reader in an entry's span, judged
+pub entry-read : (s image i : List ℕ) (e : Entry) (x : Step) → length s ≤ limit.bytes → e .place + e .length ≤ length s
+    → ran x i ≡ run (valueIn (e .place) (spanOf s e) 0) 0 image
+    → finished (judgedOf x (e .place) (length (spanOf s e))) i ≡ valueOf s e (length image)
+entry-read s image i e x l h r =
+    let n : length (spanOf s e) ≡ e .length = simp (length-take, length-drop) (omega arith) in
+    let v = value limit.levels (spanOf s e) 0 in
+    let d = based (e .place) v in
+    let q = r ∙ ap (λ (d : Due). run d 0 image) (part-read (e .place) (spanOf s e) 0 (omega arith) (omega arith)) in
+    let w = reasoned-answers (e .place) (spanOf s e) v (reasoned limit.levels (spanOf s e) 0 (omega arith)) in
+    let a : Halts x = rw (ap (λ (y : Ran). y .step) q) (run-halts d 0 image w) in
+    rw (n, judge-finished (e .place) (e .length) i x a, finished-ran d image q)

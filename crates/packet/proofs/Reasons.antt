@@ -1,0 +1,133 @@
+-- A packet's reading goes forward and ends inside the input, lays at most three bytes for each byte that it reads, and is refused with 2, 3, 5 or 7.
+use Prim.Native.Nat.{ℕ, zero, suc, _+_, _*_, _≤_}
+use mathlib.Core.Path.{_≡_, sym, _∙_}
+use mathlib.Core.List.{List}
+use mathlib.Core.Logic.{_≢_}
+use native.Mathlib.Nat.{le-refl}
+use native.Mathlib.Omega.{arith}
+use lib.ListN.{length, length-append}
+use lib.Dec.{eqb}
+use Rattle.wire.specs.declared.cursor.Tag.{Tag}
+use Rattle.wire.specs.declared.cursor.Tag.the-variants as Tag
+use Rattle.wire.specs.Limit as limit
+use Rattle.wire.specs.Number.{number}
+use Rattle.wire.specs.Field.{bytesAt, u16At, got16, pastTag}
+use Rattle.wire.proofs.Laws.{picked}
+use Rattle.wire.proofs.Stands.{go16}
+use Rattle.image.specs.declared.record.Record.{Record}
+use Rattle.image.specs.declared.record.Record.the-variants.{Packet}
+use Rattle.image.specs.Record.{bytesOf, moved}
+use Rattle.image.specs.Due.{Due, end, stop, due, _>>=_, based, Ends, Stops}
+use Rattle.image.specs.Whole.{bytes}
+use Rattle.image.proofs.Laws.{based-zero, size-bytes, size-moved}
+use Rattle.amf0.specs.Reading.{value}
+use Rattle.amf0.specs.Why.{Why}
+use Rattle.amf0.proofs.Reasons as values
+use Rattle.amf0.proofs.Outcome.{named}
+use Rattle.packet.specs.declared.head.Entry.{Entry}
+use Rattle.packet.specs.declared.head.Head.{Head}
+use Rattle.packet.specs.declared.head.Head.the-variants as Head
+use Rattle.packet.specs.Head.{versionAt, headAt, gotHead}
+use Rattle.packet.specs.Reading.{recordOf, entriesAt, countAfter, packetAt}
+use Rattle.packet.proofs.Laws.{Field, two, Headed, head-told, Versioned, version-told, Answers}
+
+-- an answer that refuses a reading
+pub record Tells (a : ℕ) : Type 0 where
+  pub low : 2 ≤ a
+  pub high : a ≤ 7
+  pub room : a ≢ 4
+  pub tree : a ≢ 6
+
+field-tells : {a : ℕ} → Field a → Tells a
+field-tells f = record { low = omega arith; high = omega arith; room = λ e. omega arith; tree = λ e. omega arith }
+
+why-tells : {s : List ℕ} {a p : ℕ} → Why s a p → Tells a
+why-tells {s} {a} {p} w = let n = named w in record { low = n .low; high = omega arith; room = n .other; tree = λ e. omega arith }
+
+-- c bytes are laid already, in all at most three for each byte up to the end
+abbrev pub Kept : List ℕ → ℕ → Due → Type 0
+Kept s c (end n) = (c ≤ 3 * n) × (n ≤ length s)
+Kept s c (stop a p) = (c ≤ 3 * length s) × Tells a
+Kept s c (due r p d) = Kept s (c + length (bytesOf r)) d
+
+fewer : (s : List ℕ) (c b : ℕ) (d : Due) → c ≤ b → Kept s b d → Kept s c d
+fewer s c b (end n) h k = (omega arith, k .1)
+fewer s c b (stop a p) h k = (omega arith, k .1)
+fewer s c b (due r p d) h k = fewer s (c + length (bytesOf r)) (b + length (bytesOf r)) d (omega arith) k
+
+bind-kept : (s : List ℕ) (c : ℕ) (d : Due) (k : ℕ → Due) → Kept s c d → ((n : ℕ) → n ≤ length s → Kept s (3 * n) (k n)) → Kept s c (d >>= k)
+bind-kept s c (end n) k h g = fewer s c (3 * n) (k n) (h .0) (g n (h .1))
+bind-kept s c (stop a p) k h g = h
+bind-kept s c (due r p d) k h g = bind-kept s (c + length (bytesOf r)) d k h g
+
+-- a part's reading too
+pub value-kept : (b : ℕ) (s : List ℕ) (c : ℕ) (d : Due) → values.Kept s c d → Kept s c (based b d)
+value-kept b s c (end n) k = k
+value-kept b s c (stop a p) k = (k .0, why-tells (k .1))
+value-kept b s c (due r p d) k =
+    let e : length (bytesOf (moved b r)) ≡ length (bytesOf r) = size-bytes (moved b r) ∙ size-moved b r ∙ sym (size-bytes r) in
+    fewer s (c + length (bytesOf (moved b r))) (c + length (bytesOf r)) (based b d) (omega arith) (value-kept b s (c + length (bytesOf r)) d k)
+
+-- ---- a packet
+
+record-small : (e : Entry) → length (bytesOf (recordOf e)) ≤ 11
+unfolding bytesOf
+record-small e = picked (λ (r : Record). length (bytesOf r) ≤ 11) (eqb (e .kind) 0x31) _ _ (λ t. omega arith) (λ t. omega arith)
+
+entry-kept : (s : List ℕ) (at : ℕ) (k : ℕ → Due) (x : Head) → at ≤ length s → Headed s at x → ((n : ℕ) → n ≤ length s → Kept s (3 * n) (k n))
+    → Kept s (3 * at) (gotHead stop x λ e v. due (recordOf e) at (k v))
+entry-kept s at k (Head.Got e c) l h g = fewer s _ (3 * c .at) (k (c .at)) (omega (arith, record-small e, h .from)) (g (c .at) (h .within))
+entry-kept s at k (Head.Stop a p) l h g = (omega arith, field-tells h)
+
+pub plain-kept : (s : List ℕ) (at : ℕ) → at ≤ length s → Kept s (3 * at) (value limit.levels s at)
+plain-kept s at h = rw (based-zero (value limit.levels s at)) at (value-kept 0 s (3 * at) (value limit.levels s at) (values.kept limit.levels s at h))
+
+entries-kept : (kind : ℕ) (s : List ℕ) (n at : ℕ) → at ≤ length s → Kept s (3 * at) (entriesAt kind s n at)
+unfolding entriesAt
+entries-kept kind s zero at h = (le-refl _, h)
+entries-kept kind s (suc n) at h =
+    entry-kept s at (λ v. value limit.levels s v >>= entriesAt kind s n) (headAt kind s at) h (head-told s at kind)
+    (λ v l. bind-kept s (3 * v) (value limit.levels s v) (entriesAt kind s n) (plain-kept s v l) (entries-kept kind s n))
+
+version-kept : (s : List ℕ) (x : Tag) → Versioned s x
+    → Kept s 0 (pastTag stop x λ p.
+    got16 stop (u16At s p) λ h q.
+    due (Packet h (countAfter s (entriesAt 0x31 s h q))) 0
+    (entriesAt 0x31 s h q >>= λ e. got16 stop (u16At s e) λ m f. entriesAt 0x32 s m f))
+unfolding bytesOf
+version-kept s (Tag.Stop a p) v = let c = v .1 in (omega arith, record { low = v .0; high = c .high; room = c .room; tree = c .tree })
+version-kept s (Tag.Past c) v = go16 (Kept s 0) stop s (c .at) _
+    (λ i.
+    let d : Due = entriesAt 0x31 s (number (bytesAt 2 s (c .at))) (c .at + 2) in
+    bind-kept s 5 d _ (fewer s 5 (3 * (c .at + 2)) d (omega arith) (entries-kept 0x31 s _ (c .at + 2) i))
+    (λ n l. go16 (Kept s (3 * n)) stop s n _
+    (λ j. fewer s (3 * n) (3 * (n + 2)) (entriesAt 0x32 s (number (bytesAt 2 s n)) (n + 2)) (omega arith) (entries-kept 0x32 s _ (n + 2) j))
+    (λ j. (omega arith, field-tells two))))
+    (λ i. (omega arith, field-tells two))
+
+pub packet-kept : (s : List ℕ) → Kept s 0 (packetAt s)
+unfolding packetAt
+packet-kept s = version-kept s (versionAt s) (version-told s)
+
+-- ---- what that says of a reading
+
+pub small : (s : List ℕ) (c : ℕ) (d : Due) → Kept s c d → c + length (bytes d) ≤ 3 * length s
+unfolding bytes
+small s c (end n) k = omega arith
+small s c (stop a p) k = omega arith
+small s c (due r p d) k = omega (arith, small s (c + length (bytesOf r)) d k, length-append (bytesOf r) (bytes d))
+
+pub tells : (s : List ℕ) (c : ℕ) (d : Due) → Kept s c d → (a p : ℕ) → Stops d a p → Tells a
+tells s c (end n) k a p t = absurd t
+tells s c (stop b q) k a p t = rw (t .0) (k .1)
+tells s c (due r q d) k a p t = tells s (c + length (bytesOf r)) d k a p t
+
+pub answered : (s : List ℕ) (c : ℕ) (d : Due) → Kept s c d → Answers d
+answered s c (end n) k = tt
+answered s c (stop a p) k = omega (arith, k .1 .low)
+answered s c (due r p d) k = answered s (c + length (bytesOf r)) d k
+
+pub forward : (s : List ℕ) (c : ℕ) (d : Due) → Kept s c d → (n : ℕ) → Ends d n → (c ≤ 3 * n) × (n ≤ length s)
+forward s c (end m) k n e = (omega arith, omega arith)
+forward s c (stop a p) k n e = absurd e
+forward s c (due r p d) k n e = let f = forward s (c + length (bytesOf r)) d k n e in (omega arith, f .1)

@@ -1,0 +1,65 @@
+-- `version` meets its contract: a zero and the version, each a field of its own.
+use mathlib.Core.Path.{sym, _∙_}
+use borrow.Author.Tests.{ne-eqb}
+use Rattle.packet.specs.Head.{versionAt}
+use borrow.Author.Needs.{needs}
+use Rattle.packet.proofs.head.version.Statement.{statement}
+use Rattle.packet.proofs.head.version.Tie as tie
+
+slice-aggregate-tag : tie.Need-slice-aggregate-tag
+slice-aggregate-tag c = search needs
+
+tag-requires : tie.Need-tag-requires
+tag-requires c κs = search needs
+
+enum-known-a : tie.Need-enum-known-a
+enum-known-a c = search needs
+
+enum-known-d : tie.Need-enum-known-d
+enum-known-d c = search needs
+
+be-u8-requires : tie.Need-be-u8-requires
+be-u8-requires c κs = search needs
+
+enum-known-a-2 : tie.Need-enum-known-a-2
+enum-known-a-2 c = search needs
+
+enum-known-v : tie.Need-enum-known-v
+enum-known-v c = search needs
+
+returns : tie.Need-returns
+unfolding versionAt
+returns c = rw (sym (c .before .before .before .tag .ensures) ∙ c .before .a .given .1)
+
+returns-2 : tie.Need-returns-2
+unfolding versionAt
+returns-2 c = rw (sym (c .before .before .before .before .before .before .before .tag .ensures) ∙ c .before .before .before .before .before .d .given .1, sym (c .before .before .before .be-u8 .ensures) ∙ c .before .a2 .given .1)
+
+returns-3 : tie.Need-returns-3
+unfolding versionAt
+returns-3 c = rw (sym (c .before .before .before .before .before .before .before .before .tag .ensures) ∙ c .before .before .before .before .before .before .d .given .1, sym (c .before .before .before .before .be-u8 .ensures) ∙ c .before .before .v .given .1, c .match3 .keys1)
+
+returns-4 : tie.Need-returns-4
+unfolding versionAt
+returns-4 c = rw (sym (c .before .before .before .before .before .before .before .before .tag .ensures) ∙ c .before .before .before .before .before .before .d .given .1, sym (c .before .before .before .before .be-u8 .ensures) ∙ c .before .before .v .given .1, c .match3 .keys2)
+
+returns-5 : tie.Need-returns-5
+unfolding versionAt
+returns-5 c = rw (sym (c .before .before .before .before .before .before .before .before .tag .ensures) ∙ c .before .before .before .before .before .before .d .given .1, sym (c .before .before .before .before .be-u8 .ensures) ∙ c .before .before .v .given .1, ne-eqb _ 0 (c .match3 .rest .0 .1), ne-eqb _ 3 (c .match3 .rest .1))
+
+pub version-spec : {M : Type 1} → statement M
+version-spec =
+    tie.close
+    (tie.spec
+    slice-aggregate-tag
+    tag-requires
+    enum-known-a
+    enum-known-d
+    be-u8-requires
+    enum-known-a-2
+    enum-known-v
+    returns
+    returns-2
+    returns-3
+    returns-4
+    returns-5)

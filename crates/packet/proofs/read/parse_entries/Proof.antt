@@ -1,0 +1,194 @@
+-- `parse_entries` meets its contract. The invariant: the whole reading from the start is what is left from here.
+use Prim.Native.Nat.{ℕ, _-_, _≤_}
+use mathlib.Core.Path.{_≡_, refl, sym, _∙_}
+use native.Mathlib.Nat.{le-refl}
+use native.Mathlib.Omega.{arith}
+use lib.ListN.{length}
+use denote.Ref.{now}
+use Rattle.wire.specs.Limit.{levels}
+use Rattle.image.specs.Due.{Due, end, due, _>>=_, run}
+use Rattle.image.proofs.Laws.{run-then, run-halt, run-stop, run-end, within-stop, within-next}
+use Rattle.amf0.specs.Reading.{value}
+use Rattle.packet.specs.Reading.{recordOf, entriesAt}
+use Rattle.packet.proofs.Laws.{head-begun}
+use Rattle.packet.proofs.Packing.{value-read, entries-done, entries-cut, entries-more}
+use borrow.Author.Needs.{needs}
+use Rattle.packet.proofs.read.parse_entries.Statement.{statement}
+use Rattle.packet.proofs.read.parse_entries.Tie as tie
+
+abbrev Inv-loop : tie.InvT-loop
+Inv-loop image₀ s kind done n c₀ made₀ k₀ image c made k =
+    (c₀ .at ≤ c .at) ×
+    (c .at ≤ length s) ×
+    (made ≤ length image) ×
+    (length image ≡ length image₀) ×
+    (run (entriesAt kind s n (c₀ .at)) done image₀ ≡ run (entriesAt kind s k (c .at)) made image)
+
+abbrev μ-loop : tie.MeasureT-loop
+μ-loop image₀ s kind done n c₀ made₀ k₀ image c made k = k
+
+loop-holds : tie.Need-loop-holds Inv-loop μ-loop
+loop-holds c = let p = c .before .before .pre in (le-refl _, p .1, p .2, refl, refl)
+
+head-at-requires : tie.Need-head-at-requires Inv-loop μ-loop
+head-at-requires c κs = search needs
+
+enum-known-a : tie.Need-enum-known-a Inv-loop μ-loop
+enum-known-a c = search needs
+
+same-length : tie.Need-same-length Inv-loop μ-loop
+same-length c = search needs
+
+returns : tie.Need-returns Inv-loop μ-loop
+returns c =
+    let a = c .before .before .before .before .before .before .before .before .args in
+    let l = c .before .before .before .before .before .loop in
+    let e = sym (c .before .before .before .head-at .ensures) ∙ c .before .a .given .1 in
+    (rw (l .inv .4, entries-cut (a .kind) (now (a .s)) (l .k) (l .c .at) (c .before .before .before .before .loop-test .taken) e) (sym (run-stop _ _ _ _)), within-stop)
+
+enum-known-e : tie.Need-enum-known-e Inv-loop μ-loop
+enum-known-e c = search needs
+
+record-of-requires : tie.Need-record-of-requires Inv-loop μ-loop
+record-of-requires c κs = search needs
+
+put-requires : tie.Need-put-requires Inv-loop μ-loop
+put-requires c κs = search needs
+
+enum-known-a-2 : tie.Need-enum-known-a-2 Inv-loop μ-loop
+enum-known-a-2 c = search needs
+
+same-length-2 : tie.Need-same-length-2 Inv-loop μ-loop
+same-length-2 c = search needs
+
+returns-2 : tie.Need-returns-2 Inv-loop μ-loop
+returns-2 c =
+    let a = c .before .before .before .before .before .before .before .before .before .before .before .before .before .before .before .before .args in
+    let l = c .before .before .before .before .before .before .before .before .before .before .before .before .before .loop in
+    let s = now (a .s) in
+    let u = c .before .before .before .before .before .before .before .before .before .e .given .0 in
+    let e = sym (c .before .before .before .before .before .before .before .before .before .before .before .head-at .ensures) ∙ c .before .before .before .before .before .before .before .before .before .e .given .1 in
+    let d = due (recordOf (u .0)) (l .c .at) (end (u .1 .0 .at)) in
+    let k : ℕ → Due = λ v. value levels s v >>= entriesAt (a .kind) s (l .k - 1) in (
+      rw (l .inv .4, entries-more (a .kind) s (l .k) (l .c .at) (c .before .before .before .before .before .before .before .before .before .before .before .before .loop-test .taken) e)
+          (sym (run-halt d k _ _ (rw (c .before .before .before .before .before .before .record-of .ensures, c .before .a2 .given .1) at (c .before .before .before .before .before .put .ensures .0)))),
+      within-stop,
+    )
+
+enum-known-v : tie.Need-enum-known-v Inv-loop μ-loop
+enum-known-v c = search needs
+
+parse-value-requires : tie.Need-parse-value-requires Inv-loop μ-loop
+parse-value-requires c κs = search needs
+
+enum-known-a-3 : tie.Need-enum-known-a-3 Inv-loop μ-loop
+enum-known-a-3 c = search needs
+
+same-length-3 : tie.Need-same-length-3 Inv-loop μ-loop
+same-length-3 c = search needs
+
+-- the entry's record is laid, and its value and the other entries are left to read
+record Laid (c : tie.After-known-told4 Inv-loop μ-loop) : Type 0 where
+  from : c .before .before .before .before .before .before .before .before .before .before .before .before .before .loop .c .at ≤ c .before .v .given .0 .0 .at
+  within : c .before .v .given .0 .0 .at ≤ length (now (c .before .before .before .before .before .before .before .before .before .before .before .before .before .before .before .before .args .s))
+  same : let a = c .before .before .before .before .before .before .before .before .before .before .before .before .before .before .before .before .args in
+      let s = now (a .s) in
+      let v = c .before .v .given .0 in
+      run (entriesAt (a .kind) s (a .n) (a .start .at)) (a .done) (now (a .image))
+      ≡ run (value levels s (v .0 .at) >>= entriesAt (a .kind) s (c .before .before .before .before .before .before .before .before .before .before .before .before .before .loop .k - 1)) (v .1 .0) (c .before .before .before .before .before .put .last .0)
+
+laid : (c : tie.After-known-told4 Inv-loop μ-loop) → Laid c
+laid c =
+    let a = c .before .before .before .before .before .before .before .before .before .before .before .before .before .before .before .before .args in
+    let l = c .before .before .before .before .before .before .before .before .before .before .before .before .before .loop in
+    let s = now (a .s) in
+    let u = c .before .before .before .before .before .before .before .before .before .e .given .0 in
+    let v = c .before .v .given .0 in
+    let e = sym (c .before .before .before .before .before .before .before .before .before .before .before .head-at .ensures) ∙ c .before .before .before .before .before .before .before .before .before .e .given .1 in
+    let h = head-begun s (l .c .at) (a .kind) e in
+    let b = c .before .before .before .before .before .put .ensures .1 .bounds (v .0) (v .1 .0) (c .before .v .given .1) in
+    let d = due (recordOf (u .0)) (l .c .at) (end (u .1 .0 .at)) in
+    let k : ℕ → Due = λ v. value levels s v >>= entriesAt (a .kind) s (l .k - 1) in
+    record {
+      from = omega arith;
+      within = omega arith;
+      same =
+          rw (l .inv .4, entries-more (a .kind) s (l .k) (l .c .at) (c .before .before .before .before .before .before .before .before .before .before .before .before .loop-test .taken) e)
+          (run-then d k _ _ (rw (c .before .before .before .before .before .before .record-of .ensures, c .before .v .given .1) at (c .before .before .before .before .before .put .ensures .0)));
+    }
+
+returns-3 : tie.Need-returns-3 Inv-loop μ-loop
+returns-3 c =
+    let a = c .before .before .before .before .before .before .before .before .before .before .before .before .before .before .before .before .before .before .before .before .before .before .before .args in
+    let s = now (a .s) in
+    let k = laid (c .before .before .before .before .before .before .before) in
+    let v = c .before .before .before .before .before .before .before .before .v .given .0 in (
+      rw (k .same)
+          (sym (run-halt (value levels s (v .0 .at)) (entriesAt (a .kind) s (c .before .before .before .before .before .before .before .before .before .before .before .before .before .before .before .before .before .before .before .before .loop .k - 1)) _ _ (rw (value-read s (v .0 .at) (c .before .before .before .before .before .before .before .before .before .before .before .before .before .before .before .before .before .before .before .before .before .before .before .pre .0) (k .within), c .before .a3 .given .1) at (c .before .before .before .before .before .parse-value .ensures .0)))),
+      within-stop,
+    )
+
+enum-known-f : tie.Need-enum-known-f Inv-loop μ-loop
+enum-known-f c = search needs
+
+sub-k : tie.Need-sub-k Inv-loop μ-loop
+sub-k c = search needs
+
+loop-less : tie.Need-loop-less Inv-loop μ-loop
+loop-less c = search needs
+
+loop-again : tie.Need-loop-again Inv-loop μ-loop
+loop-again c =
+    let a = c .before .before .before .before .before .before .before .before .before .before .before .before .before .before .before .before .before .before .before .before .before .before .before .args in
+    let l = c .before .before .before .before .before .before .before .before .before .before .before .before .before .before .before .before .before .before .before .before .loop in
+    let s = now (a .s) in
+    let k = laid (c .before .before .before .before .before .before .before) in
+    let v = c .before .before .before .before .before .before .before .before .v .given .0 in
+    let f = c .before .f .given .0 in
+    let b = c .before .before .before .before .before .parse-value .ensures .1 .bounds (f .0) (f .1 .0) (c .before .f .given .1) in
+    let n = c .before .before .before .before .before .parse-value .kept .0 in
+    let m = c .before .before .before .before .before .before .before .before .before .before .before .before .put .kept .0 in (
+      omega arith,
+      omega arith,
+      omega arith,
+      omega arith,
+      rw (k .same) (run-then (value levels s (v .0 .at)) (entriesAt (a .kind) s (l .k - 1)) _ _ (rw (value-read s (v .0 .at) (c .before .before .before .before .before .before .before .before .before .before .before .before .before .before .before .before .before .before .before .before .before .before .before .pre .0) (k .within), c .before .f .given .1) at (c .before .before .before .before .before .parse-value .ensures .0))),
+    )
+
+same-length-4 : tie.Need-same-length-4 Inv-loop μ-loop
+same-length-4 c = search needs
+
+returns-4 : tie.Need-returns-4 Inv-loop μ-loop
+returns-4 c =
+    let a = c .before .before .before .before .args in
+    let l = c .before .loop in
+    (rw (l .inv .4, entries-done (a .kind) (now (a .s)) (l .k) (l .c .at) (c .loop-test .left)) (sym (run-end _ _ _)), within-next (l .inv .0) (l .inv .1) (omega arith))
+
+pub parse-entries-spec : {M : Type 1} → statement M
+parse-entries-spec =
+    tie.close
+    (tie.spec
+    Inv-loop
+    μ-loop
+    loop-holds
+    head-at-requires
+    enum-known-a
+    same-length
+    returns
+    enum-known-e
+    record-of-requires
+    put-requires
+    enum-known-a-2
+    same-length-2
+    returns-2
+    enum-known-v
+    parse-value-requires
+    enum-known-a-3
+    same-length-3
+    returns-3
+    enum-known-f
+    sub-k
+    loop-less
+    loop-again
+    same-length-4
+    returns-4)

@@ -1,0 +1,201 @@
+-- `parse_packet` meets its contract.
+use Prim.Native.Nat.{ℕ, _≤_}
+use mathlib.Core.Path.{_≡_, sym, _∙_}
+use native.Mathlib.Nat.{le-refl}
+use native.Mathlib.Omega.{arith}
+use lib.ListN.{length}
+use denote.Ref.{now}
+use borrow.Author.Tests.{le-leb, lt-leb}
+use Rattle.wire.specs.declared.cursor.U16.the-variants as U16
+use Rattle.wire.specs.declared.cursor.Tag.the-variants as Tag
+use Rattle.wire.specs.Limit.{bytes}
+use Rattle.wire.specs.Field.{u16At}
+use Rattle.wire.proofs.Laws.{u16-next}
+use Rattle.image.specs.declared.record.Record.the-variants.{Packet}
+use Rattle.image.specs.Record.{bytesOf}
+use Rattle.image.specs.Due.{Due, due, end, _>>=_, run}
+use Rattle.image.specs.Whole.{bytes as whole-bytes}
+use Rattle.image.proofs.Laws.{run-then, run-halt, within, within-stop}
+use Rattle.packet.specs.Head.{versionAt}
+use Rattle.packet.specs.Reading.{entriesAt, packetAt}
+use Rattle.packet.proofs.Packing.{messagesAt, uncounted, run-next, packed-none, packed-stop, packed-messages}
+use borrow.Author.Needs.{needs}
+use Rattle.packet.proofs.read.parse_packet.Statement.{statement}
+use Rattle.packet.proofs.read.parse_packet.Tie as tie
+
+returns : tie.Need-returns
+unfolding packetAt
+returns c = (packed-none _ _ (rw (lt-leb _ _ (c .if1 .taken))), within-stop)
+
+version-requires : tie.Need-version-requires
+version-requires c κs = search needs
+
+enum-known-a : tie.Need-enum-known-a
+enum-known-a c = search needs
+
+enum-known-c : tie.Need-enum-known-c
+enum-known-c c = search needs
+
+be-u16-requires : tie.Need-be-u16-requires
+be-u16-requires c κs = search needs
+
+enum-known-a-2 : tie.Need-enum-known-a-2
+enum-known-a-2 c = search needs
+
+enum-known-h : tie.Need-enum-known-h
+enum-known-h c = search needs
+
+put-requires : tie.Need-put-requires
+put-requires c κs = search needs
+
+enum-known-a-3 : tie.Need-enum-known-a-3
+enum-known-a-3 c = search needs
+
+enum-known-e : tie.Need-enum-known-e
+enum-known-e c = search needs
+
+-- the packet's record is laid, with no count of messages, and the headers are left to read
+record Begun (c : tie.After-known-told6) : Type 0 where
+  short : length (now (c .before .before .before .before .before .before .before .before .before .before .before .before .before .before .before .before .before .before .args .s)) ≤ bytes
+  version : versionAt (now (c .before .before .before .before .before .before .before .before .before .before .before .before .before .before .before .before .before .before .args .s)) ≡ Tag.Past (c .before .before .before .before .before .before .before .before .before .before .before .before .c .given .0 .0)
+  count : u16At (now (c .before .before .before .before .before .before .before .before .before .before .before .before .before .before .before .before .before .before .args .s)) (c .before .before .before .before .before .before .before .before .before .before .before .before .c .given .0 .0 .at) ≡ U16.Got (c .before .before .before .before .before .before .before .before .h .given .0 .0) (c .before .before .before .before .before .before .before .before .h .given .0 .1 .0)
+  place : c .before .e .given .0 .0 .at ≡ c .before .before .before .before .before .before .before .before .h .given .0 .1 .0 .at
+  within : c .before .e .given .0 .0 .at ≤ length (now (c .before .before .before .before .before .before .before .before .before .before .before .before .before .before .before .before .before .before .args .s))
+  made : c .before .e .given .0 .1 .0 ≡ 5
+  room : c .before .e .given .0 .1 .0 ≤ length (c .before .before .before .before .before .put .last .0)
+  same : let s = now (c .before .before .before .before .before .before .before .before .before .before .before .before .before .before .before .before .before .before .args .s) in
+      let h = c .before .before .before .before .before .before .before .before .h .given .0 in
+      let e = c .before .e .given .0 in
+      run (uncounted s (h .0) (h .1 .0 .at)) 0 (now (c .before .before .before .before .before .before .before .before .before .before .before .before .before .before .before .before .before .before .args .image)) ≡ run (entriesAt 0x31 s (h .0) (e .0 .at) >>= messagesAt s) (e .1 .0) (c .before .before .before .before .before .put .last .0)
+
+begun : (c : tie.After-known-told6) → Begun c
+unfolding whole-bytes bytesOf
+begun c =
+    let s = now (c .before .before .before .before .before .before .before .before .before .before .before .before .before .before .before .before .before .before .args .s) in
+    let h = c .before .before .before .before .before .before .before .before .h .given .0 in
+    let e = c .before .e .given .0 in
+    let u = sym (c .before .before .before .before .before .before .before .before .before .before .be-u16 .ensures) ∙ c .before .before .before .before .before .before .before .before .h .given .1 in
+    let r = u16-next s _ _ _ u in
+    let b = c .before .before .before .before .before .put .ensures .1 .bounds (e .0) (e .1 .0) (c .before .e .given .1) in
+    let p = rw (c .before .e .given .1) at (c .before .before .before .before .before .put .ensures .0) in
+    let d = due (Packet (h .0) 0) 0 (end (h .1 .0 .at)) in
+    let k : ℕ → Due = λ v. entriesAt 0x31 s (h .0) v >>= messagesAt s in
+    let n = run-next d 0 (now (c .before .before .before .before .before .before .before .before .before .before .before .before .before .before .before .before .before .before .args .image)) p in
+    let m = c .before .before .before .before .before .put .kept .0 in
+    record {
+      short = c .before .before .before .before .before .before .before .before .before .before .before .before .before .before .before .if1 .left;
+      version = sym (c .before .before .before .before .before .before .before .before .before .before .before .before .before .before .version .ensures) ∙ c .before .before .before .before .before .before .before .before .before .before .before .before .c .given .1;
+      count = u;
+      place = omega arith;
+      within = omega arith;
+      made = omega (arith, n .0);
+      room = omega arith;
+      same = run-then d k _ _ p;
+    }
+
+parse-entries-requires : tie.Need-parse-entries-requires
+parse-entries-requires c κs = let b = begun (c .before) in (b .short, b .within, b .room)
+
+enum-known-a-4 : tie.Need-enum-known-a-4
+enum-known-a-4 c = search needs
+
+enum-known-f : tie.Need-enum-known-f
+enum-known-f c = search needs
+
+parse-messages-requires : tie.Need-parse-messages-requires
+parse-messages-requires c κs =
+    let b = begun (c .before .before .before .before .before .before .before .before) in
+    let e = c .before .before .before .before .before .before .before .before .before .e .given .0 in
+    let f = c .before .before .f .given .0 in
+    let r = rw (c .before .before .f .given .1) at (c .before .before .before .before .before .before .parse-entries .ensures .0) in
+    let n = run-next (entriesAt 0x31 (now (c .before .before .before .before .before .before .before .before .before .before .before .before .before .before .before .before .before .before .before .before .before .before .before .before .before .before .args .s)) (c .before .before .before .before .before .before .before .before .before .before .before .before .before .before .before .before .h .given .0 .0) (e .0 .at)) (e .1 .0) (c .before .before .before .before .before .before .before .before .before .before .before .before .before .put .last .0) r in
+    let w = c .before .before .before .before .before .before .parse-entries .ensures .1 .bounds (f .0) (f .1 .0) (c .before .before .f .given .1) in
+    let k = c .before .before .before .before .before .before .parse-entries .kept .0 in
+    (b .short, w .1, omega arith, omega (arith, n .0, b .made))
+
+returns-2 : tie.Need-returns-2
+unfolding packetAt
+returns-2 c =
+    let a = c .before .before .before .before .before .before .before .args in
+    (packed-none (now (a .s)) (now (a .image)) (rw (le-leb (length (now (a .s))) bytes (c .before .before .before .before .if1 .left), sym (c .before .before .before .version .ensures) ∙ c .before .a .given .1)), within-stop)
+
+returns-3 : tie.Need-returns-3
+unfolding packetAt
+returns-3 c =
+    let a = c .before .before .before .before .before .before .before .before .before .before .before .args in
+    (packed-none (now (a .s)) (now (a .image)) (rw (le-leb (length (now (a .s))) bytes (c .before .before .before .before .before .before .before .before .if1 .left), sym (c .before .before .before .before .before .before .before .version .ensures) ∙ c .before .before .before .before .before .c .given .1, sym (c .before .before .before .be-u16 .ensures) ∙ c .before .a2 .given .1)), within-stop)
+
+same-length : tie.Need-same-length
+same-length c = search needs
+
+returns-4 : tie.Need-returns-4
+returns-4 c =
+    let a = c .before .before .before .before .before .before .before .before .before .before .before .before .before .before .before .before .before .before .args in
+    let s = now (a .s) in
+    let h = c .before .before .before .before .before .before .before .before .h .given .0 in
+    let k : ℕ → Due = λ v. entriesAt 0x31 s (h .0) v >>= messagesAt s in (
+      packed-stop s (now (a .image)) (c .before .before .before .before .before .before .before .before .before .before .before .before .before .before .before .if1 .left) (sym (c .before .before .before .before .before .before .before .before .before .before .before .before .before .before .version .ensures) ∙ c .before .before .before .before .before .before .before .before .before .before .before .before .c .given .1) (sym (c .before .before .before .before .before .before .before .before .before .before .be-u16 .ensures) ∙ c .before .before .before .before .before .before .before .before .h .given .1)
+          (run-halt (due (Packet (h .0) 0) 0 (end (h .1 .0 .at))) k _ _ (rw (c .before .a3 .given .1) at (c .before .before .before .before .before .put .ensures .0))),
+      within-stop,
+    )
+
+same-length-2 : tie.Need-same-length-2
+same-length-2 c = search needs
+
+returns-5 : tie.Need-returns-5
+returns-5 c =
+    let a = c .before .before .before .before .before .before .before .before .before .before .before .before .before .before .before .before .before .before .before .before .before .before .before .before .before .args in
+    let s = now (a .s) in
+    let b = begun (c .before .before .before .before .before .before .before) in
+    let d = entriesAt 0x31 s (c .before .before .before .before .before .before .before .before .before .before .before .before .before .before .before .h .given .0 .0) (c .before .before .before .before .before .before .before .before .e .given .0 .0 .at) in (
+      packed-stop s (now (a .image)) (b .short) (b .version) (b .count)
+          (b .same ∙ run-halt d (messagesAt s) _ _ (rw (c .before .a4 .given .1) at (c .before .before .before .before .before .parse-entries .ensures .0))),
+      within-stop,
+    )
+
+same-length-3 : tie.Need-same-length-3
+same-length-3 c = search needs
+
+returns-6 : tie.Need-returns-6
+returns-6 c =
+    let a = c .before .before .before .before .before .before .before .before .before .before .before .before .before .before .before .before .before .before .before .before .before .before .before .before .before .before .before .before .before .args in
+    let s = now (a .s) in
+    let b = begun (c .before .before .before .before .before .before .before .before .before .before .before) in
+    let e = c .before .before .before .before .before .before .before .before .before .before .before .before .e .given .0 in
+    let f = c .before .before .before .before .before .f .given .0 in
+    let d = entriesAt 0x31 s (c .before .before .before .before .before .before .before .before .before .before .before .before .before .before .before .before .before .before .before .h .given .0 .0) (e .0 .at) in
+    let r = rw (c .before .before .before .before .before .f .given .1) at (c .before .before .before .before .before .before .before .before .before .parse-entries .ensures .0) in
+    let n = run-next d (e .1 .0) (c .before .before .before .before .before .before .before .before .before .before .before .before .before .before .before .before .put .last .0) r in
+    let k = c .before .before .before .before .before .before .before .before .before .parse-entries .kept .0 in
+    let m = c .before .before .before .before .before .before .before .before .before .before .before .before .before .before .before .before .put .kept .0 in (
+      packed-messages s (now (a .image)) (b .short) (b .version) (b .count) (f .0 .at) (f .1 .0) (c .before .before .before .before .before .before .before .before .before .parse-entries .last .0) (omega (arith, n .0, b .made))
+          (rw (b .place) at (n .1)) (b .same ∙ run-then d (messagesAt s) _ _ r) (c .before .before .parse-messages .ensures .0),
+      within (c .before .before .parse-messages .ensures .1) (omega arith) (le-refl _) (omega arith),
+    )
+
+pub parse-packet-spec : {M : Type 1} → statement M
+parse-packet-spec =
+    tie.close
+    (tie.spec
+    returns
+    version-requires
+    enum-known-a
+    enum-known-c
+    be-u16-requires
+    enum-known-a-2
+    enum-known-h
+    put-requires
+    enum-known-a-3
+    enum-known-e
+    parse-entries-requires
+    enum-known-a-4
+    enum-known-f
+    parse-messages-requires
+    returns-2
+    returns-3
+    same-length
+    returns-4
+    same-length-2
+    returns-5
+    same-length-3
+    returns-6)

@@ -1,0 +1,10 @@
+-- The fields round a packet's values (Head), the packet as the Rust has it (Packet), what reading one whole finds and comes to (Reading) and shows (Shown),
+-- the cut and the reading by entry (Entry), when each call is refused (Why), and what a change inside values is (Change).
+pub mod Head
+pub mod Packet
+pub mod Reading
+pub mod Shown
+pub mod Entry
+pub mod Why
+pub mod Change
+pub mod Code

@@ -1,0 +1,52 @@
+-- What reading a whole packet finds, and what it comes to in a room: document 01, "Packet".
+use Prim.Native.Nat.{ℕ, zero, suc}
+use mathlib.Core.List.{List}
+use lib.ListN.{length}
+use lib.Dec.{leb, eqb}
+use Rattle.wire.specs.Choice.{pick}
+use Rattle.wire.specs.Limit as limit
+use Rattle.wire.specs.Field.{u16At, got16, pastTag}
+use Rattle.image.specs.declared.record.Record.{Record}
+use Rattle.image.specs.declared.record.Record.the-variants.{Packet, Header, Message}
+use Rattle.image.specs.Due.{Due, end, stop, due, _>>=_}
+use Rattle.image.specs.Whole.{Whole, settled, refused}
+use Rattle.amf0.specs.Reading.{value}
+use Rattle.packet.specs.declared.head.Entry.{Entry}
+use Rattle.packet.specs.Head.{versionAt, headAt, gotHead}
+
+-- the record of an entry
+abbrev pub recordOf : Entry → Record
+recordOf e =
+    pick (eqb (e .kind) 0x31)
+    (Header (e .place1) (e .length1) (eqb (e .flag) 1))
+    (Message (e .place1) (e .length1) (e .place2) (e .length2))
+
+-- n entries of a kind: the record is due after the length field, which is not looked at, and then the value is read
+unfoldable pub entriesAt : ℕ → List ℕ → ℕ → ℕ → Due
+entriesAt kind s zero at = end at
+entriesAt kind s (suc n) at =
+    gotHead stop (headAt kind s at) λ e v. due (recordOf e) at (value limit.levels s v >>= entriesAt kind s n)
+
+-- the count of messages, behind the headers; 0 where it can't be read, since the reading is refused then
+abbrev pub countAfter : List ℕ → Due → ℕ
+countAfter s (end n) = got16 (λ a p. 0) (u16At s n) λ m p. m
+countAfter s (stop a p) = 0
+countAfter s (due r p d) = countAfter s d
+
+-- the packet: its record has both counts, and is due after the count of headers
+unfoldable pub packetAt : List ℕ → Due
+packetAt s =
+    pastTag stop (versionAt s) λ p.
+    got16 stop (u16At s p) λ h q.
+    due (Packet h (countAfter s (entriesAt 0x31 s h q))) 0
+    (entriesAt 0x31 s h q >>= λ e. got16 stop (u16At s e) λ m f. entriesAt 0x32 s m f)
+
+unfoldable pub incompleteOf : List ℕ → ℕ → Whole
+incompleteOf s room = pick (leb (length s) limit.bytes) (settled (packetAt s) room) (refused 1)
+
+-- the whole reading: bytes left over are 3, after everything else
+abbrev pub all : List ℕ → Whole → Whole
+all s w = pick (eqb (w .reading .answer) 0) (pick (leb (length s) (w .reading .used)) w (refused 3)) w
+
+unfoldable pub wholeOf : List ℕ → ℕ → Whole
+wholeOf s room = all s (incompleteOf s room)

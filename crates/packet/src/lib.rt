@@ -1,0 +1,4 @@
+// The AMF packet: read and written whole, and cut into its entries by the lengths that it declares, each of which is read by itself.
+pub mod entry;
+pub mod head;
+pub mod read;
