@@ -113,9 +113,6 @@ entry-told kind s at = go (headAt kind s at) (head-told s at kind)
     go (Head.Stop a p) h = h
 
 module _ (kind : ℕ) (s : List ℕ) (at : ℕ) where
-  pub entry-spanned : {e : Entry} {c : Cursor} → entryAt kind s at ≡ Head.Got e c → Spanned s at e (c .at)
-  entry-spanned h = rw h at (entry-told kind s at)
-
   pub entry-cut : {a p : ℕ} → headAt kind s at ≡ Head.Stop a p → entryAt kind s at ≡ Head.Stop a p
   unfolding entryAt
   entry-cut h = rw h

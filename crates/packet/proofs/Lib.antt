@@ -1,5 +1,5 @@
 -- `Demand3` is the customer's third demand; `Theorems` has what is proved of the calls one by one, `PacketTheorems` of packets as the Rust has them. The
--- files below each are what it is proved by; `Laws` and `Packing` are what the proofs of the functions cite.
+-- files below each are what it is proved by; `Laws`, `Packing` and `Putting` are what the proofs of the functions cite.
 pub mod Demand3
 pub mod Same
 pub mod Frame
@@ -16,3 +16,4 @@ pub mod Items
 pub mod Whole
 pub mod Laws
 pub mod Packing
+pub mod Putting

@@ -28,7 +28,7 @@ use Rattle.packet.specs.declared.head.Entry.{Entry}
 use Rattle.packet.specs.declared.head.Head.{Head}
 use Rattle.packet.specs.declared.head.Head.the-variants as Head
 use Rattle.packet.specs.Head.{versionAt, headAt, gotHead}
-use Rattle.packet.specs.Reading.{recordOf, entriesAt, countAfter, packetAt}
+use Rattle.packet.specs.Reading.{recordOf, entriesAt, packetAt}
 use Rattle.packet.proofs.Laws.{Field, two, Headed, head-told, Versioned, version-told, Answers}
 
 -- an answer that refuses a reading
@@ -89,14 +89,15 @@ entries-kept kind s (suc n) at h =
     entry-kept s at (λ v. value limit.levels s v >>= entriesAt kind s n) (headAt kind s at) h (head-told s at kind)
     (λ v l. bind-kept s (3 * v) (value limit.levels s v) (entriesAt kind s n) (plain-kept s v l) (entries-kept kind s n))
 
-version-kept : (s : List ℕ) (x : Tag) → Versioned s x
+-- whatever count of messages the packet's record has
+version-kept : (s : List ℕ) (n : ℕ → ℕ → ℕ) (x : Tag) → Versioned s x
     → Kept s 0 (pastTag stop x λ p.
     got16 stop (u16At s p) λ h q.
-    due (Packet h (countAfter s (entriesAt 0x31 s h q))) 0
+    due (Packet h (n h q)) 0
     (entriesAt 0x31 s h q >>= λ e. got16 stop (u16At s e) λ m f. entriesAt 0x32 s m f))
 unfolding bytesOf
-version-kept s (Tag.Stop a p) v = let c = v .1 in (omega arith, record { low = v .0; high = c .high; room = c .room; tree = c .tree })
-version-kept s (Tag.Past c) v = go16 (Kept s 0) stop s (c .at) _
+version-kept s n (Tag.Stop a p) v = let c = v .1 in (omega arith, record { low = v .0; high = c .high; room = c .room; tree = c .tree })
+version-kept s n (Tag.Past c) v = go16 (Kept s 0) stop s (c .at) _
     (λ i.
     let d : Due = entriesAt 0x31 s (number (bytesAt 2 s (c .at))) (c .at + 2) in
     bind-kept s 5 d _ (fewer s 5 (3 * (c .at + 2)) d (omega arith) (entries-kept 0x31 s _ (c .at + 2) i))
@@ -107,7 +108,7 @@ version-kept s (Tag.Past c) v = go16 (Kept s 0) stop s (c .at) _
 
 pub packet-kept : (s : List ℕ) → Kept s 0 (packetAt s)
 unfolding packetAt
-packet-kept s = version-kept s (versionAt s) (version-told s)
+packet-kept s = version-kept s _ (versionAt s) (version-told s)
 
 -- ---- what that says of a reading
 

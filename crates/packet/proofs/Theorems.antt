@@ -21,7 +21,7 @@ use Rattle.packet.specs.Entry.{Cut, found, stops, cutOf, spanOf, entryIn
 use Rattle.packet.specs.Code.{foundIn}
 use Rattle.packet.specs.Why.{Comes, ComesEntry, inEntry}
 use Rattle.packet.proofs.Laws.{Splits, cut-told}
-use Rattle.packet.proofs.Reasons.{packet-kept, small, tells}
+use Rattle.packet.proofs.Reasons.{packet-kept, small, tells, forward}
 use Rattle.packet.proofs.Outcome.{comes, comes-entry, entry-kept}
 
 -- ---- one outcome
@@ -183,14 +183,25 @@ entry-over-limit s number room = (
 
 -- ---- acceptances
 
--- What `parse` accepts it has used to the last byte.
-pub parse-uses-all : (s : List ℕ) (room : ℕ) → wholeOf s room .reading .answer ≡ 0 → length s ≤ wholeOf s room .reading .used
+-- What `parse_incomplete` accepts ends inside the input, and what `parse` accepts it has used to the last byte.
+pub incomplete-uses : (s : List ℕ) (room : ℕ) → incompleteOf s room .reading .answer ≡ 0 → incompleteOf s room .reading .used ≤ length s
+incomplete-uses s room = go (incompleteOf s room) (comes s room)
+  where
+    go : (w : Whole) → Comes s room w → w .reading .answer ≡ 0 → w .reading .used ≤ length s
+    go w (Comes.over-limit i) e = absurd (omega arith)
+    go w (Comes.no-room i j) e = omega arith
+    go w (Comes.not-read p i j t) e = omega arith
+    go w (Comes.read i j f) e = forward s 0 (packetAt s) (packet-kept s) _ f .1
+
+pub parse-uses-all : (s : List ℕ) (room : ℕ) → wholeOf s room .reading .answer ≡ 0 → wholeOf s room .reading .used ≡ length s
 unfolding wholeOf
 parse-uses-all s room =
     let w = incompleteOf s room in
-    let P : Whole → Type 0 = λ x. x .reading .answer ≡ 0 → length s ≤ x .reading .used in
+    let P : Whole → Type 0 = λ x. x .reading .answer ≡ 0 → x .reading .used ≡ length s in
     picked P (eqb (w .reading .answer) 0) _ _
-    (λ t. picked P (leb (length s) (w .reading .used)) _ _ (λ u e. leb-true _ _ u) (λ u e. absurd (omega arith)))
+    (λ t. picked P (leb (length s) (w .reading .used)) _ _
+    (λ u e. let h = leb-true (length s) (w .reading .used) u in omega (arith, incomplete-uses s room e))
+    (λ u e. absurd (omega arith)))
     (λ t e. absurd (eqb-false _ 0 t e))
 
 -- What `parse_entry` accepts is an entry of the cut: the bytes used are those of its span, and the image is that of the value in them alone.
@@ -266,6 +277,17 @@ incomplete-room s room h = go (incompleteOf s room) (comes s room)
     go w (Comes.no-room i j) e = omega (arith, small s 0 (packetAt s) (packet-kept s))
     go w (Comes.not-read p i j t) e = tells s 0 (packetAt s) (packet-kept s) _ p t .room e
     go w (Comes.read i j f) e = omega arith
+
+-- Within the limit, the incomplete reading gives 4 exactly where the records that it finds have more bytes than the room.
+pub incomplete-room-exact : (s : List ℕ) (room : ℕ) → length s ≤ limit.bytes
+    → incompleteOf s room .reading .answer ≡ 4 ↔ room < length (bytes (packetAt s))
+incomplete-room-exact s room h = go (incompleteOf s room) (comes s room)
+  where
+    go : (w : Whole) → Comes s room w → w .reading .answer ≡ 4 ↔ room < length (bytes (packetAt s))
+    go w (Comes.over-limit i) = absurd (omega arith)
+    go w (Comes.no-room i j) = (λ e. j, λ e. refl)
+    go w (Comes.not-read p i j t) = (λ e. absurd (tells s 0 (packetAt s) (packet-kept s) _ p t .room e), λ e. absurd (omega arith))
+    go w (Comes.read i j f) = (λ e. absurd (omega arith), λ e. absurd (omega arith))
 
 pub parse-room : (s : List ℕ) (room : ℕ) → 3 * length s ≤ room → wholeOf s room .reading .answer ≢ 4
 parse-room s room h = over-all (λ w. w .reading .answer ≢ 4) s room (incomplete-room s room h) (λ e. omega arith)

@@ -1,5 +1,6 @@
 -- The fields round a packet's values (Head), the packet as the Rust has it (Packet), what reading one whole finds and comes to (Reading) and shows (Shown),
--- the cut and the reading by entry (Entry), when each call is refused (Why), and what a change inside values is (Change).
+-- the cut and the reading by entry (Entry), when each call is refused (Why), what a change inside values is (Change),
+-- and what writing a packet puts out (Writing).
 pub mod Head
 pub mod Packet
 pub mod Reading
@@ -7,4 +8,6 @@ pub mod Shown
 pub mod Entry
 pub mod Why
 pub mod Change
+pub mod Writing
+pub mod Carried
 pub mod Code

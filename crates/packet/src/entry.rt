@@ -56,7 +56,6 @@ fn no_entry() -> Entry
 
 // The entry at a cursor, and the cursor behind its value.
 fn entry_at(s: &[u8], kind: u8, c: Cursor) -> Head
-    requires { ⌜ c .at ≤ length (now s) ⌝ }
     ensures { λ r. ⌜ r ≡ entryAt kind (now (s .entry)) (c .at) ⌝ }
 {
     match head_at(s, kind, c) {
@@ -84,7 +83,6 @@ fn walk(
     wanted: usize,
     had: Entry,
 ) -> Walked
-    requires { ⌜ start .at ≤ length (now s) ⌝ }
     ensures { λ r. ⌜ r ≡ walkedOf (walk kind (now (s .entry)) n (start .at)) first wanted had ⌝ }
 {
     let mut c = start;

@@ -2,3 +2,4 @@
 pub mod entry;
 pub mod head;
 pub mod read;
+pub mod write;

@@ -11,6 +11,7 @@
 //     05  lso write_to_bytes(image, text, an output of a bytes)    answer count output
 //     06  packet parse(first row, an image of a bytes)             answer used made image
 //     07  packet parse_incomplete, likewise
+//     08  packet write_to_bytes(image, text, an output of a bytes), with exact lengths where b is 1
 //     0A  parse_entry(first row, number b, an image of a bytes)    answer used made image
 //     0B  inside and part(first row, place a, length b)            0 or 1, the part
 mod output;
@@ -159,6 +160,11 @@ fn read_part_of_packet(input: &[u8], image: &mut [u8]) {
     tell_reading(packet::read::parse_incomplete(input, image), image);
 }
 
+fn write_packet(image: &[u8], text: &[u8], exact: bool, out: &mut [u8]) {
+    fill(out, UNWRITTEN);
+    tell_writing(packet::write::write_to_bytes(image, text, exact, out), out);
+}
+
 fn read_entry(input: &[u8], number: usize, image: &mut [u8]) {
     fill(image, UNREAD);
     tell_reading(packet::entry::parse_entry(input, number, image), image);
@@ -184,6 +190,7 @@ fn call(operation: u8, b: usize, first: &[u8], second: &[u8], buffer: &mut [u8])
         0x05 => write_file(first, second, buffer),
         0x06 => read_packet(first, buffer),
         0x07 => read_part_of_packet(first, buffer),
+        0x08 => write_packet(first, second, b == 1, buffer),
         0x0A => read_entry(first, b, buffer),
         _ => word(b"no such operation\n"),
     }

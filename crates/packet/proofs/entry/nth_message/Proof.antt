@@ -1,9 +1,6 @@
 -- `nth_message` meets its contract: the messages are walked, and the number is looked at behind the last byte.
 use mathlib.Core.Path.{sym, _∙_}
-use native.Mathlib.Omega.{arith}
-use denote.Ref.{now}
 use borrow.Author.Tests.{le-leb, lt-leb, le-ltb, lt-ltb}
-use Rattle.wire.proofs.Laws.{u16-next}
 use borrow.Author.Needs.{needs}
 use Rattle.packet.proofs.entry.nth_message.Statement.{statement}
 use Rattle.packet.proofs.entry.nth_message.Tie as tie
@@ -18,10 +15,7 @@ enum-known-m : tie.Need-enum-known-m
 enum-known-m c = search needs
 
 walk-requires : tie.Need-walk-requires
-walk-requires c κs =
-    let a = c .before .before .before .before .before .args in
-    let r = u16-next (now (a .packet)) (a .c .at) _ _ (sym (c .before .before .before .be-u16 .ensures) ∙ c .before .m .given .1) in
-    omega arith
+walk-requires c κs = search needs
 
 enum-known-a-2 : tie.Need-enum-known-a-2
 enum-known-a-2 c = search needs
@@ -30,7 +24,10 @@ enum-known-e : tie.Need-enum-known-e
 enum-known-e c = search needs
 
 returns : tie.Need-returns
-returns c = rw (sym (c .before .before .before .before .before .before .before .before .before .be-u16 .ensures) ∙ c .before .before .before .before .before .before .before .m .given .1, sym (c .before .before .before .before .before .walk .ensures) ∙ c .before .before .before .e .given .1, lt-leb _ _ (c .if1 .taken))
+returns c =
+    let e = sym (c .before .before .before .before .before .before .before .before .before .be-u16 .ensures) ∙ c .before .before .before .before .before .before .before .m .given .1 in
+    let f = sym (c .before .before .before .before .before .walk .ensures) ∙ c .before .before .before .e .given .1 in
+    rw (e, f, lt-leb _ _ (c .if1 .taken))
 
 cast-if2 : tie.Need-cast-if2
 cast-if2 c = search needs
@@ -42,13 +39,24 @@ returns-2 : tie.Need-returns-2
 returns-2 c = rw (sym (c .before .before .before .be-u16 .ensures) ∙ c .before .a .given .1)
 
 returns-3 : tie.Need-returns-3
-returns-3 c = rw (sym (c .before .before .before .before .before .before .before .be-u16 .ensures) ∙ c .before .before .before .before .before .m .given .1, sym (c .before .before .before .walk .ensures) ∙ c .before .a2 .given .1)
+returns-3 c =
+    let e = sym (c .before .before .before .before .before .before .before .be-u16 .ensures) ∙ c .before .before .before .before .before .m .given .1 in
+    let f = sym (c .before .before .before .walk .ensures) ∙ c .before .a2 .given .1 in
+    rw (e, f)
 
 returns-4 : tie.Need-returns-4
-returns-4 c = rw (sym (c .before .before .before .before .before .before .before .before .before .before .be-u16 .ensures) ∙ c .before .before .before .before .before .before .before .before .m .given .1, sym (c .before .before .before .before .before .before .walk .ensures) ∙ c .before .before .before .before .e .given .1, le-leb _ _ (c .before .if1 .left), lt-ltb _ _ (c .if2 .taken))
+returns-4 c =
+    let e = sym (c .before .before .before .before .before .before .before .before .before .before .be-u16 .ensures) ∙ c .before .before .before .before .before .before .before .before .m .given .1 in
+    let f = sym (c .before .before .before .before .before .before .walk .ensures) ∙ c .before .before .before .before .e .given .1 in
+    let g = le-leb _ _ (c .before .if1 .left) in
+    rw (e, f, g, lt-ltb _ _ (c .if2 .taken))
 
 returns-5 : tie.Need-returns-5
-returns-5 c = rw (sym (c .before .before .before .before .before .before .before .before .before .before .be-u16 .ensures) ∙ c .before .before .before .before .before .before .before .before .m .given .1, sym (c .before .before .before .before .before .before .walk .ensures) ∙ c .before .before .before .before .e .given .1, le-leb _ _ (c .before .if1 .left), le-ltb _ _ (c .if2 .left))
+returns-5 c =
+    let e = sym (c .before .before .before .before .before .before .before .before .before .before .be-u16 .ensures) ∙ c .before .before .before .before .before .before .before .before .m .given .1 in
+    let f = sym (c .before .before .before .before .before .before .walk .ensures) ∙ c .before .before .before .before .e .given .1 in
+    let g = le-leb _ _ (c .before .if1 .left) in
+    rw (e, f, g, le-ltb _ _ (c .if2 .left))
 
 pub nth-message-spec : {M : Type 1} → statement M
 nth-message-spec =

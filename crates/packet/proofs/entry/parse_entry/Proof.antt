@@ -25,8 +25,9 @@ enum-known-e : tie.Need-enum-known-e
 enum-known-e c = search needs
 
 -- the entry that was found
-chosen : (c : tie.After-known-told2)
-    → Chosen (now (c .before .before .before .before .before .before .args .packet)) (c .before .before .before .before .before .before .args .number) (length (now (c .before .before .before .before .before .before .args .image))) (cutOf (now (c .before .before .before .before .before .before .args .packet))) (c .before .e .given .0 .0)
+chosen : (c : tie.After-known-told2) →
+    let a = c .before .before .before .before .before .before .args in
+    Chosen (now (a .packet)) (a .number) (length (now (a .image))) (cutOf (now (a .packet))) (c .before .e .given .0 .0)
 chosen c =
     let a = c .before .before .before .before .before .before .args in
     let s = now (a .packet) in

@@ -41,15 +41,26 @@ returns c = rw (sym (c .before .before .before .parse-string .ensures) ∙ c .be
 
 returns-2 : tie.Need-returns-2
 unfolding messageAt
-returns-2 c = rw (sym (c .before .before .before .before .before .before .before .parse-string .ensures) ∙ c .before .before .before .before .before .p .given .1, sym (c .before .before .before .parse-string2 .ensures) ∙ c .before .a2 .given .1)
+returns-2 c =
+    let e = sym (c .before .before .before .before .before .before .before .parse-string .ensures) ∙ c .before .before .before .before .before .p .given .1 in
+    let f = sym (c .before .before .before .parse-string2 .ensures) ∙ c .before .a2 .given .1 in
+    rw (e, f)
 
 returns-3 : tie.Need-returns-3
 unfolding messageAt
-returns-3 c = rw (sym (c .before .before .before .before .before .before .before .before .before .before .before .parse-string .ensures) ∙ c .before .before .before .before .before .before .before .before .before .p .given .1, sym (c .before .before .before .before .before .before .before .parse-string2 .ensures) ∙ c .before .before .before .before .before .q .given .1, sym (c .before .before .before .be-u32 .ensures) ∙ c .before .a3 .given .1)
+returns-3 c =
+    let e = sym (c .before .before .before .before .before .before .before .before .before .before .before .parse-string .ensures) ∙ c .before .before .before .before .before .before .before .before .before .p .given .1 in
+    let f = sym (c .before .before .before .before .before .before .before .parse-string2 .ensures) ∙ c .before .before .before .before .before .q .given .1 in
+    let g = sym (c .before .before .before .be-u32 .ensures) ∙ c .before .a3 .given .1 in
+    rw (e, f, g)
 
 returns-4 : tie.Need-returns-4
 unfolding messageAt
-returns-4 c = rw (sym (c .before .before .before .before .before .before .before .before .before .before .before .parse-string .ensures) ∙ c .before .before .before .before .before .before .before .before .before .p .given .1, sym (c .before .before .before .before .before .before .before .parse-string2 .ensures) ∙ c .before .before .before .before .before .q .given .1, sym (c .before .before .before .be-u32 .ensures) ∙ c .before .l .given .1)
+returns-4 c =
+    let e = sym (c .before .before .before .before .before .before .before .before .before .before .before .parse-string .ensures) ∙ c .before .before .before .before .before .before .before .before .before .p .given .1 in
+    let f = sym (c .before .before .before .before .before .before .before .parse-string2 .ensures) ∙ c .before .before .before .before .before .q .given .1 in
+    let g = sym (c .before .before .before .be-u32 .ensures) ∙ c .before .l .given .1 in
+    rw (e, f, g)
 
 pub message-spec : {M : Type 1} → statement M
 message-spec =

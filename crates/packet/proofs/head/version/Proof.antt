@@ -33,19 +33,33 @@ returns c = rw (sym (c .before .before .before .tag .ensures) ∙ c .before .a .
 
 returns-2 : tie.Need-returns-2
 unfolding versionAt
-returns-2 c = rw (sym (c .before .before .before .before .before .before .before .tag .ensures) ∙ c .before .before .before .before .before .d .given .1, sym (c .before .before .before .be-u8 .ensures) ∙ c .before .a2 .given .1)
+returns-2 c =
+    let e = sym (c .before .before .before .before .before .before .before .tag .ensures) ∙ c .before .before .before .before .before .d .given .1 in
+    let f = sym (c .before .before .before .be-u8 .ensures) ∙ c .before .a2 .given .1 in
+    rw (e, f)
 
 returns-3 : tie.Need-returns-3
 unfolding versionAt
-returns-3 c = rw (sym (c .before .before .before .before .before .before .before .before .tag .ensures) ∙ c .before .before .before .before .before .before .d .given .1, sym (c .before .before .before .before .be-u8 .ensures) ∙ c .before .before .v .given .1, c .match3 .keys1)
+returns-3 c =
+    let e = sym (c .before .before .before .before .before .before .before .before .tag .ensures) ∙ c .before .before .before .before .before .before .d .given .1 in
+    let f = sym (c .before .before .before .before .be-u8 .ensures) ∙ c .before .before .v .given .1 in
+    rw (e, f, c .match3 .keys1)
 
 returns-4 : tie.Need-returns-4
 unfolding versionAt
-returns-4 c = rw (sym (c .before .before .before .before .before .before .before .before .tag .ensures) ∙ c .before .before .before .before .before .before .d .given .1, sym (c .before .before .before .before .be-u8 .ensures) ∙ c .before .before .v .given .1, c .match3 .keys2)
+returns-4 c =
+    let e = sym (c .before .before .before .before .before .before .before .before .tag .ensures) ∙ c .before .before .before .before .before .before .d .given .1 in
+    let f = sym (c .before .before .before .before .be-u8 .ensures) ∙ c .before .before .v .given .1 in
+    rw (e, f, c .match3 .keys2)
 
 returns-5 : tie.Need-returns-5
 unfolding versionAt
-returns-5 c = rw (sym (c .before .before .before .before .before .before .before .before .tag .ensures) ∙ c .before .before .before .before .before .before .d .given .1, sym (c .before .before .before .before .be-u8 .ensures) ∙ c .before .before .v .given .1, ne-eqb _ 0 (c .match3 .rest .0 .1), ne-eqb _ 3 (c .match3 .rest .1))
+returns-5 c =
+    let e = sym (c .before .before .before .before .before .before .before .before .tag .ensures) ∙ c .before .before .before .before .before .before .d .given .1 in
+    let f = sym (c .before .before .before .before .be-u8 .ensures) ∙ c .before .before .v .given .1 in
+    let g = ne-eqb _ 0 (c .match3 .rest .0 .1) in
+    let h = ne-eqb _ 3 (c .match3 .rest .1) in
+    rw (e, f, g, h)
 
 pub version-spec : {M : Type 1} → statement M
 version-spec =

@@ -30,7 +30,8 @@ same-length c = search needs
 returns : tie.Need-returns
 returns c =
     let a = c .before .before .before .before .before .before .before .before .before .before .before .before .before .args in
-    let e = whole-stop (now (a .input)) (now (a .image)) (rw (c .before .before .before .before .before .a .given .1) at (c .before .before .before .before .before .before .before .before .before .parse-packet .ensures .0)) in
+    let k = rw (c .before .before .before .before .before .a .given .1) at (c .before .before .before .before .before .before .before .before .before .parse-packet .ensures .0) in
+    let e = whole-stop (now (a .input)) (now (a .image)) k in
     (rw e (c .before .before .finish .ensures .0), rw (e, sym (c .before .before .before .before .before .before .before .before .before .parse-packet .kept .0)) (c .before .before .finish .ensures .1))
 
 same-length-2 : tie.Need-same-length-2
@@ -39,7 +40,8 @@ same-length-2 c = search needs
 returns-2 : tie.Need-returns-2
 returns-2 c =
     let a = c .before .before .before .before .before .before .before .before .before .before .before .before .before .before .before .args in
-    let e = whole-more (now (a .input)) (now (a .image)) (rw (c .before .before .before .before .before .before .before .c .given .1) at (c .before .before .before .before .before .before .before .before .before .before .before .parse-packet .ensures .0)) (c .before .before .before .before .if1 .taken) in
+    let k = rw (c .before .before .before .before .before .before .before .c .given .1) at (c .before .before .before .before .before .before .before .before .before .before .before .parse-packet .ensures .0) in
+    let e = whole-more (now (a .input)) (now (a .image)) k (c .before .before .before .before .if1 .taken) in
     (rw e (c .before .before .finish2 .ensures .0), rw (e, sym (c .before .before .before .before .before .before .before .before .before .before .before .parse-packet .kept .0)) (c .before .before .finish2 .ensures .1))
 
 same-length-3 : tie.Need-same-length-3
@@ -48,7 +50,8 @@ same-length-3 c = search needs
 returns-3 : tie.Need-returns-3
 returns-3 c =
     let a = c .before .before .before .before .before .before .before .before .before .before .before .before .before .before .before .args in
-    let e = whole-all (now (a .input)) (now (a .image)) (rw (c .before .before .before .before .before .before .before .c .given .1) at (c .before .before .before .before .before .before .before .before .before .before .before .parse-packet .ensures .0)) (c .before .before .before .before .if1 .left) in
+    let k = rw (c .before .before .before .before .before .before .before .c .given .1) at (c .before .before .before .before .before .before .before .before .before .before .before .parse-packet .ensures .0) in
+    let e = whole-all (now (a .input)) (now (a .image)) k (c .before .before .before .before .if1 .left) in
     (rw e (c .before .before .finish3 .ensures .0), rw (e, sym (c .before .before .before .before .before .before .before .before .before .before .before .parse-packet .kept .0)) (c .before .before .finish3 .ensures .1))
 
 pub parse-spec : {M : Type 1} → statement M

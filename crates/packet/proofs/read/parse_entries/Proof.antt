@@ -122,11 +122,11 @@ returns-3 c =
     let a = c .before .before .before .before .before .before .before .before .before .before .before .before .before .before .before .before .before .before .before .before .before .before .before .args in
     let s = now (a .s) in
     let k = laid (c .before .before .before .before .before .before .before) in
-    let v = c .before .before .before .before .before .before .before .before .v .given .0 in (
-      rw (k .same)
-          (sym (run-halt (value levels s (v .0 .at)) (entriesAt (a .kind) s (c .before .before .before .before .before .before .before .before .before .before .before .before .before .before .before .before .before .before .before .before .loop .k - 1)) _ _ (rw (value-read s (v .0 .at) (c .before .before .before .before .before .before .before .before .before .before .before .before .before .before .before .before .before .before .before .before .before .before .before .pre .0) (k .within), c .before .a3 .given .1) at (c .before .before .before .before .before .parse-value .ensures .0)))),
-      within-stop,
-    )
+    let v = c .before .before .before .before .before .before .before .before .v .given .0 in
+    let d = value levels s (v .0 .at) in
+    let w = value-read s (v .0 .at) (c .before .before .before .before .before .before .before .before .before .before .before .before .before .before .before .before .before .before .before .before .before .before .before .pre .0) (k .within) in
+    let r = rw (w, c .before .a3 .given .1) at (c .before .before .before .before .before .parse-value .ensures .0) in
+    (rw (k .same) (sym (run-halt d (entriesAt (a .kind) s (c .before .before .before .before .before .before .before .before .before .before .before .before .before .before .before .before .before .before .before .before .loop .k - 1)) _ _ r)), within-stop)
 
 enum-known-f : tie.Need-enum-known-f Inv-loop μ-loop
 enum-known-f c = search needs
@@ -147,12 +147,15 @@ loop-again c =
     let f = c .before .f .given .0 in
     let b = c .before .before .before .before .before .parse-value .ensures .1 .bounds (f .0) (f .1 .0) (c .before .f .given .1) in
     let n = c .before .before .before .before .before .parse-value .kept .0 in
-    let m = c .before .before .before .before .before .before .before .before .before .before .before .before .put .kept .0 in (
+    let m = c .before .before .before .before .before .before .before .before .before .before .before .before .put .kept .0 in
+    let d = value levels s (v .0 .at) in
+    let w = value-read s (v .0 .at) (c .before .before .before .before .before .before .before .before .before .before .before .before .before .before .before .before .before .before .before .before .before .before .before .pre .0) (k .within) in
+    let r = rw (w, c .before .f .given .1) at (c .before .before .before .before .before .parse-value .ensures .0) in (
       omega arith,
       omega arith,
       omega arith,
       omega arith,
-      rw (k .same) (run-then (value levels s (v .0 .at)) (entriesAt (a .kind) s (l .k - 1)) _ _ (rw (value-read s (v .0 .at) (c .before .before .before .before .before .before .before .before .before .before .before .before .before .before .before .before .before .before .before .before .before .before .before .pre .0) (k .within), c .before .f .given .1) at (c .before .before .before .before .before .parse-value .ensures .0))),
+      rw (k .same) (run-then d (entriesAt (a .kind) s (l .k - 1)) _ _ r),
     )
 
 same-length-4 : tie.Need-same-length-4 Inv-loop μ-loop

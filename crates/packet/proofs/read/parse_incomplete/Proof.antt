@@ -1,4 +1,4 @@
--- `parse_incomplete` meets its contract.
+-- `parse_incomplete` meets its contract: what the packet's reading comes to in the lent image.
 use mathlib.Core.Path.{sym}
 use denote.Ref.{now}
 use Rattle.packet.proofs.Packing.{packed-finished}

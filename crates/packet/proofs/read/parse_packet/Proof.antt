@@ -1,4 +1,4 @@
--- `parse_packet` meets its contract.
+-- `parse_packet` meets its contract: the packet's record is laid with no count of messages, and has it where the messages are read.
 use Prim.Native.Nat.{ℕ, _≤_}
 use mathlib.Core.Path.{_≡_, sym, _∙_}
 use native.Mathlib.Nat.{le-refl}
@@ -54,11 +54,29 @@ enum-known-a-3 c = search needs
 enum-known-e : tie.Need-enum-known-e
 enum-known-e c = search needs
 
--- the packet's record is laid, with no count of messages, and the headers are left to read
+-- what stands before the packet's record was read
+record Opened (c : tie.After-known-told4) : Type 0 where
+  short : length (now (c .before .before .before .before .before .before .before .before .before .before .before .args .s)) ≤ bytes
+  version : versionAt (now (c .before .before .before .before .before .before .before .before .before .before .before .args .s)) ≡ Tag.Past (c .before .before .before .before .before .c .given .0 .0)
+  count : u16At (now (c .before .before .before .before .before .before .before .before .before .before .before .args .s)) (c .before .before .before .before .before .c .given .0 .0 .at) ≡ U16.Got (c .before .h .given .0 .0) (c .before .h .given .0 .1 .0)
+
+opened : (c : tie.After-known-told4) → Opened c
+opened c =
+    record {
+      short = c .before .before .before .before .before .before .before .before .if1 .left;
+      version = sym (c .before .before .before .before .before .before .before .version .ensures) ∙ c .before .before .before .before .before .c .given .1;
+      count = sym (c .before .before .before .be-u16 .ensures) ∙ c .before .h .given .1;
+    }
+
+-- the record with no count of messages, and the headers from a place on
+abbrev bare : tie.After-known-told4 → Due
+bare c = due (Packet (c .before .h .given .0 .0) 0) 0 (end (c .before .h .given .0 .1 .0 .at))
+
+abbrev headers : tie.After-known-told4 → ℕ → Due
+headers c at = entriesAt 0x31 (now (c .before .before .before .before .before .before .before .before .before .before .before .args .s)) (c .before .h .given .0 .0) at
+
+-- the packet's record is laid, and the headers are left to read
 record Begun (c : tie.After-known-told6) : Type 0 where
-  short : length (now (c .before .before .before .before .before .before .before .before .before .before .before .before .before .before .before .before .before .before .args .s)) ≤ bytes
-  version : versionAt (now (c .before .before .before .before .before .before .before .before .before .before .before .before .before .before .before .before .before .before .args .s)) ≡ Tag.Past (c .before .before .before .before .before .before .before .before .before .before .before .before .c .given .0 .0)
-  count : u16At (now (c .before .before .before .before .before .before .before .before .before .before .before .before .before .before .before .before .before .before .args .s)) (c .before .before .before .before .before .before .before .before .before .before .before .before .c .given .0 .0 .at) ≡ U16.Got (c .before .before .before .before .before .before .before .before .h .given .0 .0) (c .before .before .before .before .before .before .before .before .h .given .0 .1 .0)
   place : c .before .e .given .0 .0 .at ≡ c .before .before .before .before .before .before .before .before .h .given .0 .1 .0 .at
   within : c .before .e .given .0 .0 .at ≤ length (now (c .before .before .before .before .before .before .before .before .before .before .before .before .before .before .before .before .before .before .args .s))
   made : c .before .e .given .0 .1 .0 ≡ 5
@@ -66,35 +84,28 @@ record Begun (c : tie.After-known-told6) : Type 0 where
   same : let s = now (c .before .before .before .before .before .before .before .before .before .before .before .before .before .before .before .before .before .before .args .s) in
       let h = c .before .before .before .before .before .before .before .before .h .given .0 in
       let e = c .before .e .given .0 in
-      run (uncounted s (h .0) (h .1 .0 .at)) 0 (now (c .before .before .before .before .before .before .before .before .before .before .before .before .before .before .before .before .before .before .args .image)) ≡ run (entriesAt 0x31 s (h .0) (e .0 .at) >>= messagesAt s) (e .1 .0) (c .before .before .before .before .before .put .last .0)
+      run (uncounted s (h .0) (h .1 .0 .at)) 0 (now (c .before .before .before .before .before .before .before .before .before .before .before .before .before .before .before .before .before .before .args .image)) ≡ run (headers (c .before .before .before .before .before .before .before) (e .0 .at) >>= messagesAt s) (e .1 .0) (c .before .before .before .before .before .put .last .0)
 
 begun : (c : tie.After-known-told6) → Begun c
 unfolding whole-bytes bytesOf
 begun c =
     let s = now (c .before .before .before .before .before .before .before .before .before .before .before .before .before .before .before .before .before .before .args .s) in
-    let h = c .before .before .before .before .before .before .before .before .h .given .0 in
     let e = c .before .e .given .0 in
-    let u = sym (c .before .before .before .before .before .before .before .before .before .before .be-u16 .ensures) ∙ c .before .before .before .before .before .before .before .before .h .given .1 in
-    let r = u16-next s _ _ _ u in
+    let r = u16-next s _ _ _ (opened (c .before .before .before .before .before .before .before) .count) in
     let b = c .before .before .before .before .before .put .ensures .1 .bounds (e .0) (e .1 .0) (c .before .e .given .1) in
     let p = rw (c .before .e .given .1) at (c .before .before .before .before .before .put .ensures .0) in
-    let d = due (Packet (h .0) 0) 0 (end (h .1 .0 .at)) in
-    let k : ℕ → Due = λ v. entriesAt 0x31 s (h .0) v >>= messagesAt s in
-    let n = run-next d 0 (now (c .before .before .before .before .before .before .before .before .before .before .before .before .before .before .before .before .before .before .args .image)) p in
+    let n = run-next (bare (c .before .before .before .before .before .before .before)) 0 (now (c .before .before .before .before .before .before .before .before .before .before .before .before .before .before .before .before .before .before .args .image)) p in
     let m = c .before .before .before .before .before .put .kept .0 in
     record {
-      short = c .before .before .before .before .before .before .before .before .before .before .before .before .before .before .before .if1 .left;
-      version = sym (c .before .before .before .before .before .before .before .before .before .before .before .before .before .before .version .ensures) ∙ c .before .before .before .before .before .before .before .before .before .before .before .before .c .given .1;
-      count = u;
       place = omega arith;
       within = omega arith;
       made = omega (arith, n .0);
       room = omega arith;
-      same = run-then d k _ _ p;
+      same = run-then (bare (c .before .before .before .before .before .before .before)) (λ v. headers (c .before .before .before .before .before .before .before) v >>= messagesAt s) _ _ p;
     }
 
 parse-entries-requires : tie.Need-parse-entries-requires
-parse-entries-requires c κs = let b = begun (c .before) in (b .short, b .within, b .room)
+parse-entries-requires c κs = let b = begun (c .before) in (opened (c .before .before .before .before .before .before .before .before) .short, b .within, b .room)
 
 enum-known-a-4 : tie.Need-enum-known-a-4
 enum-known-a-4 c = search needs
@@ -108,22 +119,25 @@ parse-messages-requires c κs =
     let e = c .before .before .before .before .before .before .before .before .before .e .given .0 in
     let f = c .before .before .f .given .0 in
     let r = rw (c .before .before .f .given .1) at (c .before .before .before .before .before .before .parse-entries .ensures .0) in
-    let n = run-next (entriesAt 0x31 (now (c .before .before .before .before .before .before .before .before .before .before .before .before .before .before .before .before .before .before .before .before .before .before .before .before .before .before .args .s)) (c .before .before .before .before .before .before .before .before .before .before .before .before .before .before .before .before .h .given .0 .0) (e .0 .at)) (e .1 .0) (c .before .before .before .before .before .before .before .before .before .before .before .before .before .put .last .0) r in
+    let n = run-next (headers (c .before .before .before .before .before .before .before .before .before .before .before .before .before .before .before) (e .0 .at)) (e .1 .0) (c .before .before .before .before .before .before .before .before .before .before .before .before .before .put .last .0) r in
     let w = c .before .before .before .before .before .before .parse-entries .ensures .1 .bounds (f .0) (f .1 .0) (c .before .before .f .given .1) in
     let k = c .before .before .before .before .before .before .parse-entries .kept .0 in
-    (b .short, w .1, omega arith, omega (arith, n .0, b .made))
+    (opened (c .before .before .before .before .before .before .before .before .before .before .before .before .before .before .before) .short, w .1, omega arith, omega (arith, n .0, b .made))
 
 returns-2 : tie.Need-returns-2
 unfolding packetAt
 returns-2 c =
     let a = c .before .before .before .before .before .before .before .args in
-    (packed-none (now (a .s)) (now (a .image)) (rw (le-leb (length (now (a .s))) bytes (c .before .before .before .before .if1 .left), sym (c .before .before .before .version .ensures) ∙ c .before .a .given .1)), within-stop)
+    let l = le-leb (length (now (a .s))) bytes (c .before .before .before .before .if1 .left) in
+    (packed-none (now (a .s)) (now (a .image)) (rw (l, sym (c .before .before .before .version .ensures) ∙ c .before .a .given .1)), within-stop)
 
 returns-3 : tie.Need-returns-3
 unfolding packetAt
 returns-3 c =
     let a = c .before .before .before .before .before .before .before .before .before .before .before .args in
-    (packed-none (now (a .s)) (now (a .image)) (rw (le-leb (length (now (a .s))) bytes (c .before .before .before .before .before .before .before .before .if1 .left), sym (c .before .before .before .before .before .before .before .version .ensures) ∙ c .before .before .before .before .before .c .given .1, sym (c .before .before .before .be-u16 .ensures) ∙ c .before .a2 .given .1)), within-stop)
+    let l = le-leb (length (now (a .s))) bytes (c .before .before .before .before .before .before .before .before .if1 .left) in
+    let v = sym (c .before .before .before .before .before .before .before .version .ensures) ∙ c .before .before .before .before .before .c .given .1 in
+    (packed-none (now (a .s)) (now (a .image)) (rw (l, v, sym (c .before .before .before .be-u16 .ensures) ∙ c .before .a2 .given .1)), within-stop)
 
 same-length : tie.Need-same-length
 same-length c = search needs
@@ -132,12 +146,9 @@ returns-4 : tie.Need-returns-4
 returns-4 c =
     let a = c .before .before .before .before .before .before .before .before .before .before .before .before .before .before .before .before .before .before .args in
     let s = now (a .s) in
-    let h = c .before .before .before .before .before .before .before .before .h .given .0 in
-    let k : ℕ → Due = λ v. entriesAt 0x31 s (h .0) v >>= messagesAt s in (
-      packed-stop s (now (a .image)) (c .before .before .before .before .before .before .before .before .before .before .before .before .before .before .before .if1 .left) (sym (c .before .before .before .before .before .before .before .before .before .before .before .before .before .before .version .ensures) ∙ c .before .before .before .before .before .before .before .before .before .before .before .before .c .given .1) (sym (c .before .before .before .before .before .before .before .before .before .before .be-u16 .ensures) ∙ c .before .before .before .before .before .before .before .before .h .given .1)
-          (run-halt (due (Packet (h .0) 0) 0 (end (h .1 .0 .at))) k _ _ (rw (c .before .a3 .given .1) at (c .before .before .before .before .before .put .ensures .0))),
-      within-stop,
-    )
+    let o = opened (c .before .before .before .before .before .before .before) in
+    let r = rw (c .before .a3 .given .1) at (c .before .before .before .before .before .put .ensures .0) in
+    (packed-stop s (now (a .image)) (o .short) (o .version) (o .count) (run-halt (bare (c .before .before .before .before .before .before .before)) (λ v. headers (c .before .before .before .before .before .before .before) v >>= messagesAt s) _ _ r), within-stop)
 
 same-length-2 : tie.Need-same-length-2
 same-length-2 c = search needs
@@ -146,12 +157,11 @@ returns-5 : tie.Need-returns-5
 returns-5 c =
     let a = c .before .before .before .before .before .before .before .before .before .before .before .before .before .before .before .before .before .before .before .before .before .before .before .before .before .args in
     let s = now (a .s) in
+    let o = opened (c .before .before .before .before .before .before .before .before .before .before .before .before .before .before) in
     let b = begun (c .before .before .before .before .before .before .before) in
-    let d = entriesAt 0x31 s (c .before .before .before .before .before .before .before .before .before .before .before .before .before .before .before .h .given .0 .0) (c .before .before .before .before .before .before .before .before .e .given .0 .0 .at) in (
-      packed-stop s (now (a .image)) (b .short) (b .version) (b .count)
-          (b .same ∙ run-halt d (messagesAt s) _ _ (rw (c .before .a4 .given .1) at (c .before .before .before .before .before .parse-entries .ensures .0))),
-      within-stop,
-    )
+    let r = rw (c .before .a4 .given .1) at (c .before .before .before .before .before .parse-entries .ensures .0) in
+    let h = run-halt (headers (c .before .before .before .before .before .before .before .before .before .before .before .before .before .before) (c .before .before .before .before .before .before .before .before .e .given .0 .0 .at)) (messagesAt s) _ _ r in
+    (packed-stop s (now (a .image)) (o .short) (o .version) (o .count) (b .same ∙ h), within-stop)
 
 same-length-3 : tie.Need-same-length-3
 same-length-3 c = search needs
@@ -160,16 +170,19 @@ returns-6 : tie.Need-returns-6
 returns-6 c =
     let a = c .before .before .before .before .before .before .before .before .before .before .before .before .before .before .before .before .before .before .before .before .before .before .before .before .before .before .before .before .before .args in
     let s = now (a .s) in
+    let o = opened (c .before .before .before .before .before .before .before .before .before .before .before .before .before .before .before .before .before .before) in
     let b = begun (c .before .before .before .before .before .before .before .before .before .before .before) in
     let e = c .before .before .before .before .before .before .before .before .before .before .before .before .e .given .0 in
     let f = c .before .before .before .before .before .f .given .0 in
-    let d = entriesAt 0x31 s (c .before .before .before .before .before .before .before .before .before .before .before .before .before .before .before .before .before .before .before .h .given .0 .0) (e .0 .at) in
+    let d = headers (c .before .before .before .before .before .before .before .before .before .before .before .before .before .before .before .before .before .before) (e .0 .at) in
     let r = rw (c .before .before .before .before .before .f .given .1) at (c .before .before .before .before .before .before .before .before .before .parse-entries .ensures .0) in
     let n = run-next d (e .1 .0) (c .before .before .before .before .before .before .before .before .before .before .before .before .before .before .before .before .put .last .0) r in
+    let j = c .before .before .before .before .before .before .before .before .before .parse-entries .last .0 in
     let k = c .before .before .before .before .before .before .before .before .before .parse-entries .kept .0 in
-    let m = c .before .before .before .before .before .before .before .before .before .before .before .before .before .before .before .before .put .kept .0 in (
-      packed-messages s (now (a .image)) (b .short) (b .version) (b .count) (f .0 .at) (f .1 .0) (c .before .before .before .before .before .before .before .before .before .parse-entries .last .0) (omega (arith, n .0, b .made))
-          (rw (b .place) at (n .1)) (b .same ∙ run-then d (messagesAt s) _ _ r) (c .before .before .parse-messages .ensures .0),
+    let m = c .before .before .before .before .before .before .before .before .before .before .before .before .before .before .before .before .put .kept .0 in
+    let g : 5 ≤ f .1 .0 = omega (arith, n .0, b .made) in
+    let t = run-then d (messagesAt s) _ _ r in (
+      packed-messages s (now (a .image)) (o .short) (o .version) (o .count) (f .0 .at) (f .1 .0) j g (rw (b .place) at (n .1)) (b .same ∙ t) (c .before .before .parse-messages .ensures .0),
       within (c .before .before .parse-messages .ensures .1) (omega arith) (le-refl _) (omega arith),
     )
 

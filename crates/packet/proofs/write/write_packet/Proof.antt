@@ -1,0 +1,280 @@
+-- The head, the headers, the count of messages and the messages, one behind the other.
+use Prim.Native.Nat.{_+_, _*_, _≤_}
+use mathlib.Core.Path.{_≡_, sym, ap, _∙_}
+use native.Mathlib.Omega.{arith}
+use lib.ListN.{length}
+use denote.Ref.{now}
+use Rattle.image.specs.Out.{Poured, pour}
+use Rattle.image.proofs.Pouring.{pour-then, pour-halt, pour-stop, row-then, row-halt}
+use Rattle.amf0.specs.Code.{longest, growth}
+use Rattle.amf0.proofs.Putting.{past}
+use Rattle.packet.specs.declared.write.Part.{Part}
+use Rattle.packet.specs.Writing.{entries, packet}
+use Rattle.packet.proofs.Putting.{carried, carried-stop, carried-from, went-on, halted, heading, counting, messages, contents, packing, packet-bad, packet-parted}
+use borrow.Author.Needs.{needs}
+use Rattle.packet.proofs.write.write_packet.Statement.{statement}
+use Rattle.packet.proofs.write.write_packet.Tie as tie
+
+record-at-requires : tie.Need-record-at-requires
+record-at-requires c κs = search needs
+
+enum-told : tie.Need-enum-told
+enum-told c = search needs
+
+enum-known-r : tie.Need-enum-known-r
+enum-known-r c = search needs
+
+part-of-requires : tie.Need-part-of-requires
+part-of-requires c κs = search needs
+
+-- the part that a record is, and the packet from there on
+record Shown (c : tie.After-part-of) : Type 0 where
+  from : 1 ≤ c .before .before .r .given .0 .1 .0 .at
+  fits : c .before .before .r .given .0 .1 .0 .at ≤ length (now (c .before .before .before .before .before .before .before .before .args .image))
+  same : let a = c .before .before .before .before .before .before .before .before .args in
+      let i = now (a .image) in
+      let x = now (a .text) in
+      (y : Part) → c .part-of .result ≡ y → packet (a .exact) i x ≡ packing (a .exact) i x y (c .before .before .r .given .0 .1 .0 .at)
+
+shown : (c : tie.After-part-of) → Shown c
+shown c =
+    let a = c .before .before .before .before .before .before .before .before .args in
+    let i = now (a .image) in
+    let e = sym (c .before .before .before .before .record-at .ensures) ∙ c .before .before .r .given .1 in
+    let p = past i (λ n. c .before .before .before .before .before .before .shared-slice-known .given n .fits) 0 e in
+    record { from = p .from; fits = p .fits; same = λ y h. packet-parted (a .exact) i (now (a .text)) e (sym (c .part-of .ensures) ∙ h) }
+
+enum-told-2 : tie.Need-enum-told-2
+enum-told-2 c = search needs
+
+enum-told-3 : tie.Need-enum-told-3
+enum-told-3 c = search needs
+
+enum-told-4 : tie.Need-enum-told-4
+enum-told-4 c = search needs
+
+enum-known-part : tie.Need-enum-known-part
+enum-known-part c = search needs
+
+cast-row : tie.Need-cast-row
+cast-row c = search needs
+
+row-requires : tie.Need-row-requires
+row-requires c κs = search needs
+
+emit-requires : tie.Need-emit-requires
+emit-requires c κs = search needs
+
+enum-known-a : tie.Need-enum-known-a
+enum-known-a c = search needs
+
+enum-known-e : tie.Need-enum-known-e
+enum-known-e c = search needs
+
+-- the head is put out, and the headers and the messages are left
+record Opened (c : tie.After-known-told4) : Type 0 where
+  from : 1 ≤ c .before .e .given .0 .0 .at
+  fits : c .before .e .given .0 .0 .at ≤ length (now (c .before .before .before .before .before .before .before .before .before .before .before .before .before .before .before .before .before .before .before .args .image))
+  most : c .before .e .given .0 .1 .0 ≤ longest
+  same : let a = c .before .before .before .before .before .before .before .before .before .before .before .before .before .before .before .before .before .before .before .args in
+      let i = now (a .image) in
+      let x = now (a .text) in
+      let w = c .before .before .before .before .before .before .before .before .before .part .given .0 in
+      let v = c .before .e .given .0 in
+      pour (packet (a .exact) i x) 0 (now (a .out)) ≡ pour (contents (a .exact) i x (w .0) (w .1 .0) (v .0 .at)) (v .1 .0) (c .before .before .before .before .before .emit .last .0)
+
+opened : (c : tie.After-known-told4) → Opened c
+opened c =
+    let a = c .before .before .before .before .before .before .before .before .before .before .before .before .before .before .before .before .before .before .before .args in
+    let t = c .before .before .before .before .before .before .before .before .before .before .before .before .before .before .before .before .before .before .before .pre .0 in
+    let i = now (a .image) in
+    let x = now (a .text) in
+    let k = shown (c .before .before .before .before .before .before .before .before .before .before .before) in
+    let w = c .before .before .before .before .before .before .before .before .before .part .given .0 in
+    let q = c .before .before .before .before .before .before .before .before .before .before .before .before .before .r .given .0 .1 .0 in
+    let v = c .before .e .given .0 in
+    let b = c .before .before .before .before .before .emit .ensures .1 .bounds (v .0) (v .1 .0) (c .before .e .given .1) in
+    let f = k .from in
+    let g = k .fits in
+    record {
+      from = omega arith;
+      fits = omega arith;
+      most = omega arith;
+      same = rw (k .same _ (c .before .before .before .before .before .before .before .before .before .part .given .1))
+          (row-then x (heading (w .0)) 0 (q .at) 0 (now (a .out)) (omega arith) (omega arith) (contents (a .exact) i x (w .0) (w .1 .0)) (rw (c .before .before .before .before .before .before .row .ensures, c .before .e .given .1) at (c .before .before .before .before .before .emit .ensures .0)));
+    }
+
+write-entries-requires : tie.Need-write-entries-requires
+write-entries-requires c κs =
+    let p = c .before .before .before .before .before .before .before .before .before .before .before .before .before .before .before .before .before .before .before .before .pre in
+    let k = opened (c .before) in
+    let m = k .most in
+    (p .0, p .1, k .fits, omega arith)
+
+enum-known-a-2 : tie.Need-enum-known-a-2
+enum-known-a-2 c = search needs
+
+enum-known-f : tie.Need-enum-known-f
+enum-known-f c = search needs
+
+-- the headers are put out too
+record Headed (c : tie.After-known-told6) : Type 0 where
+  fits : c .before .f .given .0 .0 .at ≤ length (now (c .before .before .before .before .before .before .before .before .before .before .before .before .before .before .before .before .before .before .before .before .before .before .before .before .before .before .args .image))
+  most : c .before .f .given .0 .1 .0 ≤ growth * c .before .f .given .0 .0 .at
+  same : let a = c .before .before .before .before .before .before .before .before .before .before .before .before .before .before .before .before .before .before .before .before .before .before .before .before .before .before .args in
+      let i = now (a .image) in
+      let x = now (a .text) in
+      let v = c .before .f .given .0 in
+      pour (packet (a .exact) i x) 0 (now (a .out)) ≡ pour (messages (a .exact) i x (c .before .before .before .before .before .before .before .before .before .before .before .before .before .before .before .before .part .given .0 .1 .0) (v .0 .at)) (v .1 .0) (c .before .before .before .before .before .write-entries .last .0)
+
+headed : (c : tie.After-known-told6) → Headed c
+headed c =
+    let a = c .before .before .before .before .before .before .before .before .before .before .before .before .before .before .before .before .before .before .before .before .before .before .before .before .before .before .args in
+    let i = now (a .image) in
+    let x = now (a .text) in
+    let k = opened (c .before .before .before .before .before .before .before) in
+    let w = c .before .before .before .before .before .before .before .before .before .before .before .before .before .before .before .before .part .given .0 in
+    let u = c .before .before .before .before .before .before .before .before .e .given .0 in
+    let v = c .before .f .given .0 in
+    let b = c .before .before .before .before .before .write-entries .ensures .1 .bounds (v .0) (v .1 .0) (c .before .f .given .1) in
+    let f = k .from in
+    let m = k .most in
+    record {
+      fits = b .1;
+      most = omega arith;
+      same = k .same ∙ pour-then (entries 0x31 (a .exact) i x (w .0) (u .0 .at)) (messages (a .exact) i x (w .1 .0)) (u .1 .0) (c .before .before .before .before .before .before .before .before .before .before .before .before .emit .last .0) (went-on (rw (c .before .f .given .1) at (c .before .before .before .before .before .write-entries .ensures .0)));
+    }
+
+cast-row-2 : tie.Need-cast-row-2
+cast-row-2 c = let k = c .before .before .before .before .before .before .before .before .before .before .before .before .before .before .before .before .known-told2 .given in omega arith
+
+row-requires-2 : tie.Need-row-requires-2
+row-requires-2 c κs = search needs
+
+emit-requires-2 : tie.Need-emit-requires-2
+emit-requires-2 c κs = search needs
+
+enum-known-a-3 : tie.Need-enum-known-a-3
+enum-known-a-3 c = search needs
+
+enum-known-g : tie.Need-enum-known-g
+enum-known-g c = search needs
+
+write-entries-requires-2 : tie.Need-write-entries-requires-2
+write-entries-requires-2 c κs =
+    let p = c .before .before .before .before .before .before .before .before .before .before .before .before .before .before .before .before .before .before .before .before .before .before .before .before .before .before .before .before .before .before .before .before .before .before .before .pre in
+    let k = headed (c .before .before .before .before .before .before .before .before .before) in
+    let v = c .before .before .g .given .0 in
+    let b = c .before .before .before .before .before .before .emit2 .ensures .1 .bounds (v .0) (v .1 .0) (c .before .before .g .given .1) in
+    let t = p .0 in
+    let m = k .most in
+    let f = k .fits in
+    (t, p .1, omega arith, omega arith)
+
+returns : tie.Need-returns
+returns c =
+    let a = c .before .before .before .before .before .before .args in
+    carried (rw (packet-bad (a .exact) (now (a .image)) (now (a .text)) (sym (c .before .before .record-at .ensures) ∙ c .enum-told .given .1)) (sym (pour-stop _ _ _ _)))
+
+returns-2 : tie.Need-returns-2
+returns-2 c = carried (rw (shown (c .before .before) .same _ (c .enum-told2 .given .1)) (sym (pour-stop _ _ _ _)))
+
+returns-3 : tie.Need-returns-3
+returns-3 c = carried (rw (shown (c .before .before) .same _ (c .enum-told3 .given .1)) (sym (pour-stop _ _ _ _)))
+
+returns-4 : tie.Need-returns-4
+returns-4 c = carried (rw (shown (c .before .before) .same _ (c .enum-told4 .given .1)) (sym (pour-stop _ _ _ _)))
+
+same-length : tie.Need-same-length
+same-length c = search needs
+
+returns-5 : tie.Need-returns-5
+returns-5 c =
+    let a = c .before .before .before .before .before .before .before .before .before .before .before .before .before .before .before .before .before .before .before .args in
+    let w = c .before .before .before .before .before .before .before .before .before .part .given .0 in
+    let q = c .before .before .before .before .before .before .before .before .before .before .before .before .before .r .given .0 .1 .0 in
+    carried (rw (shown (c .before .before .before .before .before .before .before .before .before .before .before) .same _ (c .before .before .before .before .before .before .before .before .before .part .given .1))
+    (sym (row-halt (now (a .text)) (heading (w .0)) 0 (q .at) 0 (now (a .out)) (omega arith) (omega arith) (contents (a .exact) (now (a .image)) (now (a .text)) (w .0) (w .1 .0)) (rw (c .before .before .before .before .before .before .row .ensures, c .before .a .given .1) at (c .before .before .before .before .before .emit .ensures .0)))))
+
+same-length-2 : tie.Need-same-length-2
+same-length-2 c = search needs
+
+returns-6 : tie.Need-returns-6
+returns-6 c =
+    let a = c .before .before .before .before .before .before .before .before .before .before .before .before .before .before .before .before .before .before .before .before .before .before .before .before .before .before .args in
+    let i = now (a .image) in
+    let x = now (a .text) in
+    let w = c .before .before .before .before .before .before .before .before .before .before .before .before .before .before .before .before .part .given .0 in
+    let v = c .before .before .before .before .before .before .before .before .e .given .0 in
+    carried-stop (ap (λ (y : Poured). y .step)
+    (opened (c .before .before .before .before .before .before .before) .same ∙ pour-halt (entries 0x31 (a .exact) i x (w .0) (v .0 .at)) (messages (a .exact) i x (w .1 .0)) (v .1 .0) (c .before .before .before .before .before .before .before .before .before .before .before .before .emit .last .0) (halted (rw (c .before .a2 .given .1) at (c .before .before .before .before .before .write-entries .ensures .0)))))
+
+same-length-3 : tie.Need-same-length-3
+same-length-3 c = c .before .before .before .before .before .emit2 .kept .0 ∙ c .before .before .before .before .before .before .before .before .before .before .before .before .before .write-entries .kept .0 ∙ c .before .before .before .before .before .before .before .before .before .before .before .before .before .before .before .before .before .before .before .before .emit .kept .0
+
+returns-7 : tie.Need-returns-7
+returns-7 c =
+    let a = c .before .before .before .before .before .before .before .before .before .before .before .before .before .before .before .before .before .before .before .before .before .before .before .before .before .before .before .before .before .before .before .before .before .before .args in
+    let p = c .before .before .before .before .before .before .before .before .before .before .before .before .before .before .before .before .before .before .before .before .before .before .before .before .before .before .before .before .before .before .before .before .before .before .pre in
+    let w = c .before .before .before .before .before .before .before .before .before .before .before .before .before .before .before .before .before .before .before .before .before .before .before .before .part .given .0 in
+    let v = c .before .before .before .before .before .before .before .before .before .f .given .0 in
+    let k = headed (c .before .before .before .before .before .before .before .before) in
+    let s = p .1 in
+    let m = k .most in
+    let f = k .fits in
+    carried (sym (k .same ∙ row-halt (now (a .text)) (counting (w .1 .0)) 0 (v .0 .at) (v .1 .0) (c .before .before .before .before .before .before .before .before .before .before .before .before .before .write-entries .last .0) (omega arith) (omega arith) (entries 0x32 (a .exact) (now (a .image)) (now (a .text)) (w .1 .0)) (rw (c .before .before .before .before .before .before .row2 .ensures, c .before .a3 .given .1) at (c .before .before .before .before .before .emit2 .ensures .0))))
+
+same-length-4 : tie.Need-same-length-4
+same-length-4 c = c .before .before .write-entries2 .kept .0 ∙ c .before .before .before .before .before .before .before .before .before .emit2 .kept .0 ∙ c .before .before .before .before .before .before .before .before .before .before .before .before .before .before .before .before .before .write-entries .kept .0 ∙ c .before .before .before .before .before .before .before .before .before .before .before .before .before .before .before .before .before .before .before .before .before .before .before .before .emit .kept .0
+
+returns-8 : tie.Need-returns-8
+returns-8 c =
+    let a = c .before .before .before .before .before .before .before .before .before .before .before .before .before .before .before .before .before .before .before .before .before .before .before .before .before .before .before .before .before .before .before .before .before .before .before .before .before .before .args in
+    let p = c .before .before .before .before .before .before .before .before .before .before .before .before .before .before .before .before .before .before .before .before .before .before .before .before .before .before .before .before .before .before .before .before .before .before .before .before .before .before .pre in
+    let w = c .before .before .before .before .before .before .before .before .before .before .before .before .before .before .before .before .before .before .before .before .before .before .before .before .before .before .before .before .part .given .0 in
+    let v = c .before .before .before .before .before .before .before .before .before .before .before .before .before .f .given .0 in
+    let k = headed (c .before .before .before .before .before .before .before .before .before .before .before .before) in
+    let s = p .1 in
+    let m = k .most in
+    let f = k .fits in
+    carried-from (k .same ∙ row-then (now (a .text)) (counting (w .1 .0)) 0 (v .0 .at) (v .1 .0) (c .before .before .before .before .before .before .before .before .before .before .before .before .before .before .before .before .before .write-entries .last .0) (omega arith) (omega arith) (entries 0x32 (a .exact) (now (a .image)) (now (a .text)) (w .1 .0)) (rw (c .before .before .before .before .before .before .before .before .before .before .row2 .ensures, c .before .before .before .before .before .g .given .1) at (c .before .before .before .before .before .before .before .before .before .emit2 .ensures .0)))
+    (c .before .before .write-entries2 .ensures .0)
+
+pub write-packet-spec : {M : Type 1} → statement M
+write-packet-spec =
+    tie.close
+    (tie.spec
+    record-at-requires
+    enum-told
+    enum-known-r
+    part-of-requires
+    enum-told-2
+    enum-told-3
+    enum-told-4
+    enum-known-part
+    cast-row
+    row-requires
+    emit-requires
+    enum-known-a
+    enum-known-e
+    write-entries-requires
+    enum-known-a-2
+    enum-known-f
+    cast-row-2
+    row-requires-2
+    emit-requires-2
+    enum-known-a-3
+    enum-known-g
+    write-entries-requires-2
+    returns
+    returns-2
+    returns-3
+    returns-4
+    same-length
+    returns-5
+    same-length-2
+    returns-6
+    same-length-3
+    returns-7
+    same-length-4
+    returns-8)
