@@ -45,6 +45,9 @@ ahead-next {c} {n} lo hi gr =
 pub ahead-grown : {x : Step} {next most l h k : ℕ} → Grown x next most → l ≤ next → next ≤ h → most + growth * l ≤ k + growth * next → Ahead x l h k
 ahead-grown w lo hi gr = record { bounds = λ c n e. let b = w .bounds c n e in omega arith }
 
+pub grown : {x : Step} {p q h k : ℕ} → Grown x p h → p ≡ q → h ≤ k → Grown x q k
+grown w e l = record { bounds = λ c n f. let b = w .bounds c n f in omega arith }
+
 -- ---- a record that is found
 
 known-bytes : (s : List ℕ) → ((i : ℕ) → getD s i 0 < 256) → Bytes s
@@ -232,6 +235,36 @@ check-bytes : (image : List ℕ) (n : ℕ) → bytes (pick (leb (length image) n
 unfolding bytes
 check-bytes image n = picked (λ (d : Out). bytes d ≡ []) (leb (length image) n) _ _ (λ h. refl) (λ h. refl)
 
+-- a writing that has to come to the end of its image: the first of the two passes, on an output z, tells what it comes to
+module _ (image : List ℕ) (d : Out) (room : ℕ) (z : List ℕ) where
+  pub whole-halt : {a p : ℕ} {o : List ℕ} → poured (Stop a p) o ≡ pour d 0 z → settled (whole image d) room ≡ unwritten a
+  whole-halt e = settled-halt (whole image d) 0 z room (sym (pour-halt d _ 0 z e))
+
+  module _ {c : Cursor} {n : ℕ} {o : List ℕ} (e : poured (Next c n) o ≡ pour d 0 z) where
+    checked : pour (whole image d) 0 z ≡ pour (pick (leb (length image) (c .at)) (end (c .at)) (stop 6 (c .at))) n o
+    checked = pour-then d _ 0 z e
+
+    pub whole-past : c .at < length image → settled (whole image d) room ≡ unwritten 6
+    whole-past h =
+        settled-halt (whole image d) 0 z room
+        (sym (checked ∙ ap (λ (x : Out). pour x n o) (pick-no (length image) (c .at) _ _ h) ∙ pour-stop n o 6 (c .at)))
+
+    module _ (h : length image ≤ c .at) where
+      through : poured (Next c n) o ≡ pour (whole image d) 0 z
+      through = sym (checked ∙ ap (λ (x : Out). pour x n o) (pick-yes (length image) (c .at) _ _ h) ∙ pour-end n o (c .at))
+
+      pub whole-over : limit.bytes < n → settled (whole image d) room ≡ unwritten 1
+      whole-over g = settled-over (whole image d) z through room g
+
+      pub whole-full : n ≤ limit.bytes → room < n → settled (whole image d) room ≡ unwritten 4
+      whole-full g f = settled-full (whole image d) z through room g f
+
+      pub whole-fits : n ≤ limit.bytes → n ≤ room → settled (whole image d) room ≡ written (bytes d)
+      whole-fits g f = settled-fits (whole image d) z through room g f ∙ ap written (bytes-bind d _ (check-bytes image))
+
+      pub whole-size : n ≡ length (bytes d)
+      whole-size = let w = went d 0 z e in omega (arith, w .size)
+
 module _ (image text : List ℕ) (room : ℕ) where
   whole-write : settled (whole image (valueIn image text 0 0)) room ≡ writeOf image text room
   whole-write =
@@ -248,33 +281,21 @@ module _ (image text : List ℕ) (room : ℕ) where
   -- the first of the two passes, on an output z, tells what the call comes to
   module _ (z : List ℕ) where
     pub write-halt : {a p : ℕ} {o : List ℕ} → poured (Stop a p) o ≡ pour (valueIn image text 0 0) 0 z → writeOf image text room ≡ unwritten a
-    write-halt e = sym whole-write ∙ settled-halt (whole image (valueIn image text 0 0)) 0 z room (sym (pour-halt (valueIn image text 0 0) _ 0 z e))
+    write-halt e = sym whole-write ∙ whole-halt image (valueIn image text 0 0) room z e
 
     module _ {c : Cursor} {n : ℕ} {o : List ℕ} (e : poured (Next c n) o ≡ pour (valueIn image text 0 0) 0 z) where
-      checked : pour (whole image (valueIn image text 0 0)) 0 z ≡ pour (pick (leb (length image) (c .at)) (end (c .at)) (stop 6 (c .at))) n o
-      checked = pour-then (valueIn image text 0 0) _ 0 z e
-
       pub write-past : c .at < length image → writeOf image text room ≡ unwritten 6
-      write-past h =
-          sym whole-write
-          ∙ settled-halt (whole image (valueIn image text 0 0)) 0 z room
-          (sym (checked ∙ ap (λ (d : Out). pour d n o) (pick-no (length image) (c .at) _ _ h) ∙ pour-stop n o 6 (c .at)))
+      write-past h = sym whole-write ∙ whole-past image (valueIn image text 0 0) room z e h
 
       module _ (h : length image ≤ c .at) where
-        through : poured (Next c n) o ≡ pour (whole image (valueIn image text 0 0)) 0 z
-        through = sym (checked ∙ ap (λ (d : Out). pour d n o) (pick-yes (length image) (c .at) _ _ h) ∙ pour-end n o (c .at))
-
         pub write-over : limit.bytes < n → writeOf image text room ≡ unwritten 1
-        write-over g = sym whole-write ∙ settled-over (whole image (valueIn image text 0 0)) z through room g
+        write-over g = sym whole-write ∙ whole-over image (valueIn image text 0 0) room z e h g
 
         pub write-full : n ≤ limit.bytes → room < n → writeOf image text room ≡ unwritten 4
-        write-full g f = sym whole-write ∙ settled-full (whole image (valueIn image text 0 0)) z through room g f
+        write-full g f = sym whole-write ∙ whole-full image (valueIn image text 0 0) room z e h g f
 
         pub write-fits : n ≤ limit.bytes → n ≤ room → writeOf image text room ≡ written (bytes (valueIn image text 0 0))
-        write-fits g f =
-            sym whole-write
-            ∙ settled-fits (whole image (valueIn image text 0 0)) z through room g f
-            ∙ ap written (bytes-bind (valueIn image text 0 0) _ (check-bytes image))
+        write-fits g f = sym whole-write ∙ whole-fits image (valueIn image text 0 0) room z e h g f
 
         pub write-size : n ≡ length (bytes (valueIn image text 0 0))
-        write-size = let w = went (valueIn image text 0 0) 0 z e in omega (arith, w .size)
+        write-size = whole-size image (valueIn image text 0 0) room z e h

@@ -12,14 +12,13 @@ use Rattle.wire.specs.Limit as limit
 use Rattle.wire.specs.declared.cursor.Cursor.{Cursor}
 use Rattle.wire.proofs.Laws.{pick-yes, pick-no, picked, laid-none}
 use Rattle.image.specs.declared.record.Record.{Record}
-use Rattle.image.specs.declared.reading.Step.{Step}
 use Rattle.image.specs.declared.reading.Step.the-variants.{Next, Stop}
 use Rattle.image.specs.declared.taking.Taken.{Taken}
 use Rattle.image.specs.declared.taking.Taken.the-variants.{Found, Bad}
 use Rattle.image.specs.declared.writing.Row.{Row}
 use Rattle.image.specs.Record.{_bytes_, none}
 use Rattle.image.specs.Taking.{recordAt}
-use Rattle.image.specs.Out.{Out, end, stop, put, _>>=_, rowBytes, namedOf, row, Poured, poured, pour, Grown, bytes as bytesOut, settled, written, unwritten}
+use Rattle.image.specs.Out.{Out, end, stop, put, _>>=_, rowBytes, namedOf, row, Poured, poured, pour, bytes as bytesOut, settled, written, unwritten}
 use Rattle.image.proofs.Pouring.{Inside, inside, length-row, went, settled-halt, settled-over, settled-full, settled-fits}
 use Rattle.amf0.specs.Writing.{value, taken}
 use Rattle.lso.specs.declared.write.Part.{Part}
@@ -44,9 +43,6 @@ keying p n = rowOf none (2 bytes n) none p n
 
 abbrev pub padding : Row
 padding = rowOf (1 bytes 0) none none 0 0
-
-pub grown : {x : Step} {p q h k : ℕ} → Grown x p h → p ≡ q → h ≤ k → Grown x q k
-grown w e l = record { bounds = λ c n f. let b = w .bounds c n f in omega arith }
 
 -- ---- an element
 

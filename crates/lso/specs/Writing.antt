@@ -1,21 +1,17 @@
 -- What writing a file puts out: document 01, "LSO file" and "Tree image".
 use Prim.Native.Nat.{ℕ, zero, suc, _+_}
-use mathlib.Core.List.{List, [], _∷_, _++_}
-use mathlib.Core.Bool.{Bool, true, false}
+use mathlib.Core.List.{List}
 use lib.ListN.{length}
 use lib.Dec.{leb}
 use Rattle.wire.specs.Choice.{pick}
 use Rattle.wire.specs.Limit as limit
-use Rattle.wire.specs.declared.cursor.Cursor.{Cursor}
 use Rattle.image.specs.declared.record.Record.{Record}
 use Rattle.image.specs.declared.record.Record.the-variants.{Number, Boolean, Text, Object, Null, Undefined, Reference, EcmaArray, ObjectEnd, StrictArray, Date, Unsupported, Xml, TypedObject, Key, Packet, Header, Message, Lso}
 use Rattle.image.specs.declared.record.Field.{Field}
-use Rattle.image.specs.declared.taking.Taken.{Taken}
-use Rattle.image.specs.declared.taking.Taken.the-variants.{Found, Bad}
 use Rattle.image.specs.declared.writing.Row.{Row}
 use Rattle.image.specs.Record.{_bytes_, none}
 use Rattle.image.specs.Taking.{recordAt}
-use Rattle.image.specs.Out.{Out, end, stop, put, _>>=_, row, bytes as bytesOut, Written, unwritten, settled}
+use Rattle.image.specs.Out.{Out, end, stop, _>>=_, row, bytes as bytesOut, Written, unwritten, settled}
 use Rattle.amf0.specs.Writing.{value, taken}
 use Rattle.lso.specs.declared.write.Part.{Part}
 use Rattle.lso.specs.declared.write.Part.the-variants as P

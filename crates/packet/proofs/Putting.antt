@@ -4,7 +4,6 @@ use mathlib.Core.Path.{_≡_, refl, sym, ap, _∙_}
 use mathlib.Core.List.{List, [], _∷_}
 use mathlib.Core.Bool.{Bool, true, false}
 use native.Mathlib.Numerals.{sub-one}
-use native.Mathlib.Nat.{suc-add, add-suc}
 use native.Mathlib.Omega.{arith}
 use lib.ListN.{length, set}
 use lib.Seq.{sets, set-set, set-comm, length-sets}
@@ -23,11 +22,11 @@ use Rattle.image.specs.declared.taking.Taken.the-variants.{Found, Bad}
 use Rattle.image.specs.declared.writing.Row.{Row}
 use Rattle.image.specs.Record.{_bytes_, none}
 use Rattle.image.specs.Taking.{recordAt}
-use Rattle.image.specs.Out.{Out, end, stop, put, _>>=_, rowBytes, textOf, namedOf, row, Poured, poured, pour, Grown, bytes as bytesOut, settled, Written, written, unwritten}
-use Rattle.image.proofs.Pouring.{length-row, pour-then, pour-halt, pour-stop, pour-end, went, bytes-bind, settled-halt, settled-over, settled-full, settled-fits}
+use Rattle.image.specs.Out.{Out, end, stop, put, _>>=_, rowBytes, textOf, namedOf, row, Poured, poured, pour, bytes as bytesOut, settled, written, unwritten}
+use Rattle.image.proofs.Pouring.{length-row, pour-stop}
 use Rattle.amf0.specs.Writing.{value, whole}
+use Rattle.amf0.proofs.Putting.{whole-halt, whole-past, whole-over, whole-full, whole-fits, whole-size}
 use Rattle.packet.specs.declared.write.Part.{Part}
-use Rattle.packet.specs.declared.write.Part.the-variants as P
 use Rattle.packet.specs.Carried.{Carried}
 use Rattle.packet.specs.Writing.{partOf, rowOf, labelled, label, declared, entry, entries, packed, packet, writeOf}
 
@@ -124,9 +123,6 @@ module _ {d : Out} {count : ℕ} {out : List ℕ} where
 pub carried-from : {d e : Out} {j k : ℕ} {out o l : List ℕ} {x : Step} → pour d j out ≡ pour e k o → Carried e k o x l → Carried d j out x l
 carried-from p w =
     record { step = w .step ∙ sym (ap (λ (y : Poured). y .step) p); out = λ c n f. w .out c n f ∙ sym (ap (λ (y : Poured). y .out) p) }
-
-pub grown : {x : Step} {p q h k : ℕ} → Grown x p h → p ≡ q → h ≤ k → Grown x q k
-grown w e l = record { bounds = λ c n f. let b = w .bounds c n f in omega arith }
 
 -- ---- a length that is set once its value is measured
 
@@ -245,11 +241,6 @@ module _ (exact : Bool) (image text : List ℕ) where
 
 -- ---- the call
 
--- the check for bytes past the end of the tree puts nothing out
-check-bytes : (image : List ℕ) (n : ℕ) → bytesOut (pick (leb (length image) n) (end n) (stop 6 n)) ≡ []
-unfolding bytesOut
-check-bytes image n = picked (λ (d : Out). bytesOut d ≡ []) (leb (length image) n) _ _ (λ h. refl) (λ h. refl)
-
 module _ (image text : List ℕ) (exact : Bool) (room : ℕ) where
   pub write-text : limit.bytes < length text → writeOf image text exact room ≡ unwritten 1
   write-text h = pick-no (length text) limit.bytes _ _ h
@@ -264,34 +255,21 @@ module _ (image text : List ℕ) (exact : Bool) (room : ℕ) where
       within = pick-yes (length text) limit.bytes _ _ t ∙ pick-yes (length image) limit.image _ _ i
 
       pub write-halt : {a p : ℕ} {o : List ℕ} → poured (Stop a p) o ≡ pour (packet exact image text) 0 z → writeOf image text exact room ≡ unwritten a
-      write-halt e =
-          within ∙ settled-halt (whole image (packet exact image text)) 0 z room (sym (pour-halt (packet exact image text) _ 0 z e))
+      write-halt e = within ∙ whole-halt image (packet exact image text) room z e
 
       module _ {c : Cursor} {n : ℕ} {o : List ℕ} (e : poured (Next c n) o ≡ pour (packet exact image text) 0 z) where
-        checked : pour (whole image (packet exact image text)) 0 z ≡ pour (pick (leb (length image) (c .at)) (end (c .at)) (stop 6 (c .at))) n o
-        checked = pour-then (packet exact image text) _ 0 z e
-
         pub write-past : c .at < length image → writeOf image text exact room ≡ unwritten 6
-        write-past h =
-            within
-            ∙ settled-halt (whole image (packet exact image text)) 0 z room
-            (sym (checked ∙ ap (λ (d : Out). pour d n o) (pick-no (length image) (c .at) _ _ h) ∙ pour-stop n o 6 (c .at)))
+        write-past h = within ∙ whole-past image (packet exact image text) room z e h
 
         module _ (h : length image ≤ c .at) where
-          through : poured (Next c n) o ≡ pour (whole image (packet exact image text)) 0 z
-          through = sym (checked ∙ ap (λ (d : Out). pour d n o) (pick-yes (length image) (c .at) _ _ h) ∙ pour-end n o (c .at))
-
           pub write-over : limit.bytes < n → writeOf image text exact room ≡ unwritten 1
-          write-over g = within ∙ settled-over (whole image (packet exact image text)) z through room g
+          write-over g = within ∙ whole-over image (packet exact image text) room z e h g
 
           pub write-full : n ≤ limit.bytes → room < n → writeOf image text exact room ≡ unwritten 4
-          write-full g f = within ∙ settled-full (whole image (packet exact image text)) z through room g f
+          write-full g f = within ∙ whole-full image (packet exact image text) room z e h g f
 
           pub write-fits : n ≤ limit.bytes → n ≤ room → writeOf image text exact room ≡ written (bytesOut (packet exact image text))
-          write-fits g f =
-              within
-              ∙ settled-fits (whole image (packet exact image text)) z through room g f
-              ∙ ap written (bytes-bind (packet exact image text) _ (check-bytes image))
+          write-fits g f = within ∙ whole-fits image (packet exact image text) room z e h g f
 
           pub write-size : n ≡ length (bytesOut (packet exact image text))
-          write-size = let w = went (packet exact image text) 0 z e in omega (arith, w .size)
+          write-size = whole-size image (packet exact image text) room z e h

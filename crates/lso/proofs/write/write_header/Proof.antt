@@ -6,8 +6,9 @@ use lib.ListN.{length}
 use denote.Ref.{now}
 use Rattle.image.specs.Out.{Out, end, row, pour}
 use Rattle.image.proofs.Pouring.{grown-stop, row-in, row-then, row-halt}
+use Rattle.amf0.proofs.Putting.{grown}
 use Rattle.lso.specs.Writing.{header}
-use Rattle.lso.proofs.Putting.{opening, naming, closing, grown}
+use Rattle.lso.proofs.Putting.{opening, naming, closing}
 use borrow.Author.Needs.{needs}
 use Rattle.lso.proofs.write.write_header.Statement.{statement}
 use Rattle.lso.proofs.write.write_header.Tie as tie

@@ -5,7 +5,8 @@ use native.Mathlib.Omega.{arith}
 use denote.Ref.{now}
 use Rattle.image.specs.Out.{Out, end, row, pour}
 use Rattle.image.proofs.Pouring.{Slim, grown-stop, row-in, row-then, row-halt}
-use Rattle.packet.proofs.Putting.{grown, naming}
+use Rattle.amf0.proofs.Putting.{grown}
+use Rattle.packet.proofs.Putting.{naming}
 use borrow.Author.Needs.{needs}
 use Rattle.packet.proofs.write.write_head.Statement.{statement}
 use Rattle.packet.proofs.write.write_head.Tie as tie
