@@ -1,4 +1,5 @@
-"""Document 01's readings, written down once more in Python: plain, slow and independent of the library.
+"""Document 01's readings and writings, written down once more in Python: plain and slow. It shares no code with the library, but it has the same author,
+who read the document in the same way: it finds slips, and no misreading.
 
 read_value(input, room) gives (answer, used, made, image), the image as it stands after the call; write_value(image, text, out) gives
 (answer, count, output), likewise."""

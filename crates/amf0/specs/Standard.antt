@@ -58,14 +58,14 @@ depth (property k v ps) = max (depth v) (depth ps)
 depth nil = 0
 depth (cons v vs) = max (depth v) (depth vs)
 
--- 1.3: UTF-8 is a U16 length and as many bytes, UTF-8-long has a U32 length
+-- UTF-8 is a U16 length and as many bytes, UTF-8-long has a U32 length
 pub data UTF-8 : List ℕ → List ℕ → Type 0 where
   short : (t : List ℕ) → length t < 256 ^ 2 → utf8 t ≡ true → UTF-8 t (digits 2 (length t) ++ t)
 
 pub data UTF-8-long : List ℕ → List ℕ → Type 0 where
   long : (t : List ℕ) → length t < 256 ^ 4 → utf8 t ≡ true → UTF-8-long t (digits 4 (length t) ++ t)
 
--- 2.2 to 2.18: a marker and the fields of its own
+-- a marker and the fields of its own
 pub data Row : Item → List ℕ → Type 0 where
   number : (n : ℕ) → n < 256 ^ 8 → Row (Item.number n) (0x00 ∷ digits 8 n)
   boolean-false : Row (Item.boolean false) (0x01 ∷ 0 ∷ [])
@@ -82,7 +82,7 @@ pub data Row : Item → List ℕ → Type 0 where
   unsupported : Row Item.unsupported (0x0D ∷ [])
   xml-document : {t x : List ℕ} → UTF-8-long t x → Row (Item.xml-document t) (0x0F ∷ x)
   typed-object : {t x : List ℕ} → UTF-8 t x → Row (Item.typed-object t) (0x10 ∷ x)
-  -- 3.1 has an AMF 3 value behind the marker 11; it is taken for a value of the unsupported type, that marker alone
+  -- the document has an AMF 3 value behind the marker 11; it is taken for a value of the unsupported type, that marker alone
   departure-avmplus : Row Item.unsupported (0x11 ∷ [])
   -- a marker that the document does not have is taken for a value of the unsupported type
   departure-unknown : (m : ℕ) → 0x12 ≤ m → Row Item.unsupported (m ∷ [])
