@@ -98,15 +98,22 @@ def pairs(r, depth):
         value(r, depth + 1, marker)
 
 
-def read_value(data, room):
+def outcome(data, room, read, whole=False):
+    """What a reading comes to: answer, bytes used, image bytes, and the image."""
     r = Reading(data, room)
     try:
         if len(data) > LIMIT:
             raise Refused(1)
-        value(r, 1)
+        read(r)
+        if whole and r.at < len(data):
+            raise Refused(3)
     except Refused as why:
         return why.args[0], 0, 0, bytes(room)
     return 0, r.at, len(r.image), r.image + bytes(room - len(r.image))
+
+
+def read_value(data, room):
+    return outcome(data, room, lambda r: value(r, 1))
 
 
 VALUES = (0, 1, 2, 3, 5, 6, 7, 8, 10, 11, 13, 15, 16)
@@ -195,22 +202,27 @@ def put_pairs(w, depth):
         put_value(w, depth + 1)
 
 
-def write_value(image, text, out):
+def written(image, text, out, write):
+    """What a writing comes to: answer, count, and the output."""
     try:
         if len(text) > LIMIT or len(image) > IMAGE_LIMIT:
             raise Refused(1)
         w = Writing(image, text)
-        put_value(w, 1)
+        write(w)
         if w.at < len(image):
             raise Refused(6)
-        size = sum(map(len, w.out))
-        if size > LIMIT:
+        done = b"".join(w.out) if sum(map(len, w.out)) <= LIMIT else None
+        if done is None:
             raise Refused(1)
-        if size > len(out):
+        if len(done) > len(out):
             raise Refused(4)
     except Refused as why:
         return why.args[0], 0, out
-    return 0, size, b"".join(w.out) + out[size:]
+    return 0, len(done), done + out[len(done) :]
+
+
+def write_value(image, text, out):
+    return written(image, text, out, lambda w: put_value(w, 1))
 
 
 HEADER = b"\x00\xbf"
@@ -245,47 +257,31 @@ def file(r):
 
 
 def read_file(data, room, whole):
-    r = Reading(data, room)
-    try:
-        if len(data) > LIMIT:
-            raise Refused(1)
-        file(r)
-        if whole and r.at < len(data):
-            raise Refused(3)
-    except Refused as why:
-        return why.args[0], 0, 0, bytes(room)
-    return 0, r.at, len(r.image), r.image + bytes(room - len(r.image))
+    return outcome(data, room, file, whole)
 
 
 BODIES[51] = 9
 
 
-def write_file(image, text, out):
-    try:
-        if len(text) > LIMIT or len(image) > IMAGE_LIMIT:
-            raise Refused(1)
-        w = Writing(image, text)
-        if w.kind() != 0x33:
+def put_file(w):
+    if w.kind() != 0x33:
+        raise Refused(6)
+    body = w.body()
+    name = w.named(body[4:7], body[7:])
+    while w.at < len(w.image):
+        if w.kind() != 0x20:
             raise Refused(6)
         body = w.body()
-        name = w.named(body[4:7], body[7:])
-        while w.at < len(image):
-            if w.kind() != 0x20:
-                raise Refused(6)
-            body = w.body()
-            key = w.named(body[:3], body[3:])
-            w.put(big(len(key), 2), key)
-            put_value(w, 1)
-            w.put(b"\0")
-        size = sum(map(len, w.out))
-        if size + 22 + len(name) > LIMIT:
-            raise Refused(1)
-        if size + 22 + len(name) > len(out):
-            raise Refused(4)
-    except Refused as why:
-        return why.args[0], 0, out
-    done = HEADER + big(16 + len(name) + size, 4) + SIGNATURE + big(len(name), 2) + name + b"\0\0\0\0" + b"".join(w.out)
-    return 0, len(done), done + out[len(done) :]
+        key = w.named(body[:3], body[3:])
+        w.put(big(len(key), 2), key)
+        put_value(w, 1)
+        w.put(b"\0")
+    length = 16 + len(name) + sum(map(len, w.out))
+    w.out[:0] = [HEADER, big(length % 2**32, 4), SIGNATURE, big(len(name), 2), name, b"\0\0\0\0"]
+
+
+def write_file(image, text, out):
+    return written(image, text, out, put_file)
 
 
 def head(r, kind):
@@ -326,16 +322,7 @@ def entries(r, kind, count):
 
 
 def read_packet(data, room, whole):
-    r = Reading(data, room)
-    try:
-        if len(data) > LIMIT:
-            raise Refused(1)
-        packet(r)
-        if whole and r.at < len(data):
-            raise Refused(3)
-    except Refused as why:
-        return why.args[0], 0, 0, bytes(room)
-    return 0, r.at, len(r.image), r.image + bytes(room - len(r.image))
+    return outcome(data, room, packet, whole)
 
 
 def cut(data):
@@ -387,29 +374,19 @@ def read_entry(data, number, room):
 BODIES.update({48: 4, 49: 6, 50: 10})
 
 
+def put_packet(w, exact):
+    if w.kind() != 0x30:
+        raise Refused(6)
+    counts = w.body()
+    w.put(b"\0\0")
+    for kind, count in ((0x31, counts[:2]), (0x32, counts[2:])):
+        w.put(count)
+        for _ in range(int.from_bytes(count, "big")):
+            put_entry(w, kind, exact)
+
+
 def write_packet(image, text, exact, out):
-    try:
-        if len(text) > LIMIT or len(image) > IMAGE_LIMIT:
-            raise Refused(1)
-        w = Writing(image, text)
-        if w.kind() != 0x30:
-            raise Refused(6)
-        counts = w.body()
-        w.put(b"\0\0")
-        for kind, count in ((0x31, counts[:2]), (0x32, counts[2:])):
-            w.put(count)
-            for _ in range(int.from_bytes(count, "big")):
-                put_entry(w, kind, exact)
-        if w.at < len(image):
-            raise Refused(6)
-        size = sum(map(len, w.out))
-        if size > LIMIT:
-            raise Refused(1)
-        if size > len(out):
-            raise Refused(4)
-    except Refused as why:
-        return why.args[0], 0, out
-    return 0, size, b"".join(w.out) + out[size:]
+    return written(image, text, out, lambda w: put_packet(w, exact))
 
 
 def put_entry(w, kind, exact):
