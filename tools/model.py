@@ -285,15 +285,14 @@ def write_file(image, text, out):
 
 
 def head(r, kind):
-    """An entry's fields before its value: where it begins, its texts, its flag and the length that it declares."""
-    at = r.at
+    """An entry's fields before its value: its texts, its flag and the length that it declares."""
     first = r.text(2)
     second, flag = (0, 0), 0
     if kind == 0x31:
         flag = int(r.number(1) != 0)
     else:
         second = r.text(2)
-    return at, first, second, flag, r.number(4)
+    return first, second, flag, r.number(4)
 
 
 def opening(r):
@@ -315,7 +314,7 @@ def packet(r):
 
 def entries(r, kind, count):
     for _ in range(count):
-        _, first, second, flag, _ = head(r, kind)
+        first, second, flag, _ = head(r, kind)
         named = big(first[0], 3) + big(first[1], 2)
         r.due(bytes([kind]) + named + (bytes([flag]) if kind == 0x31 else big(second[0], 3) + big(second[1], 2)))
         value(r, 1)
@@ -334,7 +333,7 @@ def cut(data):
     found = []
     for kind in (0x31, 0x32):
         for _ in range(r.number(2)):
-            _, first, second, flag, length = head(r, kind)
+            first, second, flag, length = head(r, kind)
             place = r.at
             r.take(length)
             found.append((kind, flag, first, second, (place, length)))
