@@ -1,21 +1,7 @@
--- `Theorems` has what is proved of the reading, and `WriteTheorems` what is proved of the writing and of the round trip. The files below each are what it
--- is proved by; `Laws` and `Putting` are what the proofs of the functions cite.
-pub mod Theorems
-pub mod Complete
-pub mod Sound
-pub mod Rows
-pub mod Telling
-pub mod Reasons
-pub mod Shifting
-pub mod Outcome
-pub mod WriteTheorems
-pub mod Says
-pub mod Puts
-pub mod Shortest
-pub mod Spelling
-pub mod Alike
-pub mod WriteOutcome
-pub mod WriteSound
-pub mod WriteReasons
+-- What the proofs of the functions cite: the laws of readings (`Laws`, `Rows`), of writings (`Putting`), and of refusals (`Reasons`, `Outcome`). The theorems
+-- on the calls are in the crate amf0_theorems.
 pub mod Laws
+pub mod Rows
 pub mod Putting
+pub mod Reasons
+pub mod Outcome

@@ -243,16 +243,17 @@ within-next {c} {m} lo hi ro =
 -- ---- zeros from a place on
 
 -- one more zero, at the place i, leaves what the zeros from there on make of the list
-pub clear-more : (l : List ℕ) (i n : ℕ) → i < length l → i < n
-    → take i l ++ replicate (n - i) 0 ≡ take (i + 1) (set l i 0) ++ replicate (n - (i + 1)) 0
-clear-more l i n h g =
-    let e : n - i ≡ suc (n - (i + 1)) = omega arith in
-    rw (e, add-one, take-suc-set l i 0 h) (sym (append-assoc (take i l) (0 ∷ []) (replicate (n - suc i) 0)))
+module _ {A : Type 0} (d : A) where
+  pub clear-more : (l : List A) (i n : ℕ) → i < length l → i < n
+      → take i l ++ replicate (n - i) d ≡ take (i + 1) (set l i d) ++ replicate (n - (i + 1)) d
+  clear-more l i n h g =
+      let e : n - i ≡ suc (n - (i + 1)) = omega arith in
+      rw (e, add-one, take-suc-set l i d h) (sym (append-assoc (take i l) (d ∷ []) (replicate (n - suc i) d)))
 
-pub clear-all : (l : List ℕ) (i n : ℕ) → length l ≤ i → n ≤ i → take i l ++ replicate (n - i) 0 ≡ l
-clear-all l i n h g =
-    let e : n - i ≡ 0 = omega arith in
-    rw (e, take-all i l h) (append-nil l)
+  pub clear-all : (l : List A) (i n : ℕ) → length l ≤ i → n ≤ i → take i l ++ replicate (n - i) d ≡ l
+  clear-all l i n h g =
+      let e : n - i ≡ 0 = omega arith in
+      rw (e, take-all i l h) (append-nil l)
 
 pub padded-take : (m : ℕ) (l : List ℕ) → take m l ++ replicate (length l - m) 0 ≡ padded (take m l) (length l)
 padded-take m l =

@@ -1,18 +1,7 @@
--- `Theorems` has what is proved of the readings, and `WriteTheorems` what is proved of the writing and of the round trip. The files below each are what it
--- is proved by; `Laws`, `Settle` and `Putting` are what the proofs of the functions cite.
-pub mod Theorems
-pub mod Outcome
-pub mod Stands
-pub mod Records
-pub mod Complete
-pub mod Sound
-pub mod Unique
-pub mod WriteTheorems
-pub mod Puts
-pub mod Shortest
-pub mod WriteOutcome
-pub mod WriteSound
-pub mod WriteReasons
+-- What the proofs of the functions cite: the laws of readings (`Laws`, `Settle`, `Stands`), of writings (`Putting`), and of refusals (`Outcome`). The theorems
+-- on the calls are in the crate lso_theorems.
 pub mod Laws
 pub mod Settle
+pub mod Stands
 pub mod Putting
+pub mod Outcome

@@ -1,16 +1,16 @@
 -- The laws of heads, of the cut and of an entry's reading.
-use Prim.Native.Nat.{ℕ, zero, suc, _+_, _-_, _≤_, _<_}
+use Prim.Native.Nat.{ℕ, zero, suc, _+_, _*_, _-_, _≤_, _<_}
 use mathlib.Core.Path.{_≡_, refl, ap, _∙_}
-use mathlib.Core.List.{List, [], _∷_, _++_}
+use mathlib.Core.List.{List, [], _∷_, _++_, append-assoc, append-nil}
 use mathlib.Core.Bool.{Bool, true, false}
-use mathlib.Core.Logic.{_≢_, ⊎-elim}
+use mathlib.Core.Logic.{_≢_, _⊎_, inl, inr, ⊎-elim}
 use native.Mathlib.Nat.{add-zero, zero-add}
-use native.Mathlib.Numerals.{sub-one}
+use native.Mathlib.Numerals.{add-one, sub-one}
 use native.Mathlib.Omega.{arith}
-use lib.ListN.{length, getD, length-append, length-take, length-drop}
-use lib.Seq.{sets}
+use lib.ListN.{length, getD, take, drop, set, replicate, length-append, length-take, length-drop}
+use lib.Seq.{sets, take-suc-set, length-take-le}
 use lib.Dec.{leb, ltb, eqb}
-use borrow.Author.Tests.{leb-true, leb-false, le-leb, lt-leb, ltb-true, eq-eqb, ne-eqb}
+use borrow.Author.Tests.{leb-true, leb-false, le-leb, lt-leb, ltb-true, ltb-false, eq-eqb, ne-eqb}
 use Rattle.wire.specs.Choice.{pick}
 use Rattle.wire.specs.declared.cursor.Cursor.{Cursor}
 use Rattle.wire.specs.declared.cursor.U16.{U16}
@@ -27,22 +27,23 @@ use Rattle.image.specs.declared.reading.Step.the-variants.{Next, Stop}
 use Rattle.image.specs.Record.{bytesOf, size}
 use Rattle.image.specs.Due.{Due, end, stop, due, based, Ran, ran, run}
 use Rattle.image.specs.Whole.{refused, finished}
+use Rattle.image.proofs.Laws.{clear-more}
 use Rattle.image.proofs.Settle.{finished-ran}
 use Rattle.amf0.specs.Reading.{value, valueIn}
 use Rattle.amf0.specs.Why.{Reasoned}
 use Rattle.amf0.proofs.Laws.{part-read}
 use Rattle.amf0.proofs.Outcome.{named}
-use Rattle.amf0.proofs.Theorems.{reasoned}
+use Rattle.amf0.proofs.Reasons.{kept, because}
 use Rattle.packet.specs.declared.head.Entry.{Entry}
 use Rattle.packet.specs.declared.head.Head.{Head}
 use Rattle.packet.specs.declared.head.Head.the-variants as Head
 use Rattle.packet.specs.declared.entry.Found.{Found}
 use Rattle.packet.specs.declared.entry.Found.the-variants as Found
-use Rattle.packet.specs.declared.entry.Walked.{Walked}
-use Rattle.packet.specs.declared.entry.Walked.the-variants as Walked
+use Rattle.packet.specs.declared.walk.Walk.{Walk}
+use Rattle.packet.specs.declared.walk.Walk.the-variants as W
 use Rattle.packet.specs.Head.{versionAt, headerAt, messageAt, headAt, gotHead}
-use Rattle.packet.specs.Entry.{Cut, found, stops, gotCut, entryAt, walk, cutOf, noEntry, spanOf, judge, valueOf, entryIn}
-use Rattle.packet.specs.Code.{keptIn, walkedOf, foundIn, lastFound, messagesFound, judgedOf}
+use Rattle.packet.specs.Entry.{Cut, found, stops, gotCut, entryAt, walk, cutOf, noEntry, listed, filled, spanOf, judge, valueOf, entryIn}
+use Rattle.packet.specs.Code.{ended, behind, restOf, goesOn, goesBelow, ahead, aheads, without, endOf, firstIn, foundIn, refusedCut, countedIn, judgedOf}
 
 -- ---- heads
 
@@ -127,6 +128,9 @@ module _ (kind : ℕ) (s : List ℕ) (at : ℕ) where
   unfolding entryAt
   entry-over h l = rw (h, lt-leb _ _ l)
 
+pub entry-spanned : (kind : ℕ) (s : List ℕ) (at : ℕ) {e : Entry} {c : Cursor} → entryAt kind s at ≡ Head.Got e c → Spanned s at e (c .at)
+entry-spanned kind s at h = rw h at (entry-told kind s at)
+
 -- every entry's value is inside the input
 abbrev pub Inside : List ℕ → List Entry → Type 0
 Inside s [] = Unit {0}
@@ -167,103 +171,198 @@ walk-told kind s (suc n) at h = goes-from s n at (walk kind s n) (entryAt kind s
 
 -- ---- the walk's steps
 
-walked-more : (x : Cut) (e had : Entry) (first wanted : ℕ)
-    → walkedOf (gotCut x λ es z. found (e ∷ es) z) first wanted had ≡ walkedOf x (first + 1) wanted (pick (eqb wanted first) e had)
-walked-more (found es z) e had first wanted = refl
-walked-more (stops a p) e had first wanted = refl
+ahead-ended : (s : List ℕ) (e : Entry) (es : List Entry) (z : ℕ) → ended s (e ∷ es) z ≡ ahead e (ended s es z)
+ahead-ended s e es z = go (leb (length s) z)
+  where
+    go : (t : Bool) → pick t (found (e ∷ es) z) (stops 3 z) ≡ ahead e (pick t (found es z) (stops 3 z))
+    go true = refl
+    go false = refl
 
-module _ (kind : ℕ) (s : List ℕ) (n at first wanted : ℕ) (had : Entry) where
-  pub walk-done : n ≤ 0 → walkedOf (walk kind s n at) first wanted had ≡ Walked.Next (to at) had
-  unfolding walk
-  walk-done h = go n h
-    where
-      go : (n : ℕ) → n ≤ 0 → walkedOf (walk kind s n at) first wanted had ≡ Walked.Next (to at) had
-      go zero h = refl
-      go (suc n) h = absurd (omega arith)
+ahead-messages : (s : List ℕ) (e : Entry) (es : List Entry) (x : Cut)
+    → gotCut x (λ ms y. ended s (e ∷ es ++ ms) y) ≡ ahead e (gotCut x λ ms y. ended s (es ++ ms) y)
+ahead-messages s e es (found ms y) = ahead-ended s e (es ++ ms) y
+ahead-messages s e es (stops a p) = refl
 
-  pub walk-cut : {a p : ℕ} → 0 < n → entryAt kind s at ≡ Head.Stop a p → walkedOf (walk kind s n at) first wanted had ≡ Walked.Stop a p
-  unfolding walk
-  walk-cut {a} {p} h e = go n h
-    where
-      go : (n : ℕ) → 0 < n → walkedOf (walk kind s n at) first wanted had ≡ Walked.Stop a p
-      go zero h = absurd (omega arith)
-      go (suc n) h = rw e
+-- what comes behind the entries of a kind comes behind one more of them
+ahead-behind : (kind : ℕ) (s : List ℕ) (e : Entry) (es : List Entry) (z : ℕ) → behind kind s (e ∷ es) z ≡ ahead e (behind kind s es z)
+ahead-behind kind s e es z = go (eqb kind 0x31) (u16At s z)
+  where
+    go : (t : Bool) (x : U16)
+        → pick t (got16 stops x λ m f. gotCut (walk 0x32 s m f) λ ms y. ended s (e ∷ es ++ ms) y) (ended s (e ∷ es) z)
+        ≡ ahead e (pick t (got16 stops x λ m f. gotCut (walk 0x32 s m f) λ ms y. ended s (es ++ ms) y) (ended s es z))
+    go true (U16.Got m c) = ahead-messages s e es (walk 0x32 s m (c .at))
+    go true (U16.Stop a p) = refl
+    go false x = ahead-ended s e es z
 
-  pub walk-more : {e : Entry} {c : Cursor} → 0 < n → entryAt kind s at ≡ Head.Got e c
-      → walkedOf (walk kind s n at) first wanted had ≡ walkedOf (walk kind s (n - 1) (c .at)) (first + 1) wanted (pick (eqb wanted first) e had)
+ahead-walk : (kind : ℕ) (s : List ℕ) (e : Entry) (x : Cut)
+    → gotCut (gotCut x λ es z. found (e ∷ es) z) (behind kind s) ≡ ahead e (gotCut x (behind kind s))
+ahead-walk kind s e (found es z) = ahead-behind kind s e es z
+ahead-walk kind s e (stops a p) = refl
+
+module _ (s : List ℕ) (kind more : ℕ) (c : Cursor) where
+  -- an entry that is refused, or is there
+  pub rest-stop : {a p : ℕ} → entryAt kind s (c .at) ≡ Head.Stop a p → restOf s (W.At kind more c) ≡ stops a p
   unfolding walk
-  walk-more {e} {c} h g = go n h
-    where
-      go : (n : ℕ) → 0 < n
-          → walkedOf (walk kind s n at) first wanted had ≡ walkedOf (walk kind s (n - 1) (c .at)) (first + 1) wanted (pick (eqb wanted first) e had)
-      go zero h = absurd (omega arith)
-      go (suc n) h = rw (g, sub-one (suc n)) (walked-more (walk kind s n (c .at)) e had first wanted)
+  rest-stop e = rw e
+
+  pub rest-more : {e : Entry} {d : Cursor} → entryAt kind s (c .at) ≡ Head.Got e d
+      → restOf s (W.At kind more c) ≡ ahead e (gotCut (walk kind s more (d .at)) (behind kind s))
+  unfolding walk
+  rest-more {e} {d} h = rw h (ahead-walk kind s e (walk kind s more (d .at)))
+
+pub not-going : (w : Walk) → goesOn w ≡ false → goesOn w ≡ true → ⊥
+not-going w h g = let z : _≡_ {A = ℕ} 0 1 = cc in omega arith
+
+pub below-true : (w : Walk) (k n : ℕ) → goesBelow w k n ≡ true → (k < n) × (goesOn w ≡ true)
+below-true w k n = go (ltb k n) refl
+  where
+    go : (t : Bool) → ltb k n ≡ t → pick t (goesOn w) false ≡ true → (k < n) × (goesOn w ≡ true)
+    go true e h = (ltb-true k n e, h)
+    go false e h = let z : _≡_ {A = ℕ} 0 1 = cc in absurd (omega arith)
+
+pub below-false : (w : Walk) (k n : ℕ) → goesBelow w k n ≡ false → (n ≤ k) ⊎ (goesOn w ≡ false)
+below-false w k n = go (ltb k n) refl
+  where
+    go : (t : Bool) → ltb k n ≡ t → pick t (goesOn w) false ≡ false → (n ≤ k) ⊎ (goesOn w ≡ false)
+    go true e h = inr h
+    go false e h = inl (ltb-false k n e)
+
+pub one-more : (n : ℕ) → 0 < n → suc (n - 1) ≡ n
+one-more n h = omega arith
+
+-- no entries of a kind are left
+pub walk-none : (kind : ℕ) (s : List ℕ) (n at : ℕ) → n ≤ 0 → gotCut (walk kind s n at) (behind kind s) ≡ behind kind s [] at
+unfolding walk
+walk-none kind s zero at h = refl
+walk-none kind s (suc n) at h = absurd (omega arith)
+
+-- an ended walk
+pub rest-ended : (s : List ℕ) (w : Walk) → goesOn w ≡ false → endOf (restOf s w) ≡ w
+rest-ended s (W.At kind more c) h = let z : _≡_ {A = ℕ} 0 1 = cc in absurd (omega arith)
+rest-ended s (W.End z) h = refl
+rest-ended s (W.Stop a p) h = refl
+
+pub without-ended : (s : List ℕ) (n : ℕ) (w : Walk) → goesOn w ≡ false → without n (restOf s w) ≡ restOf s w
+without-ended s n (W.At kind more c) h = let z : _≡_ {A = ℕ} 0 1 = cc in absurd (omega arith)
+without-ended s zero (W.End z) h = refl
+without-ended s (suc n) (W.End z) h = refl
+without-ended s n (W.Stop a p) h = refl
+
+pub without-none : (x : Cut) → without 0 x ≡ x
+without-none (found es z) = refl
+without-none (stops a p) = refl
+
+pub without-done : (s : List ℕ) (n k : ℕ) (w : Walk) → goesBelow w k n ≡ false → without (n - k) (restOf s w) ≡ restOf s w
+without-done s n k w h =
+    ⊎-elim (λ e. let m : n - k ≡ 0 = omega arith in rw m (without-none (restOf s w))) (λ e. without-ended s (n - k) w e) (below-false w k n h)
+
+-- one entry more is left out
+pub without-more : (n : ℕ) (e : Entry) (x : Cut) → 0 < n → without n (ahead e x) ≡ without (n - 1) x
+without-more zero e x h = absurd (omega arith)
+without-more (suc n) e (found es z) h = rw (sub-one (suc n))
+without-more (suc n) e (stops a p) h = refl
+
+pub end-ahead : (e : Entry) (x : Cut) → endOf (ahead e x) ≡ endOf x
+end-ahead e (found es z) = refl
+end-ahead e (stops a p) = refl
 
 -- ---- the entry with a number
 
-kept-past : (es : List Entry) (first wanted : ℕ) (had : Entry) → wanted < first → keptIn es first wanted had ≡ had
-kept-past [] first wanted had h = refl
-kept-past (e ∷ es) first wanted had h = rw (ne-eqb wanted first λ e. omega arith) (kept-past es (first + 1) wanted had (omega arith))
+first-some : (es : List Entry) (z number : ℕ) → number < length es → firstIn (found (drop number es) z) ≡ Found.Is (getD es number noEntry)
+first-some [] z number h = absurd (omega arith)
+first-some (e ∷ es) z zero h = refl
+first-some (e ∷ es) z (suc number) h = first-some es z number (omega arith)
 
-kept-at : (es : List Entry) (first wanted i : ℕ) (had : Entry) → wanted ≡ first + i → keptIn es first wanted had ≡ getD es i had
-kept-at [] first wanted i had h = refl
-kept-at (e ∷ es) first wanted zero had h = rw (eq-eqb wanted first (omega arith)) (kept-past es (first + 1) wanted e (omega arith))
-kept-at (e ∷ es) first wanted (suc i) had h =
-    rw (ne-eqb wanted first λ e. omega arith) (kept-at es (first + 1) wanted i had (omega arith))
+first-none : (es : List Entry) (z number : ℕ) → length es ≤ number → firstIn (found (drop number es) z) ≡ Found.Stop 8 0
+first-none [] z zero h = refl
+first-none [] z (suc number) h = refl
+first-none (e ∷ es) z zero h = absurd (omega arith)
+first-none (e ∷ es) z (suc number) h = first-none es z number (omega arith)
 
-kept-both : (hs ms : List Entry) (first wanted : ℕ) (had : Entry)
-    → keptIn ms (first + length hs) wanted (keptIn hs first wanted had) ≡ keptIn (hs ++ ms) first wanted had
-kept-both [] ms first wanted had = rw add-zero
-kept-both (e ∷ hs) ms first wanted had =
-    let f : first + suc (length hs) ≡ first + 1 + length hs = omega arith in
-    rw f (kept-both hs ms (first + 1) wanted (pick (eqb wanted first) e had))
+pub first-found : (x : Cut) (number : ℕ) → firstIn (without number x) ≡ foundIn x number
+first-found (found es z) number = picked (λ (f : Found). firstIn (found (drop number es) z) ≡ f) (ltb number (length es)) _ _
+    (λ t. first-some es z number (ltb-true _ _ t)) (λ t. first-none es z number (ltb-false _ _ t))
+first-found (stops a p) number = refl
 
--- the messages behind the headers hs, as the cut has them
-abbrev pub messagesIn : List ℕ → List Entry → ℕ → Cut
-messagesIn s hs e =
-    got16 stops (u16At s e) λ m f. gotCut (walk 0x32 s m f) λ ms z. pick (leb (length s) z) (found (hs ++ ms) z) (stops 3 z)
+-- what the end of the rest behind an entry says of that entry
+pub first-ahead : (e : Entry) (x : Cut) {z : ℕ} → endOf x ≡ W.End z → firstIn (ahead e x) ≡ Found.Is e
+first-ahead e (found es z) h = refl
+first-ahead e (stops a p) h = let z : _≡_ {A = ℕ} 0 1 = cc in absurd (omega arith)
 
-last-found : (s : List ℕ) (number m : ℕ) (hs : List Entry) (x : Cut) → Goes s m x
-    → lastFound s number (length hs) m (walkedOf x (length hs) number (keptIn hs 0 number noEntry))
-    ≡ foundIn (gotCut x λ ms z. pick (leb (length s) z) (found (hs ++ ms) z) (stops 3 z)) number
-last-found s number m hs (stops a p) g = refl
-last-found s number m hs (found ms z) g = go (leb (length s) z)
+pub first-stop : (e : Entry) (x : Cut) {a p : ℕ} → endOf x ≡ W.Stop a p → firstIn (ahead e x) ≡ Found.Stop a p
+first-stop e (found es z) h = let z : _≡_ {A = ℕ} 0 1 = cc in absurd (omega arith)
+first-stop e (stops a p) h = cc
+
+-- a walk to the end has ended
+pub end-never : (x : Cut) {kind more : ℕ} {c : Cursor} → endOf x ≡ W.At kind more c → ⊥
+end-never (found es z) h = let z : _≡_ {A = ℕ} 0 1 = cc in omega arith
+end-never (stops a p) h = let z : _≡_ {A = ℕ} 0 1 = cc in omega arith
+
+-- ---- the count of entries
+
+pub counted-stop : (x : Cut) (n : ℕ) {a p : ℕ} → endOf x ≡ W.Stop a p → countedIn x n ≡ refusedCut a
+counted-stop (found es z) n h = let z : _≡_ {A = ℕ} 0 1 = cc in absurd (omega arith)
+counted-stop (stops b q) n {a} {p} h = let f : b ≡ a = cc in rw f
+
+counted-ahead : (e : Entry) (x : Cut) (n : ℕ) {z : ℕ} → endOf (ahead e x) ≡ W.End z → countedIn (ahead e x) n ≡ refusedCut 4
+counted-ahead e (found es z) n h = refl
+counted-ahead e (stops a p) n h = let z : _≡_ {A = ℕ} 0 1 = cc in absurd (omega arith)
+
+-- an entry is left
+pub counted-over : (s : List ℕ) (w : Walk) (n : ℕ) {z : ℕ} → goesOn w ≡ true → endOf (restOf s w) ≡ W.End z → countedIn (restOf s w) n ≡ refusedCut 4
+counted-over s (W.At kind more c) n {z} g h = go (entryAt kind s (c .at)) refl
   where
-    k : keptIn ms (length hs) number (keptIn hs 0 number noEntry) ≡ getD (hs ++ ms) number noEntry
-    k = rw zero-add at (kept-both hs ms 0 number noEntry) ∙ kept-at (hs ++ ms) 0 number number noEntry (omega arith)
+    go : (x : Head) → entryAt kind s (c .at) ≡ x → countedIn (restOf s (W.At kind more c)) n ≡ refusedCut 4
+    go (Head.Stop a p) e = let f = rw (rest-stop s kind more c e) at h in let z : _≡_ {A = ℕ} 0 1 = cc in absurd (omega arith)
+    go (Head.Got e d) f =
+        let r = rest-more s kind more c f in
+        rw r (counted-ahead e (gotCut (walk kind s more (d .at)) (behind kind s)) n (rw r at h))
+counted-over s (W.End z) n g h = let z : _≡_ {A = ℕ} 0 1 = cc in absurd (omega arith)
+counted-over s (W.Stop a p) n g h = let z : _≡_ {A = ℕ} 0 1 = cc in absurd (omega arith)
 
-    go : (t : Bool)
-        → pick t (pick (ltb number (length hs + m)) (Found.Is (keptIn ms (length hs) number (keptIn hs 0 number noEntry))) (Found.Stop 8 0)) (Found.Stop 3 z)
-        ≡ foundIn (pick t (found (hs ++ ms) z) (stops 3 z)) number
-    go true = rw (k, length-append hs ms, g .count)
-    go false = refl
+-- ---- the list
 
-pub messages-found : (s : List ℕ) (e number : ℕ) (hs : List Entry)
-    → messagesFound s e number (length hs) (keptIn hs 0 number noEntry) ≡ foundIn (messagesIn s hs e) number
-messages-found s e number hs = go (u16At s e) refl
+pub aheads-none : (l : List Entry) (x : Cut) → aheads (take 0 l) x ≡ x
+aheads-none l (found es z) = refl
+aheads-none l (stops a p) = refl
+
+-- one entry more is in the list
+pub aheads-more : (l : List Entry) (n : ℕ) (e : Entry) (x : Cut) → n < length l → aheads (take n l) (ahead e x) ≡ aheads (take (n + 1) (set l n e)) x
+aheads-more l n e (found es z) h = rw (add-one, take-suc-set l n e h, append-assoc (take n l) (e ∷ []) es)
+aheads-more l n e (stops a p) h = refl
+
+-- one zero entry more is in it
+pub zeros-more : (l : List Entry) (i n : ℕ) (e : Entry) → e ≡ noEntry → i < length l → i < n
+    → take i l ++ replicate (n - i) noEntry ≡ take (i + 1) (set l i e) ++ replicate (n - (i + 1)) noEntry
+zeros-more l i n e z h g = rw z (clear-more noEntry l i n h g)
+
+-- an entry is left only where the list is full
+pub rest-short : (s : List ℕ) (w : Walk) (n m : ℕ) {e : Entry} {es : List Entry} {z : ℕ} → goesBelow w n m ≡ false → restOf s w ≡ found (e ∷ es) z → m ≤ n
+rest-short s w n m {e} {es} {z} b r = ⊎-elim (λ h. h) (λ h. absurd (go w h r)) (below-false w n m b)
   where
-    go : (x : U16) → u16At s e ≡ x
-        → got16 Found.Stop x (λ m p. lastFound s number (length hs) m (walkedOf (walk 0x32 s m p) (length hs) number (keptIn hs 0 number noEntry)))
-        ≡ foundIn (got16 stops x λ m f. gotCut (walk 0x32 s m f) λ ms z. pick (leb (length s) z) (found (hs ++ ms) z) (stops 3 z)) number
-    go (U16.Stop a p) h = refl
-    go (U16.Got m c) h =
-        let r = u16-next s e m c h in
-        last-found s number m hs (walk 0x32 s m (c .at)) (walk-told 0x32 s m (c .at) (omega arith))
+    go : (w : Walk) → goesOn w ≡ false → restOf s w ≡ found (e ∷ es) z → ⊥
+    go (W.At kind more c) h r = let z : _≡_ {A = ℕ} 0 1 = cc in omega arith
+    go (W.End y) h r = let z : _≡_ {A = ℕ} 0 1 = cc in omega arith
+    go (W.Stop a p) h r = let z : _≡_ {A = ℕ} 0 1 = cc in omega arith
 
--- ---- the walk over the headers, and what comes of it
+-- the count of a cut c, of which x is left and n entries are in the list l, and that list cleared behind them
+pub record Listing (l : List Entry) (n : ℕ) (x c : Cut) : Type 0 where
+  pub cutting : countedIn x n ≡ listed c (length l) .cutting
+  pub left : take (countedIn x n .count) l ++ replicate (length l - countedIn x n .count) noEntry ≡ filled (listed c (length l) .entries) (length l)
 
-module _ (s : List ℕ) (number n : ℕ) where
-  pub headers-stop : (x : Cut) {a p : ℕ} → Walked.Stop a p ≡ walkedOf x 0 number noEntry → foundIn (gotCut x (messagesIn s)) number ≡ Found.Stop a p
-  headers-stop (found es z) e = let z : _≡_ {A = ℕ} 0 1 = cc in absurd (omega arith)
-  headers-stop (stops b q) {a} {p} e = let f : b ≡ a = cc in let g : q ≡ p = cc in rw (f, g)
-
-  pub headers-next : (x : Cut) {c : Cursor} {e : Entry} → Goes s n x → Walked.Next c e ≡ walkedOf x 0 number noEntry
-      → messagesFound s (c .at) number n e ≡ foundIn (gotCut x (messagesIn s)) number
-  headers-next (found hs z) {c} {e} g h =
-      let f : c .at ≡ z = ap (λ (d : Cursor). d .at) (cc) in
-      let k : e ≡ keptIn hs 0 number noEntry = cc in
-      rw (f, k, ← g .count) (messages-found s z number hs)
-  headers-next (stops a p) g h = let z : _≡_ {A = ℕ} 0 1 = cc in absurd (omega arith)
+pub listing : (l : List Entry) (n : ℕ) (x : Cut) → n ≤ length l → ((e : Entry) (es : List Entry) (z : ℕ) → x ≡ found (e ∷ es) z → length l ≤ n)
+    → Listing l n x (aheads (take n l) x)
+listing l n (stops a p) h s = record { cutting = refl; left = refl }
+listing l n (found [] z) h s = rw (append-nil (take n l)) (go (take n l) (length-take-le n l h) refl)
+  where
+    go : (b : List Entry) → length b ≡ n → b ≡ take n l → Listing l n (found [] z) (found b z)
+    go b m e =
+        let t = le-leb n (length l) h in
+        record { cutting = rw (m, t); left = rw (m, t, e, length-take-le n l h) }
+listing l n (found (e ∷ es) z) h s =
+    let m : length (take n l ++ e ∷ es) ≡ n + suc (length es) = simp (length-append, length-take-le n l h) in
+    let t = lt-leb (length (take n l ++ e ∷ es)) (length l) (omega (arith, s e es z refl, m)) in
+    record { cutting = rw t; left = rw t }
 
 -- ---- the whole cut
 
@@ -326,12 +425,12 @@ module _ (s : List ℕ) (l : length s ≤ limit.bytes) where
       (λ t. record { short = l; inside = inside-both s hs ms i (g .inside) }) (λ t. field-refuses s three)
   messages-split hs m (stops a p) i g = field-refuses s g
 
-  headers-split : (n : ℕ) (x : Cut) → Goes s n x → Splits s (gotCut x (messagesIn s))
+  headers-split : (n : ℕ) (x : Cut) → Goes s n x → Splits s (gotCut x (behind 0x31 s))
   headers-split n (found hs z) g = go16 (Splits s) stops s z _
       (λ i. messages-split hs _ (walk 0x32 s (number (bytesAt 2 s z)) (z + 2)) (g .inside) (walk-told 0x32 s _ (z + 2) i)) (λ i. field-refuses s two)
   headers-split n (stops a p) g = field-refuses s g
 
-  version-split : (x : Tag) → Versioned s x → Splits s (pastTag stops x λ p. got16 stops (u16At s p) λ h q. gotCut (walk 0x31 s h q) (messagesIn s))
+  version-split : (x : Tag) → Versioned s x → Splits s (pastTag stops x λ p. got16 stops (u16At s p) λ h q. gotCut (walk 0x31 s h q) (behind 0x31 s))
   version-split (Tag.Past c) v = go16 (Splits s) stops s (c .at) _
       (λ i. headers-split _ (walk 0x31 s (number (bytesAt 2 s (c .at))) (c .at + 2)) (walk-told 0x31 s _ (c .at + 2) i)) (λ i. field-refuses s two)
   version-split (Tag.Stop a p) v = record { cuts = v .1; over = λ e. absurd (omega (arith, v .0)) }
@@ -418,6 +517,6 @@ entry-read s image i e x l h r =
     let v = value limit.levels (spanOf s e) 0 in
     let d = based (e .place) v in
     let q = r ∙ ap (λ (d : Due). run d 0 image) (part-read (e .place) (spanOf s e) 0 (omega arith) (omega arith)) in
-    let w = reasoned-answers (e .place) (spanOf s e) v (reasoned limit.levels (spanOf s e) 0 (omega arith)) in
+    let w = reasoned-answers (e .place) (spanOf s e) v (because (spanOf s e) (3 * 0) v (kept limit.levels (spanOf s e) 0 (omega arith))) in
     let a : Halts x = rw (ap (λ (y : Ran). y .step) q) (run-halts d 0 image w) in
     rw (n, judge-finished (e .place) (e .length) i x a, finished-ran d image q)

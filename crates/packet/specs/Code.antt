@@ -1,8 +1,9 @@
 -- What the steps of the code come to.
-use Prim.Native.Nat.{ℕ, _+_}
+use Prim.Native.Nat.{ℕ, suc, _+_, _-_}
 use mathlib.Core.Path.{_≡_}
-use mathlib.Core.List.{List, [], _∷_}
-use lib.ListN.{length, getD}
+use mathlib.Core.List.{List, [], _∷_, _++_}
+use mathlib.Core.Bool.{Bool, true, false}
+use lib.ListN.{length, getD, drop}
 use lib.Seq.{sets}
 use lib.Dec.{leb, ltb, eqb}
 use Rattle.wire.specs.Choice.{pick}
@@ -16,10 +17,11 @@ use Rattle.image.specs.Due.{Due, stop, Ran, ran, run}
 use Rattle.packet.specs.declared.head.Entry.{Entry}
 use Rattle.packet.specs.declared.entry.Found.{Found}
 use Rattle.packet.specs.declared.entry.Found.the-variants as Found
-use Rattle.packet.specs.declared.entry.Walked.{Walked}
-use Rattle.packet.specs.declared.entry.Walked.the-variants as Walked
+use Rattle.packet.specs.declared.entry.Cutting.{Cutting}
+use Rattle.packet.specs.declared.walk.Walk.{Walk}
+use Rattle.packet.specs.declared.walk.Walk.the-variants as W
 use Rattle.packet.specs.Reading.{entriesAt, packetAt}
-use Rattle.packet.specs.Entry.{Cut, found, stops, walk, noEntry}
+use Rattle.packet.specs.Entry.{Cut, found, stops, gotCut, walk, noEntry, uncut}
 
 -- ---- the whole reading
 
@@ -39,30 +41,70 @@ pub record Packed (x : Step) (after : List ℕ) (s image : List ℕ) : Type 0 wh
 
 -- ---- the cut
 
-abbrev pub kept : ℕ → ℕ → ℕ → Entry → Entry → Entry
-kept first k wanted e had = pick (eqb wanted (first + k)) e had
+-- behind the last message the packet must end
+abbrev pub ended : List ℕ → List Entry → ℕ → Cut
+ended s es z = pick (leb (length s) z) (found es z) (stops 3 z)
 
--- the entry with a number among entries numbered from `first` on, or else the one that was had
-abbrev pub keptIn : List Entry → ℕ → ℕ → Entry → Entry
-keptIn [] first wanted had = had
-keptIn (e ∷ es) first wanted had = keptIn es (first + 1) wanted (pick (eqb wanted first) e had)
+-- what comes behind the entries of a kind: the messages, or the end
+abbrev pub behind : ℕ → List ℕ → List Entry → ℕ → Cut
+behind kind s es z =
+    pick (eqb kind 0x31) (got16 stops (u16At s z) λ m f. gotCut (walk 0x32 s m f) λ ms y. ended s (es ++ ms) y) (ended s es z)
 
-abbrev pub walkedOf : Cut → ℕ → ℕ → Entry → Walked
-walkedOf (found es z) first wanted had = Walked.Next (to z) (keptIn es first wanted had)
-walkedOf (stops a p) first wanted had = Walked.Stop a p
+-- what is left of a cut
+abbrev pub restOf : List ℕ → Walk → Cut
+restOf s (W.At kind more c) = gotCut (walk kind s (suc more) (c .at)) (behind kind s)
+restOf s (W.End z) = found [] z
+restOf s (W.Stop a p) = stops a p
+
+abbrev pub goesOn : Walk → Bool
+goesOn (W.At kind more c) = true
+goesOn (W.End z) = false
+goesOn (W.Stop a p) = false
+
+abbrev pub goesBelow : Walk → ℕ → ℕ → Bool
+goesBelow w number n = pick (ltb number n) (goesOn w) false
+
+-- what falls from entry to entry
+abbrev pub leftOf : List ℕ → Walk → ℕ
+leftOf s (W.At kind more c) = suc (length s - c .at)
+leftOf s (W.End z) = 0
+leftOf s (W.Stop a p) = 0
+
+-- a cut with an entry before it, or several, and one without its first n
+abbrev pub ahead : Entry → Cut → Cut
+ahead e (found es z) = found (e ∷ es) z
+ahead e (stops a p) = stops a p
+
+abbrev pub aheads : List Entry → Cut → Cut
+aheads hs (found es z) = found (hs ++ es) z
+aheads hs (stops a p) = stops a p
+
+abbrev pub without : ℕ → Cut → Cut
+without n (found es z) = found (drop n es) z
+without n (stops a p) = stops a p
+
+-- how a walk over all of a cut ends
+abbrev pub endOf : Cut → Walk
+endOf (found es z) = W.End z
+endOf (stops a p) = W.Stop a p
+
+abbrev pub firstIn : Cut → Found
+firstIn (found [] z) = Found.Stop 8 0
+firstIn (found (e ∷ es) z) = Found.Is e
+firstIn (stops a p) = Found.Stop a p
 
 abbrev pub foundIn : Cut → ℕ → Found
 foundIn (found es z) number = pick (ltb number (length es)) (Found.Is (getD es number noEntry)) (Found.Stop 8 0)
 foundIn (stops a p) number = Found.Stop a p
 
-abbrev pub lastFound : List ℕ → ℕ → ℕ → ℕ → Walked → Found
-lastFound s number first m (Walked.Next c e) =
-    pick (leb (length s) (c .at)) (pick (ltb number (first + m)) (Found.Is e) (Found.Stop 8 0)) (Found.Stop 3 (c .at))
-lastFound s number first m (Walked.Stop a p) = Found.Stop a p
+abbrev pub refusedCut : ℕ → Cutting
+refusedCut a = uncut a .cutting
 
-abbrev pub messagesFound : List ℕ → ℕ → ℕ → ℕ → Entry → Found
-messagesFound s at number first had =
-    got16 Found.Stop (u16At s at) λ m p. lastFound s number first m (walkedOf (walk 0x32 s m p) first number had)
+-- the end of a cut whose first n entries were taken off it
+abbrev pub countedIn : Cut → ℕ → Cutting
+countedIn (found [] z) n = record { answer = 0; used = z; count = n }
+countedIn (found (e ∷ es) z) n = refusedCut 4
+countedIn (stops a p) n = refusedCut a
 
 -- ---- an entry
 

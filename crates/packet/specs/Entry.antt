@@ -1,7 +1,7 @@
 -- The cut of a packet by its declared lengths, and the reading of one entry: document 01, "Reading by entry".
 use Prim.Native.Nat.{ℕ, zero, suc, _+_, _-_}
 use mathlib.Core.List.{List, [], _∷_, _++_}
-use lib.ListN.{length, getD}
+use lib.ListN.{length, getD, replicate}
 use lib.Dec.{leb, ltb, eqb}
 use Rattle.wire.specs.Choice.{pick}
 use Rattle.wire.specs.Limit as limit
@@ -10,6 +10,7 @@ use Rattle.image.specs.Due.{based}
 use Rattle.image.specs.Whole.{Whole, settled, refused}
 use Rattle.amf0.specs.Reading.{value}
 use Rattle.packet.specs.declared.head.Entry.{Entry}
+use Rattle.packet.specs.declared.entry.Cutting.{Cutting}
 use Rattle.packet.specs.declared.head.Head.{Head}
 use Rattle.packet.specs.declared.head.Head.the-variants as Head
 use Rattle.packet.specs.Head.{versionAt, headAt, gotHead, entry}
@@ -49,6 +50,30 @@ cutOf s =
 
 abbrev pub noEntry : Entry
 noEntry = entry 0 0 0 0 0 0 0 0
+
+-- ---- the list of entries
+
+-- what a cut returns, and the entries that it leaves at the front of a list
+pub record Listed : Type 0 where
+  pub cutting : Cutting
+  pub entries : List Entry
+
+abbrev pub uncut : ℕ → Listed
+uncut a = record { cutting = record { answer = a; used = 0; count = 0 }; entries = [] }
+
+-- a list that is too short is 4, where the cut itself is good
+abbrev pub listed : Cut → ℕ → Listed
+listed (found es z) room =
+    pick (leb (length es) room) (record { cutting = record { answer = 0; used = z; count = length es }; entries = es }) (uncut 4)
+listed (stops a p) room = uncut a
+
+-- what cutting a packet comes to, in a list of so many elements
+unfoldable pub listOf : List ℕ → ℕ → Listed
+listOf s room = listed (cutOf s) room
+
+-- the list: the entries, and zeros to its end
+abbrev pub filled : List Entry → ℕ → List Entry
+filled es room = es ++ replicate (room - length es) noEntry
 
 -- ---- one entry
 

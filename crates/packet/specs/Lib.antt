@@ -1,6 +1,6 @@
 -- The fields round a packet's values (Head), the packet as the Rust has it (Packet), what reading one whole finds and comes to (Reading) and shows (Shown),
 -- the cut and the reading by entry (Entry), when each call is refused (Why), what a change inside values is (Change),
--- and what writing a packet puts out (Writing).
+-- what writing a packet puts out (Writing), and what a packet is written as (Written), with examples computed by the checker (WriteExamples).
 pub mod Head
 pub mod Packet
 pub mod Reading
@@ -9,5 +9,7 @@ pub mod Entry
 pub mod Why
 pub mod Change
 pub mod Writing
+pub mod Written
+pub mod WriteExamples
 pub mod Carried
 pub mod Code

@@ -10,7 +10,7 @@ use Rattle.amf0.specs.Reading.{value}
 use Rattle.packet.specs.declared.head.Entry.{Entry}
 use Rattle.packet.specs.declared.entry.Found.the-variants as Found
 use Rattle.packet.specs.Reading.{packetAt}
-use Rattle.packet.specs.Entry.{cutOf, spanOf}
+use Rattle.packet.specs.Entry.{found, stops, cutOf, spanOf, Listed, uncut}
 use Rattle.packet.specs.Code.{foundIn}
 
 -- the incomplete reading
@@ -39,3 +39,10 @@ pub data ComesEntry (s : List ℕ) (number room : ℕ) : Whole → Type 0 where
       → ComesEntry s number room (refused 9)
   read : {e : Entry} → foundIn (cutOf s) number ≡ Found.Is e → length (bytes (inEntry s e)) ≤ room → Ends (inEntry s e) (e .length)
       → ComesEntry s number room (accepted (e .length) (bytes (inEntry s e)))
+
+-- the cut into a list
+pub data ComesList (s : List ℕ) (room : ℕ) : Listed → Type 0 where
+  not-cut : {a p : ℕ} → cutOf s ≡ stops a p → ComesList s room (uncut a)
+  too-short : {es : List Entry} → cutOf s ≡ found es (length s) → room < length es → ComesList s room (uncut 4)
+  cut : {es : List Entry} → cutOf s ≡ found es (length s) → length es ≤ room
+      → ComesList s room (record { cutting = record { answer = 0; used = length s; count = length es }; entries = es })

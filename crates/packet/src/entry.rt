@@ -1,31 +1,41 @@
-// Reading by entry. The cut walks the packet by the lengths that it declares and never looks into a value.
+// Reading by entry: the cut by declared lengths, as a list or by the number of an entry, and the value of an entry.
 use crate::head::Entry;
-use crate::head::HEADER;
-use crate::head::Head;
-use crate::head::MESSAGE;
-use crate::head::head_at;
-use crate::head::version;
+use crate::walk::Walk;
+use crate::walk::begin;
+use crate::walk::below;
+use crate::walk::entry_in;
+use crate::walk::no_entry;
+use crate::walk::run_out;
+use crate::walk::skip;
+use crate::walk::step;
+use crate::walk::walk_in;
 use amf0::read::Setting;
 use amf0::read::parse_value;
 use image::reading::Reading;
 use image::reading::Step;
 use image::reading::finish;
+use wire::answer::ACCEPTED;
 use wire::answer::DAMAGED;
 use wire::answer::NO_ENTRY;
+use wire::answer::NO_ROOM;
 use wire::answer::NOT_RIGHT;
 use wire::answer::NOT_WHOLE;
-use wire::answer::OVER_LIMIT;
 use wire::cursor::Cursor;
-use wire::cursor::Tag;
-use wire::cursor::U16;
-use wire::limit;
 ghost use mathlib.Core.Path.{_≡_};
-ghost use Prim.Native.Nat.{_+_, _≤_};
-ghost use lib.ListN.{length};
+ghost use mathlib.Core.List.{_++_};
+ghost use Prim.Native.Nat.{_+_, _-_, _≤_};
+ghost use lib.ListN.{length, take, replicate};
 ghost use Rattle.wire.specs.Limit.{bytes};
 ghost use Rattle.image.specs.Whole.{padded};
-ghost use Rattle.packet.specs.Entry.{entryAt, walk, cutOf, noEntry, readEntry};
-ghost use Rattle.packet.specs.Code.{kept, walkedOf, foundIn, messagesFound, judgedOf};
+ghost use Rattle.packet.specs.Entry.{cutOf, noEntry, listOf, filled, readEntry};
+ghost use Rattle.packet.specs.Code.{restOf, firstIn, foundIn, refusedCut, countedIn, judgedOf};
+
+// What a cut returns: the bytes of the packet, and the number of its entries.
+pub struct Cutting {
+    pub answer: u8,
+    pub used: usize,
+    pub count: usize,
+}
 
 // An entry that was looked for: found, or its number is past the entries, or the cut's refusal.
 pub enum Found {
@@ -33,127 +43,99 @@ pub enum Found {
     Stop(u8, usize),
 }
 
-// How a walk over entries ends: at a cursor, with the entry that was looked for, if it was among those walked; or refused.
-pub enum Walked {
-    Next(Cursor, Entry),
-    Stop(u8, usize),
-}
-
-fn no_entry() -> Entry
-    ensures { λ r. ⌜ r ≡ noEntry ⌝ }
+// The entry that a walk has come to, in a packet that is cut to its end.
+fn first(packet: &[u8], w: Walk) -> Found
+    ensures { λ r. ⌜ r ≡ firstIn (restOf (now (packet .entry)) w) ⌝ }
 {
-    Entry {
-        kind: 0,
-        flag: 0,
-        place1: 0,
-        length1: 0,
-        place2: 0,
-        length2: 0,
-        place: 0,
-        length: 0,
-    }
-}
-
-// The entry at a cursor, and the cursor behind its value.
-fn entry_at(s: &[u8], kind: u8, c: Cursor) -> Head
-    ensures { λ r. ⌜ r ≡ entryAt kind (now (s .entry)) (c .at) ⌝ }
-{
-    match head_at(s, kind, c) {
-        Head::Stop(a, p) => Head::Stop(a, p),
-        Head::Got(e, d) => {
-            let n = e.length;
-            let at = d.at;
-            if n <= s.len() - at {
-                Head::Got(e, Cursor { at: at + n })
-            } else {
-                // The length field, four bytes before the value.
-                Head::Stop(NOT_WHOLE, at - 4)
+    match w {
+        Walk::Stop(a, p) => Found::Stop(a, p),
+        Walk::End(_) => Found::Stop(NO_ENTRY, 0),
+        Walk::At(_, _, _) => {
+            let x = step(packet, w);
+            let e = entry_in(x);
+            match run_out(packet, walk_in(x)) {
+                Walk::Stop(a, p) => Found::Stop(a, p),
+                Walk::End(_) => Found::Is(e),
+                Walk::At(_, _, _) => Found::Is(e),
             }
         }
     }
-}
-
-// Walks n entries of a kind, numbered from `first` on, and keeps the one with the number `wanted`.
-fn walk(
-    s: &[u8],
-    kind: u8,
-    start: Cursor,
-    n: u16,
-    first: usize,
-    wanted: usize,
-    had: Entry,
-) -> Walked
-    ensures { λ r. ⌜ r ≡ walkedOf (walk kind (now (s .entry)) n (start .at)) first wanted had ⌝ }
-{
-    let mut c = start;
-    let mut kept = had;
-    let mut k: u16 = 0;
-    while k < n {
-        match entry_at(s, kind, c) {
-            Head::Stop(a, p) => {
-                return Walked::Stop(a, p);
-            }
-            Head::Got(e, d) => {
-                c = d;
-                kept = pick(first, k, wanted, e, kept);
-            }
-        }
-        k += 1;
-    }
-    Walked::Next(c, kept)
-}
-
-fn pick(first: usize, k: u16, wanted: usize, e: Entry, had: Entry) -> Entry
-    ensures { λ r. ⌜ r ≡ kept first k wanted e had ⌝ }
-{
-    if first <= wanted {
-        if wanted - first == (k as usize) {
-            return e;
-        }
-    }
-    had
 }
 
 // Entry `number` of a packet that its declared lengths cut exactly.
 pub fn nth(packet: &[u8], number: usize) -> Found
     ensures { λ r. ⌜ r ≡ foundIn (cutOf (now (packet .entry))) number ⌝ }
 {
-    if limit::BYTES < packet.len() {
-        return Found::Stop(OVER_LIMIT, 0);
+    let w = begin(packet);
+    let x = skip(packet, w, number);
+    first(packet, x)
+}
+
+fn uncut(answer: u8) -> Cutting
+    ensures { λ r. ⌜ r ≡ refusedCut answer ⌝ }
+{
+    Cutting {
+        answer: answer,
+        used: 0,
+        count: 0,
     }
-    match version(packet) {
-        Tag::Stop(a, p) => Found::Stop(a, p),
-        Tag::Past(c) => match c.be_u16(packet) {
-            U16::Stop(a, p) => Found::Stop(a, p),
-            U16::Got(h, d) => match walk(packet, HEADER, d, h, 0, number, no_entry()) {
-                Walked::Stop(a, p) => Found::Stop(a, p),
-                Walked::Next(e, kept) => nth_message(packet, e, number, h, kept),
-            },
+}
+
+// The end of a cut, of which n entries are in the list: if there are more, the list is too short, but the cut's own refusal comes first.
+fn counted(packet: &[u8], w: Walk, n: usize) -> Cutting
+    ensures { λ r. ⌜ r ≡ countedIn (restOf (now (packet .entry)) w) n ⌝ }
+{
+    match w {
+        Walk::Stop(a, _) => uncut(a),
+        Walk::End(z) => Cutting {
+            answer: ACCEPTED,
+            used: z,
+            count: n,
+        },
+        Walk::At(_, _, _) => match run_out(packet, w) {
+            Walk::Stop(a, _) => uncut(a),
+            Walk::End(_) => uncut(NO_ROOM),
+            Walk::At(_, _, _) => uncut(NO_ROOM),
         },
     }
 }
 
-// The rest of the cut, behind h headers.
-fn nth_message(packet: &[u8], c: Cursor, number: usize, h: u16, had: Entry) -> Found
-    ensures { λ r. ⌜ r ≡ messagesFound (now (packet .entry)) (c .at) number h had ⌝ }
+fn count_in(r: Cutting) -> usize
+    ensures { λ n. ⌜ n ≡ r .count ⌝ }
 {
-    let first = h as usize;
-    match c.be_u16(packet) {
-        U16::Stop(a, p) => Found::Stop(a, p),
-        U16::Got(m, d) => match walk(packet, MESSAGE, d, m, first, number, had) {
-            Walked::Stop(a, p) => Found::Stop(a, p),
-            Walked::Next(e, kept) => {
-                if e.at < packet.len() {
-                    return Found::Stop(NOT_RIGHT, e.at);
-                }
-                if number < first + (m as usize) {
-                    Found::Is(kept)
-                } else {
-                    Found::Stop(NO_ENTRY, 0)
-                }
-            }
-        },
+    r.count
+}
+
+// Zero entries from a place on.
+pub(crate) fn clear(list: &mut [Entry], from: usize)
+    ensures { λ _. ⌜ now (list .exit) ≡ take from (now (list .entry)) ++ replicate (length (now (list .entry)) - from) noEntry ⌝ }
+{
+    let mut i = from;
+    while i < list.len() {
+        let e = no_entry();
+        list[i] = e;
+        i += 1;
     }
+}
+
+// The entries of a packet that its declared lengths cut exactly, headers first, and zero entries behind them; on a refusal zero entries alone.
+pub fn cut(packet: &[u8], list: &mut [Entry]) -> Cutting
+    ensures { λ r. ⌜ r ≡ listOf (now (packet .entry)) (length (now (list .entry))) .cutting ⌝ }
+    ensures { λ _. ⌜ now (list .exit) ≡ filled (listOf (now (packet .entry)) (length (now (list .entry))) .entries) (length (now (list .entry))) ⌝ }
+{
+    let mut w = begin(packet);
+    let mut n = 0;
+    while below(w, n, list.len()) {
+        let x = step(packet, w);
+        let e = entry_in(x);
+        list[n] = e;
+        w = walk_in(x);
+        n += 1;
+    }
+    let r = counted(packet, w, n);
+    let m = count_in(r);
+    clear(list, m);
+    r
 }
 
 // What the value reader's step in an entry's span means: 2, 3 and unused bytes are damage, 4 and 5 stand.

@@ -2,4 +2,5 @@
 pub mod entry;
 pub mod head;
 pub mod read;
+pub mod walk;
 pub mod write;

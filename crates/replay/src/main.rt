@@ -12,17 +12,22 @@
 //     06  packet parse(first row, an image of a bytes)             answer used made image
 //     07  packet parse_incomplete, likewise
 //     08  packet write_to_bytes(image, text, an output of a bytes), with exact lengths where b is 1
+//     09  cut(first row, a list of a entries, at most 4,096)        answer used count, and each entry of the list: its kind, flag, and place and
+//                                                                  length of its first text, its second text and its value, with points between
 //     0A  parse_entry(first row, number b, an image of a bytes)    answer used made image
 //     0B  inside and part(first row, place a, length b)            0 or 1, the part
 mod output;
 
-ghost use Prim.Native.Nat.{_<_};
+ghost use Prim.Native.Nat.{_<_, _≤_};
 use image::reading::Reading;
 use image::writing::Writing;
 use libc::STDIN_FILENO;
 use output::number;
 use output::row;
 use output::word;
+use packet::entry::Cutting;
+use packet::entry::cut;
+use packet::head::Entry;
 use wire::cursor::Cursor;
 use wire::cursor::U32;
 use wire::text::part;
@@ -170,6 +175,62 @@ fn read_entry(input: &[u8], number: usize, image: &mut [u8]) {
     tell_reading(packet::entry::parse_entry(input, number, image), image);
 }
 
+// An entry that no packet has.
+fn unread_entry() -> Entry {
+    Entry {
+        kind: UNREAD,
+        flag: UNREAD,
+        place1: 0xA5A5A5A5,
+        length1: 0xA5A5A5A5,
+        place2: 0xA5A5A5A5,
+        length2: 0xA5A5A5A5,
+        place: 0xA5A5A5A5,
+        length: 0xA5A5A5A5,
+    }
+}
+
+fn tell_cutting(r: Cutting) {
+    number(r.answer as usize);
+    word(b" ");
+    number(r.used);
+    word(b" ");
+    number(r.count);
+}
+
+fn tell_place(place: usize, length: usize) {
+    word(b".");
+    number(place);
+    word(b".");
+    number(length);
+}
+
+fn tell_entry(e: Entry) {
+    word(b" ");
+    number(e.kind as usize);
+    word(b".");
+    number(e.flag as usize);
+    tell_place(e.place1, e.length1);
+    tell_place(e.place2, e.length2);
+    tell_place(e.place, e.length);
+}
+
+// The cut of a packet into a list of n entries.
+fn cut_packet(input: &[u8], n: usize)
+    requires { ⌜ n ≤ 4096 ⌝ }
+{
+    let z = unread_entry();
+    let mut list = [z; 4096];
+    let r = cut(input, &mut list[..n]);
+    tell_cutting(r);
+    let mut i = 0;
+    while i < n {
+        let e = list[i];
+        tell_entry(e);
+        i += 1;
+    }
+    word(b"\n");
+}
+
 fn name_text(input: &[u8], place: usize, length: usize) {
     if wire::text::inside(input, place, length) {
         word(b"1 ");
@@ -200,6 +261,12 @@ fn call(operation: u8, b: usize, first: &[u8], second: &[u8], buffer: &mut [u8])
 fn answer(operation: u8, a: usize, b: usize, first: &[u8], second: &[u8], room: &mut [u8]) {
     if operation == 0x0B {
         name_text(first, a, b);
+    } else if operation == 0x09 {
+        if a <= 4096 {
+            cut_packet(first, a);
+        } else {
+            word(b"over\n");
+        }
     } else if a <= room.len() {
         call(operation, b, first, second, &mut room[..a]);
     } else {

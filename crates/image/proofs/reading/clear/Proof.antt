@@ -33,7 +33,7 @@ loop-again : tie.Need-loop-again Inv-loop μ-loop
 loop-again c =
     let l = c .before .loop in
     let n = length (c .before .before .args .image .now) in
-    (simp length-set (l .inv .0), l .inv .1 ∙ clear-more (l .image) (l .i) n (omega arith) (omega arith))
+    (simp length-set (l .inv .0), l .inv .1 ∙ clear-more 0 (l .image) (l .i) n (omega arith) (omega arith))
 
 same-length : tie.Need-same-length Inv-loop μ-loop
 same-length c = search needs
@@ -42,7 +42,7 @@ returns : tie.Need-returns Inv-loop μ-loop
 returns c =
     let l = c .before .loop in
     let n = length (c .before .before .args .image .now) in
-    sym (l .inv .1 ∙ clear-all (l .image) (l .i) n (omega arith) (omega arith))
+    sym (l .inv .1 ∙ clear-all 0 (l .image) (l .i) n (omega arith) (omega arith))
 
 pub clear-spec : {M : Type 1} → statement M
 clear-spec =

@@ -1,0 +1,57 @@
+#!/usr/bin/env python3
+"""measure.py COUNTED PLUGIN TIMED CORPUS: runs the driver on each file and prints a table a call: x86-64 instructions of one call, the library's and the
+Rust's, their ratio, and the ratio of the times. COUNTED runs under qemu with PLUGIN, TIMED by itself."""
+import os
+import re
+import subprocess
+import sys
+
+COUNTED, PLUGIN, TIMED, CORPUS = sys.argv[1:5]
+FEW = 200_000  # bytes from which a file is read fewer times
+
+
+def instructions(side, call, file):
+    """One call: the difference of two runs, so that what happens once drops out. The emulated processor has no fast `rep stosb`: the C library's memset and
+    memcpy would use it, and the emulator counts each byte of it as an instruction."""
+    low, high = (2, 4) if os.path.getsize(file) > FEW or call == "entries" else (10, 30)
+
+    def run(times):
+        done = subprocess.run(["qemu-x86_64", "-cpu", "max,-erms", "-plugin", PLUGIN, COUNTED, side, call, str(times), file], capture_output=True, check=True)
+        return int(re.search(rb"instructions (\d+)", done.stderr)[1])
+
+    return (run(high) - run(low)) / (high - low)
+
+
+def times(call, file):
+    """Nanoseconds of one call on both sides, the least of seven runs of some 40 ms, taken in turn."""
+
+    def run(side, n):
+        return int(subprocess.run([TIMED, side, call, str(n), file], capture_output=True, check=True).stdout)
+
+    sides = ("riddoskam", "rust")
+    n = {s: max(1, 40_000_000 // max(1, run(s, 3))) for s in sides}
+    least = {s: min(run(s, n[s]) for _ in range(7)) for s in sides}
+    return least["riddoskam"], least["rust"]
+
+
+def table(title, call, names):
+    print(f"\n{title}\n")
+    print("| file | bytes | instructions | a byte | the Rust's | ratio | time, ns | the Rust's | ratio |")
+    print("|---|---|---|---|---|---|---|---|---|")
+    for name in names:
+        file = os.path.join(CORPUS, name)
+        size = os.path.getsize(file)
+        ours, rust = instructions("riddoskam", call, file), instructions("rust", call, file)
+        t, u = times(call, file)
+        print(f"| {name} | {size:,} | {ours:,.0f} | {ours / size:.1f} | {rust:,.0f} | {ours / rust:.2f} | {t:,} | {u:,} | {t / u:.2f} |", flush=True)
+
+
+SHAPES = ["small", "deep", "text", "umlauts", "array"]
+SIZES = ["shelves" + s for s in ("1K", "4K", "16K", "64K", "256K", "1M")]
+PACKETS = ["shelves" + s + ".amfp" for s in ("1K", "16K", "256K")]
+table("Reading a whole file", "lso", [n + ".lso" for n in SHAPES + SIZES])
+table("Reading a value", "value", [n + ".amf" for n in SHAPES + SIZES[2:]])
+table("Writing a file", "write", [n + ".lso" for n in SHAPES + SIZES])
+table("Reading a whole packet", "packet", PACKETS)
+table("Reading one entry of a packet, against the Rust's reading of all", "entry", PACKETS)
+table("Reading every entry of a packet by its number, against the Rust's reading of all", "entries", PACKETS[:2])

@@ -1,0 +1,162 @@
+-- What the standard calls a value is read as that value.
+use Prim.Native.Nat.{ℕ, zero, suc, _+_, _^_, _≤_, _<_, pred}
+use mathlib.Core.Path.{_≡_, refl, sym, ap, _∙_}
+use mathlib.Core.List.{List, [], _∷_, _++_}
+use mathlib.Core.Bool.{true}
+use native.Mathlib.Omega.{arith}
+use lib.ListN.{length, length-append, length-drop}
+use lib.Dec.{eqb, lit<}
+use Rattle.wire.specs.Choice.{pick}
+use Rattle.wire.specs.Number.{digits}
+use Rattle.wire.specs.Utf8.{utf8, ends}
+use Rattle.wire.specs.Field.{u8At, got8}
+use Rattle.wire.specs.declared.cursor.U8.{U8}
+use Rattle.wire.specs.declared.cursor.U8.the-variants as U8
+use Rattle.wire.proofs.Stands.{Here, cut, skip, inside, byte-at, text-at}
+use Rattle.image.specs.declared.record.Record.{Record}
+use Rattle.image.specs.declared.record.Record.the-variants.{Key, ObjectEnd}
+use Rattle.image.specs.Due.{Due, end, stop, due, _>>=_}
+use Rattle.amf0.specs.declared.read.Follow.{Follow}
+use Rattle.amf0.specs.declared.read.Fields.the-variants.{Got, Stop}
+use Rattle.amf0.specs.Marker.{markerOf}
+use Rattle.amf0.specs.Fields.{fieldsAt, gives, gotFields}
+use Rattle.amf0.specs.Reading.{items, pair, pairs, follow, value}
+use Rattle.amf0.specs.Standard.{Item, Sort, Tree, depth, follows, Encodes}
+use Rattle.amf0.specs.Standard.UTF-8.{short}
+use Rattle.amf0.proofs.Rows.{itemAt, mark, next, many, Begins, row-begins, item-at}
+
+-- the records of a row of bytes that stands at a place, each with the place that a refusal for room would name
+unfoldable pub marks : {k : Sort} {t : Tree k} {x : List ℕ} → Encodes k t x → ℕ → List (Record × ℕ)
+marks (Encodes.node {x} row e) at = (mark row at, at) ∷ marks e (at + length x)
+marks Encodes.end at = (ObjectEnd, at + 2 + 0) ∷ []
+marks (Encodes.departure-named-end (short k h u)) at = (ObjectEnd, at + 2 + length k) ∷ []
+marks (Encodes.property {y} (short k h u) e f) at = (Key (at + 2) (length k), at) ∷ (marks e (at + 2 + length k) ++ marks f (at + 2 + length k + length y))
+marks Encodes.nil at = []
+marks (Encodes.cons {x} e f) at = marks e at ++ marks f (at + length x)
+
+-- records that fall due before a reading
+abbrev pub lay : List (Record × ℕ) → Due → Due
+lay [] d = d
+lay (m ∷ ms) d = due (m .0) (m .1) (lay ms d)
+
+lay-bind : (ms : List (Record × ℕ)) (d : Due) (k : ℕ → Due) → lay ms d >>= k ≡ lay ms (d >>= k)
+lay-bind [] d k = refl
+lay-bind (m ∷ ms) d k = ap (due (m .0) (m .1)) (lay-bind ms d k)
+
+pub lay-append : (ms ns : List (Record × ℕ)) (d : Due) → lay ms (lay ns d) ≡ lay (ms ++ ns) d
+lay-append [] ns d = refl
+lay-append (m ∷ ms) ns d = ap (due (m .0) (m .1)) (lay-append ms ns d)
+
+-- one reading and then another
+then : (ms ns : List (Record × ℕ)) {d : Due} {q : ℕ} (n : ℕ) (k : ℕ → Due) → d ≡ lay ms (end q) → k q ≡ lay ns (end n) → d >>= k ≡ lay (ms ++ ns) (end n)
+then ms ns {q} n k a b = ap (λ u. u >>= k) a ∙ (lay-bind ms (end q) k ∙ (ap (lay ms) b ∙ lay-append ms ns (end n)))
+
+-- what is read of each sort
+abbrev pub part : (ℕ → Due) → List ℕ → ℕ → Sort → ℕ → Due
+part value s fuel Sort.value at = value at
+part value s fuel Sort.properties at = pairs value s fuel at
+part value s fuel (Sort.values n) at = items value n at
+
+pub follow-next : (v : ℕ → Due) (s : List ℕ) (i : Item) (q : ℕ) → follow v s (next i) q ≡ part v s (length s) (follows i) q
+unfolding follow items
+follow-next v s (Item.number n) q = refl
+follow-next v s (Item.boolean b) q = refl
+follow-next v s (Item.string t) q = refl
+follow-next v s Item.object q = refl
+follow-next v s Item.null q = refl
+follow-next v s Item.undefined q = refl
+follow-next v s (Item.reference n) q = refl
+follow-next v s (Item.ecma-array n) q = refl
+follow-next v s (Item.strict-array n) q = refl
+follow-next v s (Item.date n z) q = refl
+follow-next v s Item.unsupported q = refl
+follow-next v s (Item.xml-document t) q = refl
+follow-next v s (Item.typed-object t) q = refl
+
+pub value-item : (left : ℕ) (s : List ℕ) (at : ℕ)
+    → value (suc left) s at ≡ gotFields stop (itemAt s at) λ r f q. due r at (follow (value left s) s f q)
+unfolding value itemAt
+value-item left s at = go (u8At s at)
+  where
+    go : (u : U8)
+        → got8 stop u (λ m p. gotFields stop (fieldsAt s at p (markerOf m)) λ r f q. due r at (follow (value left s) s f q))
+        ≡ gotFields stop (got8 Stop u λ m p. fieldsAt s at p (markerOf m)) λ r f q. due r at (follow (value left s) s f q)
+    go (U8.Got m c) = refl
+    go (U8.Stop a p) = refl
+
+value-at : (s : List ℕ) (at left : ℕ) {r : Record} {f : Follow} {q : ℕ} → itemAt s at ≡ gives r f q → 1 ≤ left
+    → value left s at ≡ due r at (follow (value (pred left) s) s f q)
+value-at s at zero e l = absurd (omega arith)
+value-at s at (suc left) e l = value-item left s at ∙ rw e
+
+pairs-at : {s a b : List ℕ} {at m : ℕ} (inner : ℕ → Due) (fuel : ℕ) (k : List ℕ) → 1 ≤ fuel → length k < 256 ^ 2 → utf8 k ≡ true
+    → Here s at (digits 2 (length k) ++ k) a → Here s (at + 2 + length k) (m ∷ []) b
+    → pairs inner s fuel at
+    ≡ pick (eqb m 9) (due ObjectEnd (at + 2 + length k) (end (at + 2 + length k + 1)))
+    (due (Key (at + 2) (length k)) at (inner (at + 2 + length k) >>= pairs inner s (pred fuel)))
+unfolding pairs pair
+pairs-at inner zero k f l u x y = absurd (omega arith)
+pairs-at {m} inner (suc fuel) k f l u x y = rw (text-at 2 k x l u (omega arith), byte-at m y)
+
+-- what stands behind a key
+pub past : {s r : List ℕ} {at : ℕ} (k y : List ℕ) → Here s at ((digits 2 (length k) ++ k) ++ y) r → Here s (at + 2 + length k) y r
+past k y h = skip k y (skip (digits 2 (length k)) (k ++ y) h)
+
+closes : (inner : ℕ → Due) (k s r : List ℕ) (at n fuel : ℕ) → length k < 256 ^ 2 → utf8 k ≡ true → Here s at ((digits 2 (length k) ++ k) ++ (9 ∷ [])) r
+    → n ≡ at + 2 + length k + 1 → 1 ≤ fuel → pairs inner s fuel at ≡ due ObjectEnd (at + 2 + length k) (end n)
+closes inner k s r at n fuel h u g l f =
+    pairs-at inner fuel k f h u (cut (digits 2 (length k) ++ k) (9 ∷ []) g) (past k (9 ∷ []) g)
+    ∙ ap (λ q. due ObjectEnd (at + 2 + length k) (end q)) (sym l)
+
+pub begun : {v : Tree Sort.value} {x : List ℕ} → Encodes Sort.value v x → Begins x
+begun (Encodes.node {x} {y} row e) =
+    let b = row-begins row in
+    record { first = b .first; rest = b .rest ++ y; same = ap (λ z. z ++ y) (b .same); other = b .other }
+
+-- values that follow one another have a byte each
+held : {k : Sort} {t : Tree k} {x : List ℕ} → Encodes k t x → many k ≤ length x
+held (Encodes.node row e) = omega arith
+held Encodes.end = omega arith
+held (Encodes.departure-named-end u) = omega arith
+held (Encodes.property u e f) = omega arith
+held Encodes.nil = omega arith
+held (Encodes.cons {x} {y} e f) = omega (arith, held f, ap length (begun e .same), length-append x y)
+
+pub within : {s x r : List ℕ} {at : ℕ} → Here s at x r → length x ≤ length s
+within {s} {x} {r} {at} h = omega (arith, length-drop at s, ap length (h .same), length-append x r)
+
+pub complete : {k : Sort} {t : Tree k} {x : List ℕ} (e : Encodes k t x) (s r : List ℕ) (at n left fuel : ℕ)
+    → Here s at x r → n ≡ at + length x → depth t ≤ left → length x ≤ fuel → part (value left s) s fuel k at ≡ lay (marks e at) (end n)
+unfolding items marks ends
+complete (Encodes.node {i} {x} {y} row e) s r at n left fuel h l d f =
+    let q : ℕ = at + length x in
+    let z = skip x y h in
+    let b = row-begins row in
+    let lx = length-append x y in
+    value-at s at left (item-at s (y ++ r) at q row (cut x y h) refl (omega (arith, held e, inside h (omega (arith, ap length (b .same)))))) (omega arith)
+    ∙ ap (due (mark row at) at)
+    (follow-next (value (pred left) s) s i q ∙ complete e s r q n (pred left) (length s) z (omega arith) (omega arith) (within z))
+complete Encodes.end s r at n left fuel h l d f = closes (value left s) [] s r at n fuel (lit< tt) refl h (omega arith) (omega arith)
+complete (Encodes.departure-named-end (short k h u)) s r at n left fuel g l d f =
+    closes (value left s) k s r at n fuel h u g (omega (arith, length-append k (9 ∷ []))) (omega arith)
+complete (Encodes.property {y} {z} (short k h u) e g) s r at n left fuel a l d f =
+    let x : List ℕ = digits 2 (length k) ++ k in
+    let q : ℕ = at + 2 + length k in
+    let c : Here s q (y ++ z) r = past k (y ++ z) a in
+    let m = begun e in
+    let more : ℕ → Due = pairs (value left s) s (pred fuel) in
+    let lk = length-append k (y ++ z) in
+    let lx = length-append y z in
+    pairs-at {m = m .first} (value left s) fuel k (omega arith) h u (cut x (y ++ z) a)
+    (record { same = (cut y z c) .same ∙ ap (λ w. w ++ (z ++ r)) (m .same) })
+    ∙ (rw (m .other)
+    (ap (due (Key (at + 2) (length k)) at)
+    (then (marks e q) (marks g (q + length y)) n more
+    (complete e s (z ++ r) q (q + length y) left (length y) (cut y z c) refl (omega arith) (omega arith))
+    (complete g s r (q + length y) n left (pred fuel) (skip y z c) (omega arith) (omega arith) (omega arith)))))
+complete Encodes.nil s r at n left fuel h l d f = ap end (omega arith)
+complete (Encodes.cons {n = c} {x} {y} e g) s r at n left fuel h l d f =
+    let lx = length-append x y in
+    then (marks e at) (marks g (at + length x)) n (items (value left s) c)
+    (complete e s (y ++ r) at (at + length x) left (length x) (cut x y h) refl (omega arith) (omega arith))
+    (complete g s r (at + length x) n left (length y) (skip x y h) (omega arith) (omega arith) (omega arith))

@@ -1,0 +1,211 @@
+-- The records of a tree are put out as what the tree is written as.
+use Prim.Native.Nat.{ℕ, zero, suc, _+_, _≤_, _<_}
+use mathlib.Core.Path.{_≡_, refl, ap, _∙_}
+use mathlib.Core.List.{List, [], _∷_, _++_, append-assoc}
+use mathlib.Core.Bool.{true, false}
+use native.Mathlib.Omega.{arith}
+use lib.ListN.{length, length-append}
+use Rattle.wire.specs.Number.{digits}
+use Rattle.wire.specs.Bytes.{decimal}
+use Rattle.wire.specs.Field.{to}
+use Rattle.wire.proofs.Stands.{Here, cut, skip, byte-at}
+use Rattle.image.specs.declared.record.Record.{Record}
+use Rattle.image.specs.declared.taking.Taken.the-variants.{Found}
+use Rattle.image.specs.Record.{layoutOf, bytesOf, size}
+use Rattle.image.specs.Taking.{recordAt, Fits}
+use Rattle.image.specs.Out.{Out, end, stop, put, _>>=_, row}
+use Rattle.image.proofs.Laws.{size-bytes, size-some}
+use Rattle.image.proofs.Found.{found-here}
+use Rattle.amf0.specs.Standard.{Item, Sort, Tree, depth, follows}
+use Rattle.amf0.specs.Shown.{Word, look, laid}
+use Rattle.amf0.specs.Writing.{kinds, among, valueAt, items, pairs, dense, rest, value}
+use Rattle.amf0.specs.Written.{write, writeItem, Right, Lead, lead, Spells}
+use Rattle.amf0.specs.Written.Lead.{keyed, keyless}
+use Rattle.amf0_theorems.proofs.Complete.{within}
+use Rattle.amf0_theorems.proofs.Says.{restOf, says, Itemed, Keyed, Closed}
+
+-- ---- a writing that is not refused
+
+-- the writing puts out these bytes and ends at n; or, where D holds, it is refused with 5
+pub data Puts (D : Type 0) : Out → List ℕ → ℕ → Type 0 where
+  done : {n : ℕ} → Puts D (end n) [] n
+  more : {b x : List ℕ} {d : Out} {n : ℕ} → Puts D d x n → Puts D (put b d) (b ++ x) n
+  shut : {p : ℕ} {x : List ℕ} {n : ℕ} → D → Puts D (stop 5 p) x n
+
+pub then : {D : Type 0} {d : Out} {x y : List ℕ} {m n : ℕ} (k : ℕ → Out) → Puts D d x m → Puts D (k m) y n → Puts D (d >>= k) (x ++ y) n
+then k Puts.done q = q
+then {y} k (Puts.more {b} {x} p) q = rw (append-assoc b x y) (Puts.more (then k p q))
+then k (Puts.shut d) q = Puts.shut d
+
+-- ---- rows of records
+
+pub laid-append : (rs qs : List Record) → laid (rs ++ qs) ≡ laid rs ++ laid qs
+laid-append [] qs = refl
+laid-append (r ∷ rs) qs = rw (laid-append rs qs, append-assoc (bytesOf r) (laid rs) (laid qs))
+
+pub laid-length : (rs qs : List Record) → length (laid (rs ++ qs)) ≡ length (laid rs) + length (laid qs)
+laid-length rs qs = ap length (laid-append rs qs) ∙ length-append (laid rs) (laid qs)
+
+pub laid-size : (r : Record) (rs : List Record) → length (laid (r ∷ rs)) ≡ size r + length (laid rs)
+laid-size r rs = omega (arith, length-append (bytesOf r) (laid rs), size-bytes r)
+
+pub right-left : (s : List ℕ) (rs qs : List Record) → Right s (rs ++ qs) → Right s rs
+right-left s [] qs h = tt
+right-left s (r ∷ rs) qs h = (h .0, h .1, right-left s rs qs (h .2))
+
+pub right-right : (s : List ℕ) (rs qs : List Record) → Right s (rs ++ qs) → Right s qs
+right-right s [] qs h = h
+right-right s (r ∷ rs) qs h = right-right s rs qs (h .2)
+
+pub right-both : (s : List ℕ) (rs qs : List Record) → Right s rs → Right s qs → Right s (rs ++ qs)
+right-both s [] qs g h = h
+right-both s (r ∷ rs) qs g h = (g .0, g .1, right-both s rs qs (g .2) h)
+
+-- the records of a value take bytes, and so do those of properties
+pub one : {s : List ℕ} {v : Tree Sort.value} {rs : List Record} → Spells s keyed Sort.value v rs → 1 ≤ length (laid rs)
+one (Spells.node {r} {rs} e c) = omega (arith, size-some r, laid-size r rs)
+
+some : {s : List ℕ} {l : Lead} {ps : Tree Sort.properties} {rs : List Record} → Spells s l Sort.properties ps rs → 1 ≤ length (laid rs)
+some (Spells.none {r} e) = omega (arith, size-some r, laid-size r [])
+some (Spells.property {r} {rs} {qs} e c d) = omega (arith, size-some r, laid-size r (rs ++ qs))
+some (Spells.dense {rs} {qs} c d) = omega (arith, some d, laid-length rs qs)
+some (Spells.pairs c) = some c
+
+-- ---- the writing of a row of records
+
+module _ (s image : List ℕ) where
+  -- what is written of each sort
+  abbrev pub part : (ℕ → Out) → ℕ → Lead → Sort → ℕ → Out
+  part v fuel keyed Sort.value at = v at
+  part v fuel keyed Sort.properties at = pairs v image s fuel at
+  part v fuel keyed (Sort.values n) at = items v image s n at
+  part v fuel (keyless k) Sort.value at = v at
+  part v fuel (keyless k) Sort.properties at = dense v image s (suc fuel) k at
+  part v fuel (keyless k) (Sort.values n) at = items v image s n at
+
+  rest-part : (v : ℕ → Out) (i : Item) (q : ℕ) → rest v image s (restOf i) q ≡ part v (length image) (lead i) (follows i) q
+  unfolding rest items
+  rest-part v (Item.number n) q = refl
+  rest-part v (Item.boolean b) q = refl
+  rest-part v (Item.string t) q = refl
+  rest-part v Item.object q = refl
+  rest-part v Item.null q = refl
+  rest-part v Item.undefined q = refl
+  rest-part v (Item.reference n) q = refl
+  rest-part v (Item.ecma-array n) q = refl
+  rest-part v (Item.strict-array n) q = refl
+  rest-part v (Item.date n z) q = refl
+  rest-part v Item.unsupported q = refl
+  rest-part v (Item.xml-document t) q = refl
+  rest-part v (Item.typed-object t) q = refl
+
+  module _ {at : ℕ} (r : Record) (rs : List Record) (z : List ℕ) (h : Here image at (laid (r ∷ rs)) z) where
+    pub first : Fits r → recordAt image at ≡ Found r (to (at + size r))
+    first f = found-here image (laid rs ++ z) at r f (cut (bytesOf r) (laid rs) h)
+
+    pub others : Here image (at + size r) (laid rs) z
+    others = rw (← size-bytes r) (skip (bytesOf r) (laid rs) h)
+
+    kind-at : valueAt image at ≡ among kinds (layoutOf r .kind)
+    unfolding valueAt bytesOf
+    kind-at = rw (byte-at (layoutOf r .kind) (cut (layoutOf r .kind ∷ []) _ h))
+
+    value-first : (left : ℕ) (i : Item) → look s r ≡ Word.item i → Right s (r ∷ rs) → {D : Type 0} {x : List ℕ} {n : ℕ}
+        → Puts D (part (value left image s) (length image) (lead i) (follows i) (at + size r)) x n → Puts D (value (suc left) image s at) (writeItem i ++ x) n
+    unfolding value row
+    value-first left i e g {D} {x} {n} p =
+        let w : Itemed s r i = rw e at (says s r (g .0) (g .1)) in
+        let q : Puts D (rest (value left image s) image s (restOf i) (at + size r)) x n = rw (rest-part (value left image s) i (at + size r)) p in
+        rw (first (g .0), w .shape, w .named, w .puts) (Puts.more q)
+
+    pair-first : (v : ℕ → Out) (fuel : ℕ) (k : List ℕ) → look s r ≡ Word.name k → Right s (r ∷ rs) → {D : Type 0} {x : List ℕ} {n : ℕ}
+        → Puts D (v (at + size r) >>= pairs v image s fuel) x n → Puts D (pairs v image s (suc fuel) at) ((digits 2 (length k) ++ k) ++ x) n
+    unfolding pairs row
+    pair-first v fuel k e g p =
+        let w : Keyed s r k = rw e at (says s r (g .0) (g .1)) in
+        rw (first (g .0), w .shape, w .named, w .puts) (Puts.more p)
+
+    end-first : {D : Type 0} (v : ℕ → Out) (fuel : ℕ) → look s r ≡ Word.close → Right s (r ∷ rs)
+        → Puts D (pairs v image s (suc fuel) at) (0 ∷ 0 ∷ 9 ∷ []) (at + size r)
+    unfolding pairs row
+    end-first v fuel e g =
+        let w : Closed s r = rw e at (says s r (g .0) (g .1)) in
+        rw (first (g .0), w .shape, w .named, w .puts) (Puts.more Puts.done)
+
+  -- whether a value's record stands first
+  value-begins : {v : Tree Sort.value} {rs : List Record} → Spells s keyed Sort.value v rs → Right s rs → (z : List ℕ) (at : ℕ) → Here image at (laid rs) z
+      → valueAt image at ≡ true
+  value-begins (Spells.node {r} {i} {rs} e c) g z at h =
+      let w : Itemed s r i = rw e at (says s r (g .0) (g .1)) in
+      kind-at r rs z h ∙ w .kind
+
+  pairs-begin : {ps : Tree Sort.properties} {rs : List Record} → Spells s keyed Sort.properties ps rs → Right s rs → (z : List ℕ) (at : ℕ)
+      → Here image at (laid rs) z → valueAt image at ≡ false
+  pairs-begin (Spells.none {r} e) g z at h =
+      let w : Closed s r = rw e at (says s r (g .0) (g .1)) in
+      kind-at r [] z h ∙ w .kind
+  pairs-begin (Spells.property {r} {k} {rs} {qs} e c d) g z at h =
+      let w : Keyed s r k = rw e at (says s r (g .0) (g .1)) in
+      kind-at r (rs ++ qs) z h ∙ w .kind
+
+  dense-value : (v : ℕ → Out) (fuel k at : ℕ) → valueAt image at ≡ true → {D : Type 0} {x : List ℕ} {n : ℕ} → Puts D (v at >>= dense v image s fuel (k + 1)) x n
+      → Puts D (dense v image s (suc fuel) k at) ((digits 2 (length (decimal k)) ++ decimal k) ++ x) n
+  unfolding dense
+  dense-value v fuel k at e {D} {x} {n} p =
+      rw (e, append-assoc (digits 2 (length (decimal k))) (decimal k) x) (Puts.more (Puts.more p))
+
+  dense-pairs : (v : ℕ → Out) (fuel k at : ℕ) → valueAt image at ≡ false → {D : Type 0} {x : List ℕ} {n : ℕ} → Puts D (pairs v image s (length image) at) x n
+      → Puts D (dense v image s (suc fuel) k at) x n
+  unfolding dense
+  dense-pairs v fuel k at e p = rw e p
+
+  value-shut : (at : ℕ) → valueAt image at ≡ true → {D : Type 0} {x : List ℕ} {n : ℕ} → D → Puts D (value zero image s at) x n
+  unfolding value
+  value-shut at e d = rw e (Puts.shut d)
+
+  pub puts : {D : Type 0} {l : Lead} {k : Sort} {t : Tree k} {rs : List Record} → Spells s l k t rs → Right s rs → (z : List ℕ) (at n left fuel : ℕ)
+      → Here image at (laid rs) z → n ≡ at + length (laid rs) → (left < depth t → D) → length (laid rs) ≤ fuel
+      → Puts D (part (value left image s) fuel l k at) (write t) n
+  unfolding items
+  puts (Spells.node {r} {i} {t} {rs} e c) g z at n zero fuel h m d f =
+      value-shut at (value-begins (Spells.node e c) g z at h) (d (omega arith))
+  puts (Spells.node {r} {i} {t} {rs} e c) g z at n (suc left) fuel h m d f =
+      let o = others r rs z h in
+      value-first r rs z h left i e g
+      (puts c (g .2) z (at + size r) n left (length image) o (omega (arith, laid-size r rs)) (λ i. d (omega arith)) (within o))
+  puts (Spells.none {r} e) g z at n left zero h m d f = absurd (omega (arith, size-some r, laid-size r []))
+  puts (Spells.none {r} e) g z at n left (suc fuel) h m d f =
+      let l : n ≡ at + size r = omega (arith, laid-size r []) in
+      rw l (end-first r [] z h (value left image s) fuel e g)
+  puts (Spells.property {r} {k} {v} {ps} {rs} {qs} e a c) g z at n left zero h m d f =
+      absurd (omega (arith, size-some r, laid-size r (rs ++ qs)))
+  puts (Spells.property {r} {k} {v} {ps} {rs} {qs} e a c) g z at n left (suc fuel) h m d f =
+      let l = laid-length rs qs in
+      let o = laid-size r (rs ++ qs) in
+      let b = size-some r in
+      let q : ℕ = at + size r in
+      let j : Here image q (laid rs ++ laid qs) z = rw (laid-append rs qs) at (others r (rs ++ qs) z h) in
+      pair-first r (rs ++ qs) z h (value left image s) fuel k e g
+      (then (pairs (value left image s) image s fuel)
+      (puts a (right-left s rs qs (g .2)) (laid qs ++ z) q (q + length (laid rs)) left fuel (cut (laid rs) (laid qs) j) refl (λ i. d (omega arith)) (omega arith))
+      (puts c (right-right s rs qs (g .2)) z (q + length (laid rs)) n left fuel (skip (laid rs) (laid qs) j) (omega arith) (λ i. d (omega arith)) (omega arith)))
+  puts Spells.nil g z at n left fuel h m d f = let e : n ≡ at = omega arith in rw e Puts.done
+  puts (Spells.cons {n = c} {v} {vs} {rs} {qs} a b) g z at n left fuel h m d f =
+      let l = laid-length rs qs in
+      let o : Here image at (laid rs ++ laid qs) z = rw (laid-append rs qs) at h in
+      then (items (value left image s) image s c)
+      (puts a (right-left s rs qs g) (laid qs ++ z) at (at + length (laid rs)) left fuel (cut (laid rs) (laid qs) o) refl (λ i. d (omega arith)) (omega arith))
+      (puts b (right-right s rs qs g) z (at + length (laid rs)) n left fuel (skip (laid rs) (laid qs) o) (omega arith) (λ i. d (omega arith)) (omega arith))
+  puts (Spells.dense {n = k} {v} {ps} {rs} {qs} a b) g z at n left zero h m d f =
+      absurd (omega (arith, some b, laid-length rs qs))
+  puts (Spells.dense {n = k} {v} {ps} {rs} {qs} a b) g z at n left (suc fuel) h m d f =
+      let l = laid-length rs qs in
+      let o : Here image at (laid rs ++ laid qs) z = rw (laid-append rs qs) at h in
+      let j = cut (laid rs) (laid qs) o in
+      let ga = right-left s rs qs g in
+      dense-value (value left image s) (suc fuel) k at (value-begins a ga (laid qs ++ z) at j)
+      (then (dense (value left image s) image s (suc fuel) (k + 1))
+      (puts a ga (laid qs ++ z) at (at + length (laid rs)) left (length (laid rs)) j refl (λ i. d (omega arith)) (omega arith))
+      (puts b (right-right s rs qs g) z (at + length (laid rs)) n left fuel (skip (laid rs) (laid qs) o) (omega arith) (λ i. d (omega arith)) (omega (arith, one a))))
+  puts (Spells.pairs {n = k} c) g z at n left fuel h m d f =
+      dense-pairs (value left image s) fuel k at (pairs-begin c g z at h) (puts c g z at n left (length image) h m d (within h))

@@ -1,0 +1,145 @@
+-- What a record says is what it is put out as, and that is a row of the standard's.
+use Prim.Native.Nat.{ℕ, _+_, _^_, _<_}
+use mathlib.Core.Path.{_≡_, refl, ap, _∙_}
+use mathlib.Core.List.{List, [], _∷_, _++_, append-nil}
+use mathlib.Core.Bool.{Bool, true, false}
+use native.Mathlib.Omega.{arith}
+use lib.ListN.{length}
+use lib.Dec.{leb}
+use borrow.Author.Tests.{le-leb, leb-true}
+use Rattle.wire.specs.Number.{digits}
+use Rattle.wire.specs.Utf8.{ends}
+use Rattle.wire.specs.Field.{bytesAt}
+use Rattle.wire.proofs.Stands.{length-bytes}
+use Rattle.image.specs.declared.record.Field.{Field}
+use Rattle.image.specs.declared.record.Record.{Record}
+use Rattle.image.specs.declared.record.Record.the-variants as R
+use Rattle.image.specs.declared.writing.Row.{Row as Put}
+use Rattle.image.specs.Record.{_bytes_, none, layoutOf, fieldBytes}
+use Rattle.image.specs.Taking.{Fits}
+use Rattle.image.specs.Out.{namedOf, rowBytes}
+use Rattle.amf0.specs.declared.write.Rest.{Rest}
+use Rattle.amf0.specs.declared.write.Rest.the-variants.{Nothing, Pairs, Dense, Values}
+use Rattle.amf0.specs.declared.write.Shape.the-variants as S
+use Rattle.amf0.specs.Standard.{Item, Row, UTF-8}
+use Rattle.amf0.specs.Standard.UTF-8.{short}
+use Rattle.amf0.specs.Standard.UTF-8-long.{long}
+use Rattle.amf0.specs.Shown.{Word, look}
+use Rattle.amf0.specs.Shown.Word.{item, name, close, other}
+use Rattle.amf0.specs.Writing.{plain, texted, shapeOf, kinds, among}
+use Rattle.amf0.specs.Written.{writeItem, Stands, Named}
+
+-- what follows the bytes of an item
+abbrev pub restOf : Item → Rest
+restOf (Item.number n) = Nothing
+restOf (Item.boolean b) = Nothing
+restOf (Item.string t) = Nothing
+restOf Item.object = Pairs
+restOf Item.null = Nothing
+restOf Item.undefined = Nothing
+restOf (Item.reference n) = Nothing
+restOf (Item.ecma-array n) = Dense
+restOf (Item.strict-array n) = Values n
+restOf (Item.date n z) = Nothing
+restOf Item.unsupported = Nothing
+restOf (Item.xml-document t) = Nothing
+restOf (Item.typed-object t) = Pairs
+
+-- a record of an item is put out as that is written
+pub record Itemed (s : List ℕ) (r : Record) (i : Item) : Type 0 where
+  pub row : Put
+  pub shape : shapeOf r ≡ S.Value row (restOf i)
+  pub named : namedOf s row ≡ true
+  pub puts : rowBytes s row ≡ writeItem i
+  pub grammar : Row i (writeItem i)
+  pub kind : among kinds (layoutOf r .kind) ≡ true
+
+-- a key's record is put out as a short text
+pub record Keyed (s : List ℕ) (r : Record) (k : List ℕ) : Type 0 where
+  pub row : Put
+  pub shape : shapeOf r ≡ S.Key row
+  pub named : namedOf s row ≡ true
+  pub puts : rowBytes s row ≡ digits 2 (length k) ++ k
+  pub grammar : UTF-8 k (digits 2 (length k) ++ k)
+  pub kind : among kinds (layoutOf r .kind) ≡ false
+
+-- the end's record is put out as an empty key and the end marker
+pub record Closed (s : List ℕ) (r : Record) : Type 0 where
+  pub row : Put
+  pub shape : shapeOf r ≡ S.End row
+  pub named : namedOf s row ≡ true
+  pub puts : rowBytes s row ≡ 0 ∷ 0 ∷ 0x09 ∷ []
+  pub kind : among kinds (layoutOf r .kind) ≡ false
+
+abbrev pub Says : List ℕ → Record → Word → Type 0
+Says s r (item i) = Itemed s r i
+Says s r (name k) = Keyed s r k
+Says s r close = Closed s r
+Says s r other = Unit {0}
+
+module _ (s : List ℕ) where
+  empty-named : (m a b : Field) → namedOf s (record { mark = m; a = a; b = b; place = 0; length = 0 }) ≡ true
+  unfolding ends
+  empty-named m a b = rw (le-leb 0 (length s) (omega arith))
+
+  empty-bytes : (m a b : Field) → rowBytes s (record { mark = m; a = a; b = b; place = 0; length = 0 }) ≡ fieldBytes m ++ (fieldBytes a ++ fieldBytes b)
+  empty-bytes m a b = rw (le-leb 0 (length s) (omega arith)) (ap (λ x. fieldBytes m ++ (fieldBytes a ++ x)) (append-nil (fieldBytes b)))
+
+  plained : {r : Record} {i : Item} (m : ℕ) (a b : Field) → shapeOf r ≡ S.Value (plain m a b) (restOf i)
+      → digits 1 m ++ (fieldBytes a ++ fieldBytes b) ≡ writeItem i → Row i (writeItem i) → among kinds (layoutOf r .kind) ≡ true → Itemed s r i
+  plained m a b e f g k =
+      record { row = plain m a b; shape = e; named = empty-named (1 bytes m) a b; puts = empty-bytes (1 bytes m) a b ∙ f; grammar = g; kind = k }
+
+  module _ (p n : ℕ) (h : Stands s p n) where
+    text-named : (m : Field) (w : ℕ) → namedOf s (texted m w p n) ≡ true
+    text-named m w = rw (le-leb (p + n) (length s) (h .inside)) (h .right)
+
+    text-long : length (bytesAt n s p) ≡ n
+    text-long = length-bytes n s p (h .inside)
+
+    text-bytes : (m : Field) (w : ℕ) → rowBytes s (texted m w p n) ≡ fieldBytes m ++ (digits w (length (bytesAt n s p)) ++ bytesAt n s p)
+    text-bytes m w = rw (le-leb (p + n) (length s) (h .inside), text-long)
+
+    texts : {r : Record} {i : Item} (m w : ℕ) → shapeOf r ≡ S.Value (texted (1 bytes m) w p n) (restOf i)
+        → digits 1 m ++ (digits w (length (bytesAt n s p)) ++ bytesAt n s p) ≡ writeItem i → Row i (writeItem i) → among kinds (layoutOf r .kind) ≡ true
+        → Itemed s r i
+    texts m w e f g k =
+        record { row = texted (1 bytes m) w p n; shape = e; named = text-named (1 bytes m) w; puts = text-bytes (1 bytes m) w ∙ f; grammar = g; kind = k }
+
+    short-text : n < 256 ^ 2 → UTF-8 (bytesAt n s p) (digits 2 (length (bytesAt n s p)) ++ bytesAt n s p)
+    short-text b = short (bytesAt n s p) (rw text-long b) (h .right)
+
+    string : n < 256 ^ 3 → (t : Bool) → leb n 65535 ≡ t → Itemed s (R.Text p n) (Item.string (bytesAt n s p))
+    string b true e =
+        let f : leb (length (bytesAt n s p)) 65535 ≡ true = rw text-long e in
+        texts 0x02 2 (rw e) (rw f) (rw f (Row.string (short-text (omega (arith, leb-true n 65535 e))))) refl
+    string b false e =
+        let f : leb (length (bytesAt n s p)) 65535 ≡ false = rw text-long e in
+        texts 0x0C 4 (rw e) (rw f) (rw f (Row.long-string (long (bytesAt n s p) (omega (arith, text-long)) (h .right)))) refl
+
+  boolean : (b : Bool) → Itemed s (R.Boolean b) (Item.boolean b)
+  boolean true = plained 0x01 _ _ refl refl (Row.boolean-true 0) refl
+  boolean false = plained 0x01 _ _ refl refl Row.boolean-false refl
+
+  pub says : (r : Record) → Fits r → Named s r → Says s r (look s r)
+  says (R.Number n) f h = plained 0x00 _ _ refl refl (Row.number n (f .a)) refl
+  says (R.Boolean b) f h = boolean b
+  says (R.Text p n) f h = string p n h (f .b) _ refl
+  says R.Object f h = plained 0x03 _ _ refl refl Row.object refl
+  says R.Null f h = plained 0x05 _ _ refl refl Row.null refl
+  says R.Undefined f h = plained 0x06 _ _ refl refl Row.undefined refl
+  says (R.Reference n) f h = plained 0x07 _ _ refl refl (Row.reference n (f .a)) refl
+  says (R.EcmaArray n) f h = plained 0x08 _ _ refl refl (Row.ecma-array n (f .a)) refl
+  says R.ObjectEnd f h = record { row = _; shape = refl; named = empty-named (3 bytes 9) none none; puts = empty-bytes (3 bytes 9) none none; kind = refl }
+  says (R.StrictArray n) f h = plained 0x0A _ _ refl refl (Row.strict-array n (f .a)) refl
+  says (R.Date n present z) f h = plained 0x0B _ _ refl refl (Row.date n z (f .a) (f .c)) refl
+  says R.Unsupported f h = plained 0x0D _ _ refl refl Row.unsupported refl
+  says (R.Xml p n) f h =
+      texts p n h 0x0F 4 refl refl (Row.xml-document (long (bytesAt n s p) (omega (arith, text-long p n h, f .b)) (h .right))) refl
+  says (R.TypedObject p n) f h = texts p n h 0x10 2 refl refl (Row.typed-object (short-text p n h (f .b))) refl
+  says (R.Key p n) f h =
+      record { row = _; shape = refl; named = text-named p n h none 2; puts = text-bytes p n h none 2; grammar = short-text p n h (f .b); kind = refl }
+  says (R.Packet k m) f h = tt
+  says (R.Header p n b) f h = tt
+  says (R.Message p n q m) f h = tt
+  says (R.Lso l p n) f h = tt

@@ -1,0 +1,236 @@
+-- The theorems on the reader of values, over what its public call comes to.
+use Prim.Native.Nat.{ℕ, _+_, _*_, _≤_, _<_, max}
+use mathlib.Core.Path.{_≡_, refl, sym, ap, ap₂, _∙_}
+use mathlib.Core.Logic.{_≢_, _↔_}
+use mathlib.Core.List.{List, [], _++_, append-nil}
+use native.Mathlib.Nat.{sub-zero}
+use native.Mathlib.Omega.{arith}
+use lib.ListN.{length, take, drop, length-append, take-append-drop, replicate}
+use lib.Seq.{length-take-le, take-append-seam}
+use Rattle.wire.specs.Number.{Bytes}
+use Rattle.wire.specs.Limit as limit
+use Rattle.wire.proofs.Laws.{pick-no}
+use Rattle.wire.proofs.Stands.{here-front}
+use Rattle.image.specs.declared.reading.Reading.{Reading}
+use Rattle.image.specs.Due.{Due, end, _>>=_, based, shifted, Ends}
+use Rattle.image.specs.Whole.{Whole, bytes, accepted, refused, ended, settled, padded}
+use Rattle.amf0.specs.Reading.{value, readOf}
+use Rattle.amf0.specs.Standard.{Sort, Tree, depth, Encodes}
+use Rattle.amf0.specs.Shown.{Shows}
+use Rattle.amf0.specs.Why.{Reasoned, Comes}
+use Rattle.amf0_theorems.proofs.Complete as completeness
+use Rattle.amf0_theorems.proofs.Sound as soundness
+use Rattle.amf0_theorems.proofs.Sound.{Found}
+use Rattle.amf0_theorems.proofs.Telling.{same-tree, Reads, reads, shown, one-end}
+use Rattle.amf0.proofs.Reasons.{kept, forward, because}
+use Rattle.amf0_theorems.proofs.Shifting as shifting
+use Rattle.amf0.proofs.Outcome.{ended-at, comes, within, named, roomy, thrice}
+
+-- ---- one outcome
+
+-- an outcome of the public call that its contract permits: what it returns, and the image that it leaves
+pub record Permits (s image : List ℕ) (r : Reading) (left : List ℕ) : Type 0 where
+  pub returns : r ≡ readOf s (length image) .reading
+  pub leaves : left ≡ padded (readOf s (length image) .bytes) (length image)
+
+-- Any two outcomes that the contract permits for an input and an image are the same.
+pub determined : (s image : List ℕ) (r q : Reading) (i j : List ℕ) → Permits s image r i → Permits s image q j → (r ≡ q) × (i ≡ j)
+determined s image r q i j a b = (a .returns ∙ sym (b .returns), a .leaves ∙ sym (b .leaves))
+
+-- ---- the reading and the standard
+
+-- the tree that the used bytes of an input encode, and that the image's bytes tell
+pub record Means (s : List ℕ) (w : Whole) : Type 0 where
+  pub tree : Tree Sort.value
+  pub encodes : Encodes Sort.value tree (take (w .reading .used) s)
+  pub deep : depth tree ≤ limit.levels
+  pub shows : Shows s tree (w .bytes)
+  pub made : w .reading .made ≡ length (w .bytes)
+  pub used : w .reading .used ≤ length s
+
+found-means : (s : List ℕ) (n : ℕ) → Found Sort.value limit.levels s 0 n → n ≤ length s → Means s (accepted n (bytes (value limit.levels s 0)))
+found-means s n f l =
+    let e : n ≡ length (f .row) = omega arith in
+    record {
+      tree = f .tree;
+      encodes = rw (e, f .here .same, take-append-seam (f .row) (f .rest)) (f .encodes);
+      deep = f .deep;
+      shows = shown (reads limit.levels s (f .rest) 0 (f .encodes) (f .here) (f .deep));
+      made = refl;
+      used = l;
+    }
+
+-- What is accepted is a value: the bytes used encode a tree of the standard's, at most as deep as the limit, and the image tells that tree.
+pub sound : (s : List ℕ) (room : ℕ) → Bytes s → readOf s room .reading .answer ≡ 0 → Means s (readOf s room)
+sound s room bs = go (readOf s room) (comes s room)
+  where
+    go : (w : Whole) → Comes s room w → w .reading .answer ≡ 0 → Means s w
+    go w (Comes.over-limit h) e = absurd (omega arith)
+    go w (Comes.no-room h i) e = absurd (omega arith)
+    go w (Comes.not-read h i t y) e = let a = named y in absurd (omega arith)
+    go w (Comes.read {n} h i f) e =
+        found-means s n (soundness.sound limit.levels s 0 n bs f) (forward s 0 n (value limit.levels s 0) (kept limit.levels s 0 (omega arith)) f .1)
+
+-- an acceptance of n bytes, with an image that tells the tree t
+pub record Accepts (s : List ℕ) (t : Tree Sort.value) (n : ℕ) (w : Whole) : Type 0 where
+  pub answer : w .reading .answer ≡ 0
+  pub used : w .reading .used ≡ n
+  pub shows : Shows s t (w .bytes)
+
+-- Every value of the standard's within the limits is accepted, whatever follows it, where the room is three times the input: all its bytes and no more
+-- are used, and the image tells its tree.
+pub complete : (t : Tree Sort.value) (x r : List ℕ) (room : ℕ) → Encodes Sort.value t x → depth t ≤ limit.levels → length (x ++ r) ≤ limit.bytes
+    → 3 * length (x ++ r) ≤ room → Accepts (x ++ r) t (length x) (readOf (x ++ r) room)
+complete t x r room e l h i =
+    let y = reads limit.levels (x ++ r) r 0 e (record { same = refl }) l in
+    let d : Due = value limit.levels (x ++ r) 0 in
+    rw (roomy (x ++ r) room h (omega (arith, thrice (x ++ r))), ended-at d (bytes d) (0 + length x) (y .ends))
+    (record { answer = refl; used = omega arith; shows = shown y })
+
+-- Within the limit, and where the room is three times the input, a call accepts exactly where the input begins with a value of the standard's.
+pub exactly : (s : List ℕ) (room : ℕ) → Bytes s → length s ≤ limit.bytes → 3 * length s ≤ room
+    → readOf s room .reading .answer ≡ 0 ↔ (t : Tree Sort.value) × (n : ℕ) × Encodes Sort.value t (take n s) × (depth t ≤ limit.levels)
+exactly s room bs h i = (
+  λ e. let m = sound s room bs e in (m .tree, readOf s room .reading .used, m .encodes, m .deep),
+  λ v.
+      let x = take (v .1) s in
+      let y = drop (v .1) s in
+      let same : x ++ y ≡ s = take-append-drop (v .1) s in
+      rw same at (complete (v .0) x y room (v .2) (v .3) (rw same h) (rw same i) .answer),
+)
+
+-- No row of bytes encodes two values, and none that encodes a value begins another.
+pub unique : (t u : Tree Sort.value) (x y r q : List ℕ) → Encodes Sort.value t x → Encodes Sort.value u y → x ++ r ≡ y ++ q → (t ≡ u) × (x ≡ y)
+unique t u x y r q e f same =
+    let left : ℕ = max (depth t) (depth u) in
+    let a : Reads left (x ++ r) 0 (0 + length x) t = reads left (x ++ r) r 0 e (record { same = refl }) (omega arith) in
+    let b : Reads left (x ++ r) 0 (0 + length y) u = reads left (x ++ r) q 0 f (record { same = same }) (omega arith) in
+    let long : length x ≡ length y = omega (arith, one-end (value left (x ++ r) 0) (a .ends) (b .ends)) in (
+      same-tree t u (sym (a .tells) ∙ b .tells),
+      sym (take-append-seam x r) ∙ (ap₂ take long same ∙ take-append-seam y q),
+    )
+
+-- ---- the room
+
+-- In a room of three bytes for each byte of the input, no reading is refused for room.
+pub room-enough : (s : List ℕ) (room : ℕ) → 3 * length s ≤ room → readOf s room .reading .answer ≢ 4
+room-enough s room h = go (readOf s room) (comes s room)
+  where
+    go : (w : Whole) → Comes s room w → w .reading .answer ≢ 4
+    go w (Comes.over-limit i) e = omega arith
+    go w (Comes.no-room i j) e = omega (arith, thrice s)
+    go w (Comes.not-read i j t y) e = named y .other e
+    go w (Comes.read i j f) e = omega arith
+
+-- Within the limit, the answer is 4 exactly where the records that the reading finds have more bytes than the room.
+pub room-exact : (s : List ℕ) (room : ℕ) → length s ≤ limit.bytes → readOf s room .reading .answer ≡ 4 ↔ room < length (bytes (value limit.levels s 0))
+room-exact s room h = go (readOf s room) (comes s room)
+  where
+    go : (w : Whole) → Comes s room w → w .reading .answer ≡ 4 ↔ room < length (bytes (value limit.levels s 0))
+    go w (Comes.over-limit i) = absurd (omega arith)
+    go w (Comes.no-room i j) = (λ e. j, λ e. refl)
+    go w (Comes.not-read i j t y) = (λ e. absurd (named y .other e), λ e. absurd (omega arith))
+    go w (Comes.read i j f) = (λ e. absurd (omega arith), λ e. absurd (omega arith))
+
+-- Where a room does, every larger room gives the same.
+pub room-more : (s : List ℕ) (room more : ℕ) → room ≤ more → readOf s room .reading .answer ≢ 4 → readOf s more ≡ readOf s room
+room-more s room more h = go (readOf s room) (comes s room) refl
+  where
+    go : (w : Whole) → Comes s room w → readOf s room ≡ w → w .reading .answer ≢ 4 → readOf s more ≡ readOf s room
+    go w (Comes.over-limit i) e ne = pick-no (length s) limit.bytes _ _ i ∙ sym e
+    go w (Comes.no-room i j) e ne = absurd (ne refl)
+    go w (Comes.not-read i j t y) e ne = roomy s more i (omega arith) ∙ sym (roomy s room i j)
+    go w (Comes.read i j f) e ne = roomy s more i (omega arith) ∙ sym (roomy s room i j)
+
+-- ---- the answers
+
+-- The answer is one of 0 to 5.
+pub answers : (s : List ℕ) (room : ℕ) → readOf s room .reading .answer ≤ 5
+answers s room = go (readOf s room) (comes s room)
+  where
+    go : (w : Whole) → Comes s room w → w .reading .answer ≤ 5
+    go w (Comes.over-limit i) = omega arith
+    go w (Comes.no-room i j) = omega arith
+    go w (Comes.not-read i j t y) = named y .high
+    go w (Comes.read i j f) = omega arith
+
+-- The answer is 1 exactly where the input is over the limit.
+pub over-limit : (s : List ℕ) (room : ℕ) → readOf s room .reading .answer ≡ 1 ↔ limit.bytes < length s
+over-limit s room = go (readOf s room) (comes s room)
+  where
+    go : (w : Whole) → Comes s room w → w .reading .answer ≡ 1 ↔ limit.bytes < length s
+    go w (Comes.over-limit i) = (λ e. i, λ e. refl)
+    go w (Comes.no-room i j) = (λ e. absurd (omega arith), λ e. absurd (omega arith))
+    go w (Comes.not-read i j t y) = let a = named y in (λ e. absurd (omega arith), λ e. absurd (omega arith))
+    go w (Comes.read i j f) = (λ e. absurd (omega arith), λ e. absurd (omega arith))
+
+-- A call is refused for the limit, for the room or for a reason that stands in the input, and is else accepted.
+pub reasons : (s : List ℕ) (room : ℕ) → Comes s room (readOf s room)
+reasons = comes
+
+-- The same of a value at any place and level: its refusal has a reason there.
+pub reasoned : (left : ℕ) (s : List ℕ) (at : ℕ) → at ≤ length s → Reasoned s (value left s at)
+reasoned left s at h = because s (3 * at) (value left s at) (kept left s at h)
+
+-- A refusal uses no byte of the input and makes none of the image.
+pub refused-empty : (s : List ℕ) (room : ℕ) → readOf s room .reading .answer ≢ 0 → readOf s room ≡ refused (readOf s room .reading .answer)
+refused-empty s room = go (readOf s room) (comes s room)
+  where
+    go : (w : Whole) → Comes s room w → w .reading .answer ≢ 0 → w ≡ refused (w .reading .answer)
+    go w (Comes.over-limit i) ne = refl
+    go w (Comes.no-room i j) ne = refl
+    go w (Comes.not-read i j t y) ne = refl
+    go w (Comes.read i j f) ne = absurd (ne refl)
+
+-- So it leaves an image of zeros.
+pub refused-zeros : (s image : List ℕ) (r : Reading) (left : List ℕ) → Permits s image r left → r .answer ≢ 0 → left ≡ replicate (length image) 0
+refused-zeros s image r left p ne =
+    let same : r .answer ≡ readOf s (length image) .reading .answer = ap (λ (q : Reading). q .answer) (p .returns) in
+    p .leaves ∙ rw (refused-empty s (length image) λ e. ne (same ∙ e)) (ap (λ k. replicate k 0) (sub-zero (length image)))
+
+-- ---- places
+
+-- A value further on in an input is read as where it stands first, with every place moved.
+pub shift : (left : ℕ) (x s : List ℕ) (at : ℕ) → value left (x ++ s) (length x + at) ≡ shifted (length x) (value left s at)
+shift = shifting.shift
+
+-- So a part's reading, with its places counted from the whole's start, is what the whole is read as there, but for where it ends.
+pub part : (left : ℕ) (x s : List ℕ) (at : ℕ)
+    → value left (x ++ s) (length x + at) ≡ based (length x) (value left s at) >>= λ n. end (length x + n)
+part left x s at = shift left x s at ∙ shifting.based-shifted (length x) (value left s at)
+
+-- What follows the bytes that a value takes does not change how it is read.
+pub local : (left : ℕ) (x r q : List ℕ) (at n : ℕ) → Bytes (x ++ r) → Ends (value left (x ++ r) at) n → n ≤ length x
+    → value left (x ++ q) at ≡ value left (x ++ r) at
+local left x r q at n bs e l = go (soundness.sound left (x ++ r) at n bs e)
+  where
+    go : Found Sort.value left (x ++ r) at n → value left (x ++ q) at ≡ value left (x ++ r) at
+    go f =
+        let h = here-front x r q (f .row) (f .rest) at (f .here) (omega arith) in
+        completeness.complete (f .encodes) (x ++ q) _ at n left (length (f .row)) h (f .next) (f .deep) (omega arith)
+        ∙ sym (completeness.complete (f .encodes) (x ++ r) (f .rest) at n left (length (f .row)) (f .here) (f .next) (f .deep) (omega arith))
+
+-- So an accepted call comes to the same with other bytes behind those that it used.
+pub local-call : (x r q : List ℕ) (room : ℕ) → Bytes (x ++ r) → length (x ++ q) ≤ limit.bytes → readOf (x ++ r) room .reading .answer ≡ 0
+    → readOf (x ++ r) room .reading .used ≤ length x → readOf (x ++ q) room ≡ readOf (x ++ r) room
+unfolding settled
+local-call x r q room bs h = go (readOf (x ++ r) room) (comes (x ++ r) room) refl
+  where
+    go : (w : Whole) → Comes (x ++ r) room w → readOf (x ++ r) room ≡ w → w .reading .answer ≡ 0 → w .reading .used ≤ length x
+        → readOf (x ++ q) room ≡ readOf (x ++ r) room
+    go w (Comes.over-limit i) e a u = absurd (omega arith)
+    go w (Comes.no-room i j) e a u = absurd (omega arith)
+    go w (Comes.not-read i j t y) e a u = let b = named y in absurd (omega arith)
+    go w (Comes.read {n} i j f) e a u =
+        let same = local limit.levels x r q 0 n bs f u in
+        roomy (x ++ q) room h (rw same j) ∙ (ap (λ d. ended d (bytes d)) same ∙ sym (roomy (x ++ r) room i j))
+
+-- And it comes to the same on the bytes that it used alone.
+pub alone : (s : List ℕ) (room : ℕ) → Bytes s → readOf s room .reading .answer ≡ 0 → readOf (take (readOf s room .reading .used) s) room ≡ readOf s room
+alone s room bs e =
+    let n : ℕ = readOf s room .reading .used in
+    let m = sound s room bs e in
+    let same : take n s ++ drop n s ≡ s = take-append-drop n s in
+    let l : length (take n s) ≡ n = length-take-le n s (m .used) in
+    let short : length (take n s ++ []) ≤ limit.bytes = omega (arith, length-append (take n s) [], within s room e, m .used) in
+    rw (append-nil (take n s), same) at (local-call (take n s) (drop n s) [] room (rw same bs) short (rw same e) (rw same (omega arith)))

@@ -1,0 +1,63 @@
+-- The records of a file's elements: they can stand in an image, spell the elements, and are known but for places.
+use Prim.Native.Nat.{ℕ, _+_, _≤_, _<_, _^_}
+use mathlib.Core.Path.{_≡_, refl, ap, _∙_}
+use mathlib.Core.List.{List, [], _∷_, _++_, map}
+use mathlib.Core.Bool.{true}
+use native.Mathlib.Omega.{arith}
+use lib.ListN.{length}
+use lib.Dec.{lit<}
+use Rattle.wire.specs.Utf8.{utf8}
+use Rattle.wire.specs.Field.{bytesAt}
+use Rattle.wire.specs.Limit as limit
+use Rattle.image.specs.declared.record.Record.{Record}
+use Rattle.image.specs.declared.record.Record.the-variants as R
+use Rattle.amf0.specs.Reading.{value}
+use Rattle.amf0.specs.Standard.{Sort, Tree}
+use Rattle.amf0.specs.Shown.{words, told}
+use Rattle.amf0.specs.Written.{Right, Stands, unplaced}
+use Rattle.amf0_theorems.proofs.Telling.{recordsOf}
+use Rattle.amf0_theorems.proofs.Puts.{right-both}
+use Rattle.amf0_theorems.proofs.Spelling.{spelled}
+use Rattle.amf0_theorems.proofs.Alike.{ofTree, Of}
+use Rattle.lso.specs.File.{Body}
+use Rattle.lso.specs.Written.{Spells}
+
+-- the records of elements, but for places
+abbrev pub ofBody : Body → List Record
+ofBody Body.none = []
+ofBody (Body.element k v b) = R.Key 0 (length k) ∷ (ofTree v [] ++ ofBody b)
+
+pub record Imaged (s : List ℕ) (b : Body) (rs : List Record) : Type 0 where
+  pub right : Right s rs
+  pub spells : Spells s b rs
+  pub alike : map unplaced rs ≡ ofBody b
+
+pub imaged-none : {s : List ℕ} → Imaged s Body.none []
+imaged-none = record { right = tt; spells = Spells.none; alike = refl }
+
+map-append : (f : Record → Record) (a b : List Record) → map f (a ++ b) ≡ map f a ++ map f b
+map-append f [] b = refl
+map-append f (r ∷ a) b = ap (λ x. f r ∷ x) (map-append f a b)
+
+-- a text within the limit that stands at a place
+pub record Placed (s : List ℕ) (p : ℕ) (k : List ℕ) : Type 0 where
+  pub inside : p + length k ≤ length s
+  pub same : bytesAt (length k) s p ≡ k
+  pub right : utf8 k ≡ true
+  pub small : length k < 256 ^ 2
+
+pub stands : {s k : List ℕ} {p : ℕ} → Placed s p k → Stands s p (length k)
+stands h = record { inside = h .inside; right = rw (h .same) (h .right) }
+
+-- an element, and then others
+pub imaged-element : {s k : List ℕ} {v : Tree Sort.value} {b : Body} {qs : List Record} (p q : ℕ) → length s ≤ limit.bytes → Placed s p k
+    → words s (recordsOf (value limit.levels s q)) ≡ told v [] → Of s q v → Imaged s b qs
+    → Imaged s (Body.element k v b) ((R.Key p (length k) ∷ recordsOf (value limit.levels s q)) ++ qs)
+imaged-element {s} {k} {v} {b} {qs} p q l h t o m =
+    let vs : List Record = recordsOf (value limit.levels s q) in
+    record {
+      right =
+          (record { a = omega (arith, h .inside); b = h .small; c = lit< tt; d = lit< tt; zone = λ n z e. cc }, stands h, right-both s vs qs (o .right) (m .right));
+      spells = Spells.element (h .same) (spelled s v vs t) (m .spells);
+      alike = ap (λ x. R.Key 0 (length k) ∷ x) (map-append unplaced vs qs ∙ rw (o .same, m .alike));
+    }

@@ -1,0 +1,232 @@
+-- The theorems on the writer of files, over what its public call comes to.
+use Prim.Native.Nat.{ℕ, _-_, _*_, _≤_}
+use mathlib.Core.Path.{_≡_, refl, sym, ap, _∙_}
+use mathlib.Core.Logic.{_≢_, _↔_, _⊎_, inl, inr}
+use mathlib.Core.List.{List, map}
+use native.Mathlib.Omega.{arith}
+use lib.ListN.{length, take, drop, length-append, length-drop}
+use lib.Seq.{length-take-le, drop-append-seam}
+use Rattle.wire.specs.Number.{Bytes}
+use Rattle.wire.specs.Limit as limit
+use Rattle.image.specs.declared.writing.Writing.{Writing}
+use Rattle.image.specs.Out.{Written, written, unwritten, sized, onto}
+use Rattle.image.specs.Whole.{Whole}
+use Rattle.amf0.specs.Written.{unplaced}
+use Rattle.amf0_theorems.proofs.WriteOutcome.{sized-written, written-sized}
+use Rattle.lso.specs.File.{Lso, File}
+use Rattle.lso.specs.Reading.{incompleteOf, wholeOf}
+use Rattle.lso.specs.Writing.{writeOf}
+use Rattle.lso.specs.Written.{writeBody, write, saying, SaysLength, Images, Writable, Outcome, rewriteOf}
+use Rattle.lso_theorems.proofs.Puts.{file-written}
+use Rattle.lso_theorems.proofs.Shortest.{write-length, write-file, file-least}
+use Rattle.lso_theorems.proofs.WriteOutcome.{ReadImage, whole-image, WasRead, read-incomplete, read-whole}
+use Rattle.lso_theorems.proofs.WriteReasons.{answered, outcome}
+use Rattle.lso_theorems.proofs.Theorems.{complete-whole}
+
+-- ---- one outcome
+
+-- an outcome of the public call that its contract permits: what it returns, and the output that it leaves
+pub record PermitsWrite (image text out : List ℕ) (r : Writing) (left : List ℕ) : Type 0 where
+  pub returns : r ≡ writeOf image text (length out) .writing
+  pub leaves : left ≡ onto (writeOf image text (length out) .bytes) out
+
+-- Any two outcomes that the contract permits for an image, a text and an output are the same.
+pub determined-write : (image text out : List ℕ) (r q : Writing) (i j : List ℕ) → PermitsWrite image text out r i → PermitsWrite image text out q j
+    → (r ≡ q) × (i ≡ j)
+determined-write image text out r q i j a b = (a .returns ∙ sym (b .returns), a .leaves ∙ sym (b .leaves))
+
+-- ---- the writing and the file
+
+-- Within the limits, the image of a file is written as that file, with the length that it then has: but 1 where that is over the limit, and 4 where it
+-- has no room.
+pub written-file : (image text : List ℕ) (f : Lso) (room : ℕ) → Writable image text f → writeOf image text room ≡ sized (write f) room
+written-file image text f room w = file-written room w
+
+-- the file f, written as b
+pub record WrittenAs (f : Lso) (b : List ℕ) : Type 0 where
+  pub same : b ≡ write f
+  pub file : File (saying (length b - 6) f) b
+  pub small : length b ≤ limit.bytes
+
+-- What is written of the image of a file is that file, but for the length that it says: that is the number of bytes behind the length.
+pub written-is : (image text b : List ℕ) (f : Lso) (out : ℕ) → Writable image text f → writeOf image text out ≡ written b → WrittenAs f b
+written-is image text b f out w e =
+    let g = written-sized (write f) out b (sym (file-written out w) ∙ e) in
+    rw (g .same) (record { same = refl; file = write-file (w .images) (w .image-size) (g .small); small = g .small })
+
+-- an acceptance of all of b, which is the file f but for the length that it says, with an image of that file
+pub record ReadsBack (b : List ℕ) (f : Lso) (w : Whole) : Type 0 where
+  pub answer : w .reading .answer ≡ 0
+  pub used : w .reading .used ≡ length b
+  pub file : File (saying (length b - 6) f) b
+  pub image : ReadImage b (saying (length b - 6) f) w
+
+-- What is written reads back, given room, as the file of the image, but for the length that it says.
+pub written-back : (image text b : List ℕ) (f : Lso) (out more : ℕ) → Writable image text f → writeOf image text out ≡ written b → 3 * length b ≤ more
+    → ReadsBack b f (wholeOf b more)
+written-back image text b f out more w e h =
+    let x = written-is image text b f out w e in
+    let c = complete-whole (saying (length b - 6) f) b more (x .file) (w .deep) (x .small) h in
+    record { answer = c .answer; used = c .used; file = x .file; image = whole-image more (x .file) (w .deep) (c .answer) }
+
+-- And to write that once more puts out the same bytes.
+pub written-again : (image text b : List ℕ) (f : Lso) (out more once : ℕ) → Writable image text f → writeOf image text out ≡ written b → 3 * length b ≤ more
+    → length b ≤ once → rewriteOf wholeOf b more once ≡ written b
+written-again image text b f out more once w e h i =
+    let x = written-is image text b f out w e in
+    file-written once (written-back image text b f out more w e h .image .writable)
+    ∙ (ap (λ z. sized z once) (sym (x .same)) ∙ sized-written b once (x .small) i)
+
+-- ---- what was read, written
+
+-- the used bytes of s are a file, and w puts out the same file, but for the length that it says, in no more bytes
+pub record Rewritten (s : List ℕ) (v : Whole) (w : Written) : Type 0 where
+  pub lso : Lso
+  pub before : File lso (take (v .reading .used) s)
+  pub after : File (saying (length (w .bytes) - 6) lso) (w .bytes)
+  pub answer : w .writing .answer ≡ 0
+  pub count : w .writing .count ≡ length (w .bytes)
+  pub fewer : w .writing .count ≤ v .reading .used
+
+-- the used bytes of s are a file, all of b is the same file but for the length that it says, in no more bytes, and the images that v and w have of them
+-- differ in that length and in the places of texts alone
+pub record RoundTrip (s b : List ℕ) (v w : Whole) : Type 0 where
+  pub lso : Lso
+  pub before : File lso (take (v .reading .used) s)
+  pub after : File (saying (length b - 6) lso) b
+  pub answer : w .reading .answer ≡ 0
+  pub used : w .reading .used ≡ length b
+  pub fewer : length b ≤ v .reading .used
+  pub image : Images s lso (v .bytes)
+  pub image-too : Images b (saying (length b - 6) lso) (w .bytes)
+  pub alike : map unplaced (image .records) ≡ map unplaced (image-too .records)
+
+module _ {s : List ℕ} {v : Whole} (m : WasRead s v) where
+  fewer : length (write (m .lso)) ≤ v .reading .used
+  fewer = omega (arith, file-least (m .file), length-take-le (v .reading .used) s (m .used))
+
+  accepts : (out : ℕ) → v .reading .used ≤ out → Rewritten s v (writeOf (v .bytes) s out)
+  accepts out h =
+      let w = m .image .writable in
+      let l : length (write (m .lso)) ≤ limit.bytes = omega (arith, fewer, m .used, w .text-size) in
+      rw (file-written out w ∙ sized-written (write (m .lso)) out l (omega (arith, fewer)))
+      (record { lso = m .lso; before = m .file; after = write-file (w .images) (w .image-size) l; answer = refl; count = refl; fewer = fewer })
+
+  trips : (b : List ℕ) (out more : ℕ) → writeOf (v .bytes) s out ≡ written b → 3 * length b ≤ more → RoundTrip s b v (wholeOf b more)
+  trips b out more e h =
+      let w = m .image .writable in
+      let r = written-back (v .bytes) s b (m .lso) out more w e h in
+      record {
+        lso = m .lso;
+        before = m .file;
+        after = r .file;
+        answer = r .answer;
+        used = r .used;
+        fewer = rw (written-is (v .bytes) s b (m .lso) out w e .same) fewer;
+        image = w .images;
+        image-too = r .image .writable .images;
+        alike = m .image .alike ∙ sym (r .image .alike);
+      }
+
+-- A file that was read whole is written, where the output has as much room as the bytes used: as the same file, but for the length that it says, in no
+-- more bytes.
+pub accepted-write : (s : List ℕ) (room out : ℕ) → Bytes s → wholeOf s room .reading .answer ≡ 0 → wholeOf s room .reading .used ≤ out
+    → Rewritten s (wholeOf s room) (rewriteOf wholeOf s room out)
+accepted-write s room out bs e = accepts (read-whole s room bs e) out
+
+-- So is a file that the incomplete reading used.
+pub accepted-write-incomplete : (s : List ℕ) (room out : ℕ) → Bytes s → incompleteOf s room .reading .answer ≡ 0 → incompleteOf s room .reading .used ≤ out
+    → Rewritten s (incompleteOf s room) (rewriteOf incompleteOf s room out)
+accepted-write-incomplete s room out bs e = accepts (read-incomplete s room bs e) out
+
+-- A file that was read whole and then written reads back, given room, as the same file: the same name, keys and values, texts and number bits included,
+-- in no more bytes than were used. Only text places and the length that it says may differ.
+pub round-trip : (s b : List ℕ) (room out more : ℕ) → Bytes s → wholeOf s room .reading .answer ≡ 0 → rewriteOf wholeOf s room out ≡ written b
+    → 3 * length b ≤ more → RoundTrip s b (wholeOf s room) (wholeOf b more)
+round-trip s b room out more bs e = trips (read-whole s room bs e) b out more
+
+-- So does a file that the incomplete reading used.
+pub round-trip-incomplete : (s b : List ℕ) (room out more : ℕ) → Bytes s → incompleteOf s room .reading .answer ≡ 0
+    → rewriteOf incompleteOf s room out ≡ written b → 3 * length b ≤ more → RoundTrip s b (incompleteOf s room) (wholeOf b more)
+round-trip-incomplete s b room out more bs e = trips (read-incomplete s room bs e) b out more
+
+-- To read that and write it once more changes nothing more.
+pub again : (s b : List ℕ) (room out more once : ℕ) → Bytes s → wholeOf s room .reading .answer ≡ 0 → rewriteOf wholeOf s room out ≡ written b
+    → 3 * length b ≤ more → length b ≤ once → rewriteOf wholeOf b more once ≡ written b
+again s b room out more once bs e =
+    let m = read-whole s room bs e in
+    written-again (wholeOf s room .bytes) s b (m .lso) out more once (m .image .writable)
+
+-- Nor does it after the incomplete reading.
+pub again-incomplete : (s b : List ℕ) (room out more once : ℕ) → Bytes s → incompleteOf s room .reading .answer ≡ 0
+    → rewriteOf incompleteOf s room out ≡ written b → 3 * length b ≤ more → length b ≤ once → rewriteOf wholeOf b more once ≡ written b
+again-incomplete s b room out more once bs e =
+    let m = read-incomplete s room bs e in
+    written-again (incompleteOf s room .bytes) s b (m .lso) out more once (m .image .writable)
+
+-- ---- the answers
+
+-- The answer is one of 0, 1, 4, 5 and 6.
+pub write-answers : (image text : List ℕ) (room : ℕ)
+    → let a = writeOf image text room .writing .answer in (a ≡ 0) ⊎ ((a ≡ 1) ⊎ ((a ≡ 4) ⊎ ((a ≡ 5) ⊎ (a ≡ 6))))
+write-answers image text room =
+    answered image text room (λ w. let a = w .writing .answer in (a ≡ 0) ⊎ ((a ≡ 1) ⊎ ((a ≡ 4) ⊎ ((a ≡ 5) ⊎ (a ≡ 6)))))
+    (inr (inl refl)) (inr (inr (inl refl))) (inr (inr (inr (inl refl)))) (inr (inr (inr (inr refl)))) (λ b h. inl refl)
+
+-- A call is refused for a size, because the image is that of no file or of one too deep, or for the room; else it puts out what the file is written as.
+pub write-reasons : (image text : List ℕ) (room : ℕ) → Bytes image → Outcome image text room (writeOf image text room)
+write-reasons = outcome
+
+-- A write is accepted exactly where the image is that of a file whose bytes are within the limit and the room.
+pub write-accepted : (image text : List ℕ) (room : ℕ) → Bytes image → writeOf image text room .writing .answer ≡ 0
+    ↔ (f : Lso) × Writable image text f × (length (write f) ≤ limit.bytes) × (length (write f) ≤ room)
+write-accepted image text room bs = (
+  go (writeOf image text room) (outcome image text room bs),
+  λ x. ap (λ (w : Written). w .writing .answer) (file-written room (x .1) ∙ sized-written (write (x .0)) room (x .2) (x .3)),
+)
+  where
+    go : (w : Written) → Outcome image text room w → w .writing .answer ≡ 0
+        → (f : Lso) × Writable image text f × (length (write f) ≤ limit.bytes) × (length (write f) ≤ room)
+    go w (Outcome.text-over h) e = absurd (omega arith)
+    go w (Outcome.image-over h) e = absurd (omega arith)
+    go w (Outcome.no-file h i f) e = absurd (omega arith)
+    go w (Outcome.too-deep h i f) e = absurd (omega arith)
+    go w (Outcome.output-over m h) e = absurd (omega arith)
+    go w (Outcome.no-room m h i) e = absurd (omega arith)
+    go w (Outcome.put-out {f} m h i) e = (f, m, h, i)
+
+-- In whatever is written, the four bytes behind the first two are 16 plus the name's length plus the body's: as many bytes as stand behind them.
+pub written-length : (image text : List ℕ) (room : ℕ) → Bytes image → writeOf image text room .writing .answer ≡ 0
+    → SaysLength (writeOf image text room .bytes)
+written-length image text room bs e =
+    let x = write-accepted image text room bs .0 e in
+    let l = write-length (x .0) in
+    rw (file-written room (x .1) ∙ sized-written (write (x .0)) room (x .2) (x .3))
+    (record { name = x .0 .name; body = writeBody (x .0 .body); same = refl; says = refl; behind = omega arith; small = omega (arith, x .2) })
+
+-- A refused write counts 0 and leaves the output as it was.
+pub write-refused : (image text out : List ℕ) (r : Writing) (left : List ℕ) → PermitsWrite image text out r left → r .answer ≢ 0 → (r .count ≡ 0) × (left ≡ out)
+write-refused image text out r left p =
+    answered image text (length out) (λ w. r ≡ w .writing → left ≡ onto (w .bytes) out → r .answer ≢ 0 → (r .count ≡ 0) × (left ≡ out))
+    (none 1) (none 4) (none 5) (none 6) (λ b h e f ne. absurd (ne (ap (λ (q : Writing). q .answer) e))) (p .returns) (p .leaves)
+  where
+    none : (a : ℕ) → r ≡ unwritten a .writing → left ≡ out → r .answer ≢ 0 → (r .count ≡ 0) × (left ≡ out)
+    none a e f ne = (ap (λ (q : Writing). q .count) e, f)
+
+-- An accepted write changes as many bytes as it counts, at the front of the output, and no other.
+pub write-kept : (image text out : List ℕ) (r : Writing) (left : List ℕ) → PermitsWrite image text out r left → r .answer ≡ 0
+    → (r .count ≤ length out) × (length left ≡ length out) × (drop (r .count) left ≡ drop (r .count) out)
+write-kept image text out r left p =
+    answered image text (length out) (λ w. r ≡ w .writing → left ≡ onto (w .bytes) out → r .answer ≡ 0 → Kept)
+    (none 1 λ e. omega arith) (none 4 λ e. omega arith) (none 5 λ e. omega arith) (none 6 λ e. omega arith)
+    (λ b h e f z. rw (e, f) (
+      h,
+      omega (arith, length-append b (drop (length b) out), length-drop (length b) out),
+      drop-append-seam b (drop (length b) out),
+    )) (p .returns) (p .leaves)
+  where
+    Kept : Type 0
+    Kept = (r .count ≤ length out) × (length left ≡ length out) × (drop (r .count) left ≡ drop (r .count) out)
+
+    none : (a : ℕ) → a ≢ 0 → r ≡ unwritten a .writing → left ≡ out → r .answer ≡ 0 → Kept
+    none a ne e f z = absurd (ne (sym (ap (λ (q : Writing). q .answer) e) ∙ z))

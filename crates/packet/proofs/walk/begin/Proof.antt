@@ -1,0 +1,72 @@
+-- `begin` meets its contract: what is left at the first entry is the whole cut.
+use mathlib.Core.Path.{sym, _∙_}
+use lib.ListN.{length}
+use denote.Ref.{now}
+use borrow.Author.Tests.{le-leb, lt-leb}
+use Rattle.wire.specs.Limit.{bytes}
+use Rattle.packet.specs.Entry.{cutOf}
+use borrow.Author.Needs.{needs}
+use Rattle.packet.proofs.walk.begin.Statement.{statement}
+use Rattle.packet.proofs.walk.begin.Tie as tie
+
+returns : tie.Need-returns
+unfolding cutOf
+returns c = rw (lt-leb _ _ (c .if1 .taken))
+
+version-requires : tie.Need-version-requires
+version-requires c κs = search needs
+
+enum-known-a : tie.Need-enum-known-a
+enum-known-a c = search needs
+
+enum-known-c : tie.Need-enum-known-c
+enum-known-c c = search needs
+
+be-u16-requires : tie.Need-be-u16-requires
+be-u16-requires c κs = search needs
+
+enum-known-a-2 : tie.Need-enum-known-a-2
+enum-known-a-2 c = search needs
+
+enum-known-h : tie.Need-enum-known-h
+enum-known-h c = search needs
+
+onward-requires : tie.Need-onward-requires
+onward-requires c κs = search needs
+
+returns-2 : tie.Need-returns-2
+unfolding cutOf
+returns-2 c =
+    let a = c .before .before .before .before .before .before .args in
+    let l = le-leb (length (now (a .packet))) bytes (c .before .before .before .before .if1 .left) in
+    rw (l, sym (c .before .before .before .version .ensures) ∙ c .before .a .given .1)
+
+returns-3 : tie.Need-returns-3
+unfolding cutOf
+returns-3 c =
+    let a = c .before .before .before .before .before .before .before .before .before .before .args in
+    let l = le-leb (length (now (a .packet))) bytes (c .before .before .before .before .before .before .before .before .if1 .left) in
+    rw (l, sym (c .before .before .before .before .before .before .before .version .ensures) ∙ c .before .before .before .before .before .c .given .1, sym (c .before .before .before .be-u16 .ensures) ∙ c .before .a2 .given .1)
+
+returns-4 : tie.Need-returns-4
+unfolding cutOf
+returns-4 c =
+    let a = c .before .before .before .before .before .before .before .before .before .before .before .args in
+    let l = le-leb (length (now (a .packet))) bytes (c .before .before .before .before .before .before .before .before .before .if1 .left) in
+    c .onward .ensures .0 ∙ rw (l, sym (c .before .before .before .before .before .before .before .before .version .ensures) ∙ c .before .before .before .before .before .before .c .given .1, sym (c .before .before .before .before .be-u16 .ensures) ∙ c .before .before .h .given .1)
+
+pub begin-spec : {M : Type 1} → statement M
+begin-spec =
+    tie.close
+    (tie.spec
+    returns
+    version-requires
+    enum-known-a
+    enum-known-c
+    be-u16-requires
+    enum-known-a-2
+    enum-known-h
+    onward-requires
+    returns-2
+    returns-3
+    returns-4)

@@ -1,0 +1,17 @@
+-- `below` meets its contract.
+use borrow.Author.Tests.{lt-ltb, le-ltb}
+use borrow.Author.Needs.{needs}
+use Rattle.packet.proofs.walk.below.Statement.{statement}
+use Rattle.packet.proofs.walk.below.Tie as tie
+
+going-requires : tie.Need-going-requires
+going-requires c κs = search needs
+
+returns : tie.Need-returns
+returns c = rw (lt-ltb _ _ (c .before .if1 .taken)) (c .going .ensures)
+
+returns-2 : tie.Need-returns-2
+returns-2 c = rw (le-ltb _ _ (c .if1 .left))
+
+pub below-spec : {M : Type 1} → statement M
+below-spec = tie.close (tie.spec going-requires returns returns-2)

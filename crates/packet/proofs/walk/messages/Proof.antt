@@ -1,0 +1,57 @@
+-- `messages` meets its contract: the count of messages, and the first of them or the packet's end.
+use mathlib.Core.Path.{sym, _∙_}
+use native.Mathlib.Omega.{arith}
+use denote.Ref.{now}
+use Rattle.wire.proofs.Laws.{u16-next}
+use Rattle.packet.proofs.Laws.{one-more, walk-none}
+use borrow.Author.Needs.{needs}
+use Rattle.packet.proofs.walk.messages.Statement.{statement}
+use Rattle.packet.proofs.walk.messages.Tie as tie
+
+be-u16-requires : tie.Need-be-u16-requires
+be-u16-requires c κs = search needs
+
+enum-known-a : tie.Need-enum-known-a
+enum-known-a c = search needs
+
+enum-known-m : tie.Need-enum-known-m
+enum-known-m c = search needs
+
+sub-t10 : tie.Need-sub-t10
+sub-t10 c = search needs
+
+returns : tie.Need-returns
+returns c =
+    let a = c .before .before .before .before .before .before .args in
+    let s = now (a .s) in
+    let e = sym (c .before .before .before .before .be-u16 .ensures) ∙ c .before .before .m .given .1 in
+    let r = u16-next s _ _ _ e in
+    (rw (e, one-more _ (c .if1 .taken)), omega arith)
+
+end-requires : tie.Need-end-requires
+end-requires c κs = search needs
+
+returns-2 : tie.Need-returns-2
+returns-2 c =
+    (rw (sym (c .before .before .before .be-u16 .ensures) ∙ c .before .a .given .1), omega arith)
+
+returns-3 : tie.Need-returns-3
+returns-3 c =
+    let a = c .before .before .before .before .before .before .before .args in
+    let s = now (a .s) in
+    let e = sym (c .before .before .before .before .before .be-u16 .ensures) ∙ c .before .before .before .m .given .1 in
+    let r = u16-next s _ _ _ e in
+    (c .end .ensures .0 ∙ rw e (sym (walk-none 0x32 s _ _ (omega arith))), omega (arith, c .end .ensures .1))
+
+pub messages-spec : {M : Type 1} → statement M
+messages-spec =
+    tie.close
+    (tie.spec
+    be-u16-requires
+    enum-known-a
+    enum-known-m
+    sub-t10
+    returns
+    end-requires
+    returns-2
+    returns-3)

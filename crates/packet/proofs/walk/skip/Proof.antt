@@ -1,0 +1,68 @@
+-- `skip` meets its contract. The invariant: what is to be left of the cut is what is to be left from here.
+use Prim.Native.Nat.{_+_, _-_, _≤_}
+use mathlib.Core.Path.{_≡_, sym, _∙_}
+use native.Mathlib.Nat.{sub-zero}
+use native.Mathlib.Omega.{arith}
+use denote.Ref.{now}
+use Rattle.packet.specs.Code.{restOf, without}
+use Rattle.packet.proofs.Laws.{below-true, without-more, without-done}
+use borrow.Author.Needs.{needs}
+use Rattle.packet.proofs.walk.skip.Statement.{statement}
+use Rattle.packet.proofs.walk.skip.Tie as tie
+
+abbrev Inv-loop : tie.InvT-loop
+Inv-loop s n w₀ k₀ w k = (k ≤ n) × (without n (restOf s w₀) ≡ without (n - k) (restOf s w))
+
+abbrev μ-loop : tie.MeasureT-loop
+μ-loop s n w₀ k₀ w k = n - k
+
+loop-holds : tie.Need-loop-holds Inv-loop μ-loop
+loop-holds c = (omega arith, rw sub-zero)
+
+below-requires : tie.Need-below-requires Inv-loop μ-loop
+below-requires c κs = search needs
+
+step-requires : tie.Need-step-requires Inv-loop μ-loop
+step-requires c κs = search needs
+
+walk-in-requires : tie.Need-walk-in-requires Inv-loop μ-loop
+walk-in-requires c κs = search needs
+
+add-k : tie.Need-add-k Inv-loop μ-loop
+add-k c = let h = below-true (c .before .before .before .before .loop .w) (c .before .before .before .before .loop .k) (c .before .before .before .before .before .before .args .n) (sym (c .before .before .before .below .ensures) ∙ c .before .before .if1 .taken) in omega (arith, h .0)
+
+loop-less : tie.Need-loop-less Inv-loop μ-loop
+loop-less c = let h = below-true (c .before .before .before .before .loop .w) (c .before .before .before .before .loop .k) (c .before .before .before .before .before .before .args .n) (sym (c .before .before .before .below .ensures) ∙ c .before .before .if1 .taken) in omega (arith, h .0)
+
+loop-again : tie.Need-loop-again Inv-loop μ-loop
+loop-again c =
+    let a = c .before .before .before .before .before .before .args in
+    let l = c .before .before .before .before .loop in
+    let h = below-true (l .w) (l .k) (a .n) (sym (c .before .before .before .below .ensures) ∙ c .before .before .if1 .taken) in
+    let x = c .before .step .result in
+    let m : a .n - l .k - 1 ≡ a .n - (l .k + 1) = omega arith in (
+      omega (arith, h .0),
+      l .inv .1
+          ∙ rw (c .before .step .ensures .0 (h .1), c .walk-in .ensures, ← m) (without-more (a .n - l .k) (x .entry) (restOf (now (a .s)) (x .walk)) (omega (arith, h .0))),
+    )
+
+returns : tie.Need-returns Inv-loop μ-loop
+returns c =
+    let a = c .before .before .before .before .args in
+    let l = c .before .before .loop in
+    sym (l .inv .1 ∙ without-done (now (a .s)) (a .n) (l .k) (l .w) (sym (c .before .below .ensures) ∙ c .if1 .left))
+
+pub skip-spec : {M : Type 1} → statement M
+skip-spec =
+    tie.close
+    (tie.spec
+    Inv-loop
+    μ-loop
+    loop-holds
+    below-requires
+    step-requires
+    walk-in-requires
+    add-k
+    loop-less
+    loop-again
+    returns)

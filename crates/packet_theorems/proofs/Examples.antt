@@ -1,0 +1,81 @@
+-- Demand 3 at document 01's packet, a message "a" with the value 05, and at that packet with its last byte bent to 04.
+use Prim.Native.Nat.{ℕ, _<_, _≤_}
+use mathlib.Core.Path.{_≡_, refl, sym, _∙_}
+use mathlib.Core.Logic.{_⊎_, inl, inr}
+use mathlib.Core.List.{List, [], _∷_, _++_}
+use native.Mathlib.Omega.{arith}
+use lib.ListN.{getD, List·getD-append, List·getD-eq-default}
+use Rattle.wire.specs.Utf8.{ends}
+use Rattle.wire.specs.Field.{u8At, u16At, u32At, strAt, textAt, tagAt}
+use Rattle.image.specs.Record.{bytesOf}
+use Rattle.image.specs.Whole.{accepted, refused, bytes, ended, settled}
+use Rattle.amf0.specs.Standard.{Item, Tree, Encodes, Row}
+use Rattle.amf0.specs.Standard.UTF-8.{short}
+use Rattle.amf0.specs.Reading.{value, follow}
+use Rattle.amf0.specs.Fields.{fieldsAt}
+use Rattle.amf0.specs.Marker.{markerOf}
+use Rattle.packet.specs.declared.head.Entry.{Entry}
+use Rattle.packet.specs.Head.{versionAt, entry, headerAt, messageAt}
+use Rattle.packet.specs.Packet as packet
+use Rattle.packet.specs.Reading.{entriesAt, packetAt, incompleteOf, wholeOf}
+use Rattle.packet.specs.Entry.{found, entryAt, walk, cutOf, readEntry}
+use Rattle.packet.specs.Change.{Changed, Exact, Agrees, Keeps}
+use Rattle.packet_theorems.proofs.Demand3.{demand3}
+
+abbrev front : List ℕ
+front = 0 ∷ 0 ∷ 0 ∷ 0 ∷ 0 ∷ 1 ∷ 0 ∷ 1 ∷ 0x61 ∷ 0 ∷ 0 ∷ 0 ∷ 0 ∷ 0 ∷ 1 ∷ []
+
+abbrev good : List ℕ
+good = front ++ (0x05 ∷ [])
+
+abbrev bent : List ℕ
+bent = front ++ (0x04 ∷ [])
+
+abbrev entries : List Entry
+entries = entry 0x32 0 0x08 1 0x0B 0 0x0F 1 ∷ []
+
+cut : cutOf good ≡ found entries 16
+unfolding cutOf walk entryAt versionAt headerAt messageAt u8At u16At u32At strAt textAt tagAt ends
+cut = refl
+
+-- the whole reading accepts it in a room of 17 bytes
+whole : wholeOf good 17 .reading .answer ≡ 0
+unfolding wholeOf incompleteOf packetAt entriesAt versionAt headerAt messageAt u8At u16At u32At strAt textAt tagAt ends settled bytes ended value follow fieldsAt markerOf bytesOf
+whole = refl
+
+exact : Exact good
+unfolding ends
+exact =
+    record {
+      packet = record { headers = []; messages = record { label = packet.Label.message (0x61 ∷ []) []; declared = 1; value = Tree.node Item.null Tree.nil } ∷ [] };
+      encoded =
+          packet.Encoded.packet {hs = []} {ms = record { label = packet.Label.message (0x61 ∷ []) []; declared = 1; value = Tree.node Item.null Tree.nil } ∷ []}
+          (omega arith) (omega arith) packet.Items.none
+          (packet.Items.more {d = 1} tt (packet.Head.message (short (0x61 ∷ []) (omega arith) refl) (short [] (omega arith) refl)) (omega arith)
+          (Encodes.node Row.null Encodes.nil) packet.Items.none);
+      exact = (tt, (refl, tt));
+    }
+
+-- so reading by entry agrees with it
+pub agrees : Agrees good 17
+agrees = demand3 .agreed good 17 (omega arith) exact whole
+
+-- its entry is the null, and the bent one is damaged, both in a room of a byte
+pub accepts : readEntry good 0 1 ≡ accepted 1 (0x05 ∷ [])
+unfolding readEntry cutOf walk entryAt versionAt headerAt messageAt u8At u16At u32At strAt textAt tagAt ends settled bytes ended value follow fieldsAt markerOf bytesOf
+accepts = refl
+
+pub damaged : readEntry bent 0 1 ≡ refused 9
+unfolding readEntry cutOf walk entryAt versionAt headerAt messageAt u8At u16At u32At strAt textAt tagAt ends settled bytes ended value follow fieldsAt markerOf bytesOf
+damaged = refl
+
+-- and the bent packet is the other with a byte in its value changed, and keeps what is beside
+changed : Changed entries good bent
+changed = record { long = refl; same = λ i b. go i (b .0) }
+  where
+    go : (i : ℕ) → (i < 15) ⊎ (16 ≤ i) → getD bent i 0 ≡ getD good i 0
+    go i (inl h) = List·getD-append front (0x04 ∷ []) 0 i h ∙ sym (List·getD-append front (0x05 ∷ []) 0 i h)
+    go i (inr h) = List·getD-eq-default bent 0 h ∙ sym (List·getD-eq-default good 0 h)
+
+pub keeps : Keeps good bent entries
+keeps = demand3 .kept good bent entries 16 cut changed

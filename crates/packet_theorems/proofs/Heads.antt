@@ -1,0 +1,180 @@
+-- The head of an entry against the bytes that stand in the packet: what stands there is read, and what was read stood there.
+use Prim.Native.Nat.{ℕ, zero, suc, _+_, _^_, _<_}
+use mathlib.Core.Path.{_≡_, refl, ap, _∙_}
+use mathlib.Core.List.{List, [], _∷_, _++_, append-assoc}
+use mathlib.Core.Bool.{Bool, true, false}
+use native.Mathlib.Omega.{arith}
+use lib.ListN.{length, length-append, drop}
+use lib.Dec.{ltb, eqb}
+use borrow.Author.Tests.{lt-ltb}
+use Rattle.wire.specs.Choice.{pick}
+use Rattle.wire.specs.Number.{digits, Bytes}
+use Rattle.wire.specs.Utf8.{utf8}
+use Rattle.wire.specs.Field.{to, textAt}
+use Rattle.wire.specs.declared.cursor.Text.the-variants as Text
+use Rattle.wire.specs.declared.cursor.Cursor.{Cursor}
+use Rattle.wire.proofs.Stands.{Here, cut, skip, join, inside, there, text-at, byte-at, u32-at, endText, end8, end32}
+use Rattle.image.specs.Record.{bitOf as bit}
+use Rattle.amf0.specs.Standard.{UTF-8}
+use Rattle.amf0.specs.Standard.UTF-8.{short}
+use Rattle.packet.specs.declared.head.Entry.{Entry}
+use Rattle.packet.specs.declared.head.Head.{Head}
+use Rattle.packet.specs.declared.head.Head.the-variants as Head
+use Rattle.packet.specs.Head.{bitOf, entry, headerAt, messageAt, headAt}
+use Rattle.packet.specs.Packet as packet
+use Rattle.packet.specs.Packet.{Label, IsHeader, IsMessage}
+use Rattle.packet.specs.Reading.{recordOf}
+use Rattle.packet.specs.Shown.{Says}
+use Rattle.packet.specs.Written.{Holds, Labelled}
+use Rattle.packet_theorems.proofs.Same.{no-head}
+
+-- ---- what stands there is read
+
+-- a row of an entry's own fields and the length that it declares stand at a place: they are read as an entry that says so
+pub record Stands (kind : ℕ) (s : List ℕ) (at : ℕ) (l : Label) (x : List ℕ) (d : ℕ) : Type 0 where
+  pub entry : Entry
+  pub read : headAt kind s at ≡ Head.Got entry (to (entry .place))
+  pub place : entry .place ≡ at + length x + 4
+  pub declared : entry .length ≡ d
+  pub says : Says s l (recordOf entry)
+  pub labelled : Labelled s l entry
+
+pub group : {s r : List ℕ} {at : ℕ} (x y z : List ℕ) → Here s at ((x ++ y) ++ z) r → Here s at (x ++ (y ++ z)) r
+group {r = r} x y z h = record { same = h .same ∙ ap (λ w. w ++ r) (append-assoc x y z) }
+
+-- a text, and what stands behind it
+text-here : {s r : List ℕ} {at : ℕ} (t y : List ℕ) → Here s at ((digits 2 (length t) ++ t) ++ y) r → length t < 256 ^ 2 → utf8 t ≡ true
+    → (textAt 2 s at ≡ Text.Got (at + 2) (length t) (to (at + 2 + length t))) × Holds s t (at + 2) (length t) × Here s (at + 2 + length t) y r
+text-here {s} {at = at} t y h b u =
+    let c = cut (digits 2 (length t) ++ t) y h in
+    let e : at + length (digits 2 (length t) ++ t) ≡ at + 2 + length t = omega arith in
+    let i = inside c (omega arith) in
+    let x : Holds s t (at + 2) (length t) =
+    record { inside = omega arith; long = refl; same = there (length t) (skip (digits 2 (length t)) t c) refl } in
+    (text-at 2 t c b u (omega arith), x, rw e at (skip (digits 2 (length t) ++ t) y h))
+
+-- a flag, true if not 0, is written as 0 or 1
+flag-bit : (b : ℕ) → bitOf b ≡ bit (eqb (bitOf b) 1)
+flag-bit b = go (ltb 0 b)
+  where
+    go : (t : Bool) → pick t 1 0 ≡ bit (eqb (pick t 1 0) 1)
+    go true = refl
+    go false = refl
+
+module _ {s r : List ℕ} {at : ℕ} where
+  header-stands : (t : List ℕ) (b d : ℕ) → Here s at (((digits 2 (length t) ++ t) ++ (b ∷ [])) ++ digits 4 d) r → length t < 256 ^ 2 → utf8 t ≡ true
+      → d < 256 ^ 4 → Stands 0x31 s at (Label.header t (eqb (bitOf b) 1)) ((digits 2 (length t) ++ t) ++ (b ∷ [])) d
+  unfolding headerAt
+  header-stands t b d h l u m =
+      let x = text-here t ((b ∷ []) ++ digits 4 d) (group (digits 2 (length t) ++ t) (b ∷ []) (digits 4 d) h) l u in
+      record {
+        entry = entry 0x31 (bitOf b) (at + 2) (length t) 0 0 (at + 2 + length t + 1 + 4) d;
+        read = rw (x .0, byte-at b (cut (b ∷ []) (digits 4 d) (x .2)), u32-at d (skip (b ∷ []) (digits 4 d) (x .2)) m);
+        place = simp length-append (omega arith);
+        declared = refl;
+        says = Says.header (at + 2) (length t) (eqb (bitOf b) 1) (x .1 .same);
+        labelled = record { kind = refl; bit = flag-bit b; first = x .1; no-place = refl; no-length = refl };
+      }
+
+  message-stands : (t o : List ℕ) (d : ℕ) → Here s at (((digits 2 (length t) ++ t) ++ (digits 2 (length o) ++ o)) ++ digits 4 d) r
+      → length t < 256 ^ 2 → utf8 t ≡ true → length o < 256 ^ 2 → utf8 o ≡ true
+      → d < 256 ^ 4 → Stands 0x32 s at (Label.message t o) ((digits 2 (length t) ++ t) ++ (digits 2 (length o) ++ o)) d
+  unfolding messageAt
+  message-stands t o d h l u k w m =
+      let q = digits 2 (length o) ++ o in
+      let x = text-here t (q ++ digits 4 d) (group (digits 2 (length t) ++ t) q (digits 4 d) h) l u in
+      let y = text-here o (digits 4 d) (x .2) k w in
+      record {
+        entry = entry 0x32 0 (at + 2) (length t) (at + 2 + length t + 2) (length o) (at + 2 + length t + 2 + length o + 4) d;
+        read = rw (x .0, y .0, u32-at d (y .2) m);
+        place = simp length-append (omega arith);
+        declared = refl;
+        says = Says.message (at + 2) (length t) (at + 2 + length t + 2) (length o) (x .1 .same) (y .1 .same);
+        labelled = record { kind = refl; bit = refl; first = x .1; second = y .1 };
+      }
+
+-- ---- what was read stood there
+
+-- an entry's own fields, and the length that it declares, stand at a place
+pub record Stood (Kind : Label → Type 0) (s : List ℕ) (at : ℕ) : Type 0 where
+  pub label : Label
+  pub row : List ℕ
+  pub rest : List ℕ
+  pub declared : ℕ
+  pub kind : Kind label
+  pub head : packet.Head label row
+  pub small : declared < 256 ^ 4
+  pub here : Here s at (row ++ digits 4 declared) rest
+
+flag-head : (t : List ℕ) (b : ℕ) → UTF-8 t (digits 2 (length t) ++ t) → packet.Head (Label.header t (eqb (bitOf b) 1)) ((digits 2 (length t) ++ t) ++ (b ∷ []))
+flag-head t zero u = packet.Head.header-false u
+flag-head t (suc b) u = rw (lt-ltb 0 (suc b) (omega arith)) (packet.Head.header-true b u)
+
+-- a row, and another where it ends
+pub ends-at : {s x r y z : List ℕ} {at next : ℕ} → Here s at x r → next ≡ at + length x → Here s next y z → Here s at (x ++ y) z
+ends-at h e g = join h refl (rw e at g)
+
+module _ (s : List ℕ) (bs : Bytes s) (at : ℕ) where
+  header-stood : (e : Entry) (c : Cursor) → headerAt s at ≡ Head.Got e c → Stood IsHeader s at
+  unfolding headerAt
+  header-stood e c =
+      let P : Head → Type 0 = λ x. x ≡ Head.Got e c → Stood IsHeader s at in
+      endText P Head.Stop no-head s bs at 2 _ λ t r h l u.
+      end8 P Head.Stop no-head s bs (at + 2 + length t) _ λ b g.
+      end32 P Head.Stop no-head s bs (at + 2 + length t + 1) _ λ d k _.
+      let p = digits 2 (length t) ++ t in
+      record {
+        label = Label.header t (eqb (bitOf b) 1);
+        row = p ++ (b ∷ []);
+        rest = drop (at + 2 + length t + 1 + 4) s;
+        declared = d;
+        kind = tt;
+        head = flag-head t b (short t l u);
+        small = k .bound;
+        here = ends-at (ends-at h (omega arith) g) (simp length-append (omega arith)) (k .here);
+      }
+
+  message-stood : (e : Entry) (c : Cursor) → messageAt s at ≡ Head.Got e c → Stood IsMessage s at
+  unfolding messageAt
+  message-stood e c =
+      let P : Head → Type 0 = λ x. x ≡ Head.Got e c → Stood IsMessage s at in
+      endText P Head.Stop no-head s bs at 2 _ λ t r h l u.
+      endText P Head.Stop no-head s bs (at + 2 + length t) 2 _ λ o p g k w.
+      end32 P Head.Stop no-head s bs (at + 2 + length t + 2 + length o) _ λ d i _.
+      let p = digits 2 (length t) ++ t in
+      record {
+        label = Label.message t o;
+        row = p ++ (digits 2 (length o) ++ o);
+        rest = drop (at + 2 + length t + 2 + length o + 4) s;
+        declared = d;
+        kind = tt;
+        head = packet.Head.message (short t l u) (short o k w);
+        small = i .bound;
+        here = ends-at (ends-at h (omega arith) g) (simp length-append (omega arith)) (i .here);
+      }
+
+-- ---- both, of a kind
+
+pub record Kinded (kind : ℕ) (Kind : Label → Type 0) : Type 0 where
+  pub stands : (s r : List ℕ) (at : ℕ) (l : Label) (x : List ℕ) (d : ℕ) → Kind l → packet.Head l x → d < 256 ^ 4 → Here s at (x ++ digits 4 d) r
+      → Stands kind s at l x d
+  pub stood : (s : List ℕ) → Bytes s → (at : ℕ) (e : Entry) (c : Cursor) → headAt kind s at ≡ Head.Got e c → Stood Kind s at
+
+pub headers : Kinded 0x31 IsHeader
+headers = record { stands = go; stood = header-stood }
+  where
+    go : (s r : List ℕ) (at : ℕ) (l : Label) (x : List ℕ) (d : ℕ) → IsHeader l → packet.Head l x → d < 256 ^ 4 → Here s at (x ++ digits 4 d) r
+        → Stands 0x31 s at l x d
+    go s r at l x d k (packet.Head.header-false (short t b u)) m h = header-stands t 0 d h b u m
+    go s r at l x d k (packet.Head.header-true f (short t b u)) m h =
+        rw (lt-ltb 0 (suc f) (omega arith)) at (header-stands t (suc f) d h b u m)
+    go s r at l x d k (packet.Head.message v w) m h = absurd k
+
+pub messages : Kinded 0x32 IsMessage
+messages = record { stands = go; stood = message-stood }
+  where
+    go : (s r : List ℕ) (at : ℕ) (l : Label) (x : List ℕ) (d : ℕ) → IsMessage l → packet.Head l x → d < 256 ^ 4 → Here s at (x ++ digits 4 d) r
+        → Stands 0x32 s at l x d
+    go s r at l x d k (packet.Head.header-false v) m h = absurd k
+    go s r at l x d k (packet.Head.header-true f v) m h = absurd k
+    go s r at l x d k (packet.Head.message (short t b u) (short o c v)) m h = message-stands t o d h b u c v m

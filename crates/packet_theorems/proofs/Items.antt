@@ -1,0 +1,187 @@
+-- Entries in a row against the standard's packet: what stands there is read and shown, what was read stood there, and it is no other.
+use Prim.Native.Nat.{ℕ, zero, suc, _+_, _^_, _<_}
+use mathlib.Core.Path.{_≡_, refl, sym, ap, ap₂, _∙_}
+use mathlib.Core.List.{List, [], _∷_, _++_, append-assoc}
+use native.Mathlib.Omega.{arith}
+use lib.ListN.{length, take, drop, length-append}
+use lib.Seq.{take-append-seam, drop-append-seam}
+use Rattle.wire.specs.Number.{digits, Bytes}
+use Rattle.wire.specs.Limit as limit
+use Rattle.wire.specs.Field.{to}
+use Rattle.wire.specs.declared.cursor.Cursor.{Cursor}
+use Rattle.wire.proofs.Stands.{Here, cut, skip}
+use Rattle.image.specs.declared.record.Record.{Record}
+use Rattle.image.specs.Due.{stop, Ends}
+use Rattle.image.specs.Whole.{bytes}
+use Rattle.amf0.specs.Reading.{value}
+use Rattle.amf0.specs.Standard.{Sort}
+use Rattle.amf0_theorems.proofs.Telling as telling
+use Rattle.amf0_theorems.proofs.Sound as soundness
+use Rattle.amf0_theorems.proofs.Theorems as amf0
+use Rattle.packet.specs.declared.head.Entry.{Entry}
+use Rattle.packet.specs.declared.head.Head.{Head}
+use Rattle.packet.specs.Head.{headAt}
+use Rattle.packet.specs.Packet.{Label, Item, Items}
+use Rattle.packet.specs.Packet as packet
+use Rattle.packet.specs.Shown.{Says, ShowsItems, Shallow}
+use Rattle.packet.specs.Reading.{recordOf, entriesAt}
+use Rattle.packet.specs.Change.{ExactItems}
+use Rattle.packet_theorems.proofs.Same.{onHead}
+use Rattle.packet_theorems.proofs.Heads.{Stands, Stood, Kinded, group, ends-at}
+use Rattle.packet_theorems.proofs.Agree.{bytes-bind, ends-bind, bind-ends, Exactly}
+
+-- ---- what stands there
+
+-- the first entry of a row that stands at a place: its head, its value and what is behind
+pub record First (kind : ℕ) (s : List ℕ) (at : ℕ) (l : Label) (x : List ℕ) (d : ℕ) (y z r : List ℕ) : Type 0 where
+  pub head : Stands kind s at l x d
+  pub value : Here s (head .entry .place) y (z ++ r)
+  pub behind : Here s (head .entry .place + length y) z r
+  pub long : at + length (x ++ (digits 4 d ++ (y ++ z))) ≡ head .entry .place + length y + length z
+
+-- entries with exact lengths, as the whole reading reads them
+pub record Exacted (kind : ℕ) (s : List ℕ) (n at z : ℕ) : Type 0 where
+  pub entries : List Entry
+  pub count : length entries ≡ n
+  pub exactly : Exactly kind s entries at z
+
+-- a row of entries that stands at a place is read, and its image shows it
+pub record Told (kind : ℕ) {Kind : Label → Type 0} {is : List Item} {x : List ℕ} (i : Items Kind is x) (s : List ℕ) (at z : ℕ) : Type 0 where
+  pub ends : Ends (entriesAt kind s (length is) at) z
+  pub shows : ShowsItems s is (bytes (entriesAt kind s (length is) at))
+  pub exact : ExactItems i → Exacted kind s (length is) at z
+
+module _ {kind : ℕ} {Kind : Label → Type 0} (k : Kinded kind Kind) where
+  pub first : {s : List ℕ} {at d : ℕ} {l : Label} {x y z r : List ℕ} → Kind l → packet.Head l x → d < 256 ^ 4 → Here s at (x ++ (digits 4 d ++ (y ++ z))) r
+      → First kind s at l x d y z r
+  first {s} {at} {d} {l} {x} {y} {z} {r} is h b g =
+      let f = x ++ digits 4 d in
+      let g : Here s at (f ++ (y ++ z)) r = record { same = g .same ∙ ap (λ w. w ++ r) (sym (append-assoc x (digits 4 d) (y ++ z))) } in
+      let st = k .stands s ((y ++ z) ++ r) at l x d is h b (cut f (y ++ z) g) in
+      let e : at + length f ≡ st .entry .place = simp length-append (omega (arith, st .place)) in
+      let v : Here s (st .entry .place) (y ++ z) r = rw e at (skip f (y ++ z) g) in
+      record { head = st; value = cut y z v; behind = skip y z v; long = simp length-append (omega (arith, st .place)) }
+
+  pub items-told : {is : List Item} {x : List ℕ} (i : Items Kind is x) (s r : List ℕ) (at : ℕ) → Here s at x r → Shallow limit.levels is
+      → Told kind i s at (at + length x)
+  unfolding entriesAt bytes
+  items-told Items.none s r at h deep =
+      let e : at + 0 ≡ at = omega arith in
+      record { ends = e; shows = ShowsItems.none; exact = λ t. record { entries = []; count = refl; exactly = rw e Exactly.none } }
+  items-told (Items.more {l} {d} {v} {is} {x} {y} {z} is-kind h b e i) s r at g deep =
+      let f : First kind s at l x d y z r = first is-kind h b g in
+      let p = f .head .entry .place in
+      go f (telling.reads limit.levels s (z ++ r) p e (f .value) (deep .0)) (items-told i s r (p + length y) (f .behind) (deep .1))
+    where
+      go : (f : First kind s at l x d y z r) → telling.Reads limit.levels s (f .head .entry .place) (f .head .entry .place + length y) v
+          → Told kind i s (f .head .entry .place + length y) (f .head .entry .place + length y + length z)
+          → Told kind (Items.more {l = l} {d = d} {v = v} {is = is} {x = x} {y = y} {z = z} is-kind h b e i) s at (at + length (x ++ (digits 4 d ++ (y ++ z))))
+      go f a t =
+          let p = f .head .entry .place in
+          let u = value limit.levels s p in
+          rw (f .long) (record {
+            ends = rw (f .head .read) (ends-bind u (entriesAt kind s (length is)) (p + length y) (p + length y + length z) (a .ends) (t .ends));
+            shows =
+                rw (f .head .read, bytes-bind u (entriesAt kind s (length is)) (p + length y) (a .ends))
+                (ShowsItems.more (f .head .says) (record { records = telling.recordsOf u; tells = a .tells; lies = telling.bytes-laid u }) (t .shows));
+            exact = λ o.
+                let same : f .head .entry .length ≡ length y = f .head .declared ∙ o .0 in
+                let m = t .exact (o .1) in
+                record {
+                  entries = f .head .entry ∷ m .entries;
+                  count = ap suc (m .count);
+                  exactly = Exactly.more {es = m .entries} {z = p + length y + length z} (f .head .read) (rw same (a .ends)) (rw same (m .exactly));
+                };
+          })
+
+  -- what is read of a row of entries goes to no depth over the limit
+  pub items-shallow : {is : List Item} {x : List ℕ} (i : Items Kind is x) (s r : List ℕ) (at z : ℕ) → Bytes s → Here s at x r
+      → Ends (entriesAt kind s (length is) at) z → Shallow limit.levels is
+  unfolding entriesAt
+  items-shallow Items.none s r at n bs g ends = tt
+  items-shallow (Items.more {l} {d} {v} {is} {x} {y} {z} is-kind h b e i) s r at n bs g ends =
+      let f : First kind s at l x d y z r = first is-kind h b g in
+      let p = f .head .entry .place in
+      bind-ends (value limit.levels s p) (entriesAt kind s (length is)) n (rw (f .head .read) at ends) λ m a c.
+      let t = soundness.sound limit.levels s p m bs a in
+      let u = amf0.unique (t .tree) v (t .row) y (t .rest) (z ++ r) (t .encodes) e (sym (t .here .same) ∙ f .value .same) in
+      let is-m : m ≡ p + length y = t .next ∙ ap (λ w. p + length w) (u .1) in
+      (rw (u .0) at (t .deep), items-shallow i s r (p + length y) n bs (f .behind) (rw is-m at c))
+
+-- ---- what was read
+
+-- from the place `at` of s to z stand n entries, with values within the limit of depth
+pub record Found (Kind : Label → Type 0) (s : List ℕ) (n at z : ℕ) : Type 0 where
+  pub items : List Item
+  pub row : List ℕ
+  pub rest : List ℕ
+  pub encodes : Items Kind items row
+  pub here : Here s at row rest
+  pub count : length items ≡ n
+  pub next : z ≡ at + length row
+  pub shallow : Shallow limit.levels items
+
+module _ {kind : ℕ} {Kind : Label → Type 0} (k : Kinded kind Kind) (s : List ℕ) (bs : Bytes s) where
+  pub items-found : (n at z : ℕ) → Ends (entriesAt kind s n at) z → Found Kind s n at z
+  unfolding entriesAt
+  items-found zero at z = λ e.
+      record { items = []; row = []; rest = drop at s; encodes = Items.none; here = record { same = refl }; count = refl; next = omega arith; shallow = tt }
+  items-found (suc n) at z =
+      onHead (λ d. Ends d z → Found Kind s (suc n) at z) stop (λ a p e. absurd e) (headAt kind s at) _ λ e c h ends.
+      let a = k .stood s bs at e c h in
+      let b = k .stands s (a .rest) at (a .label) (a .row) (a .declared) (a .kind) (a .head) (a .small) (a .here) in
+      let is : to (b .entry .place) ≡ c = cc (sym h ∙ b .read) in
+      let at-p : c .at ≡ b .entry .place = ap (λ (x : Cursor). x .at) (sym is) in
+      bind-ends (value limit.levels s (c .at)) (entriesAt kind s n) z ends λ m f g.
+      one a (soundness.sound limit.levels s (c .at) m bs f) (items-found n m z g) (simp length-append (omega (arith, b .place)))
+    where
+      one : {p m : ℕ} (a : Stood Kind s at) → soundness.Found Sort.value limit.levels s p m → Found Kind s n m z → p ≡ at + length (a .row ++ digits 4 (a .declared))
+          → Found Kind s (suc n) at z
+      one {p} {m} a v r e =
+          let d = digits 4 (a .declared) in
+          record {
+            items = record { label = a .label; declared = a .declared; value = v .tree } ∷ r .items;
+            row = a .row ++ (d ++ (v .row ++ r .row));
+            rest = r .rest;
+            encodes = Items.more (a .kind) (a .head) (a .small) (v .encodes) (r .encodes);
+            here = group (a .row) d (v .row ++ r .row) (ends-at (a .here) e (ends-at (v .here) (v .next) (r .here)));
+            count = ap suc (r .count);
+            next = simp length-append (omega (arith, r .next, v .next, simp length-append at e));
+            shallow = (v .deep, r .shallow);
+          }
+
+-- ---- no other
+
+-- two rows that begin the same bytes, and are as long
+front : (x y r q : List ℕ) → x ++ r ≡ y ++ q → length x ≡ length y → (x ≡ y) × (r ≡ q)
+front x y r q e l = (
+  sym (take-append-seam x r) ∙ (ap₂ take l e ∙ take-append-seam y q),
+  sym (drop-append-seam x r) ∙ (ap₂ drop l e ∙ drop-append-seam y q),
+)
+
+says-one : {s : List ℕ} {l o : Label} {a b : Record} → Says s l a → Says s o b → a ≡ b → l ≡ o
+says-one (Says.header p n f x) (Says.header q m g y) e = cc
+says-one (Says.header p n f x) (Says.message q m o k y z) e = let z : _≡_ {A = ℕ} 0 1 = cc in absurd (omega arith)
+says-one (Says.message p n q m x y) (Says.header o k f z) e = let z : _≡_ {A = ℕ} 0 1 = cc in absurd (omega arith)
+says-one (Says.message p n q m x y) (Says.message o k u j v w) e = cc
+
+pub items-unique : {kind : ℕ} {Kind : Label → Type 0} {is js : List Item} {x y : List ℕ} → Kinded kind Kind → Items Kind is x → Items Kind js y → (r q : List ℕ)
+    → length is ≡ length js → x ++ r ≡ y ++ q → (is ≡ js) × (x ≡ y)
+items-unique k Items.none Items.none r q c e = (refl, refl)
+items-unique k Items.none (Items.more a b d f i) r q c e = absurd (omega arith)
+items-unique k (Items.more a b d f i) Items.none r q c e = absurd (omega arith)
+items-unique {kind} k (Items.more {l = l} {d = d} {v = v} {is = is} {x = x} {y = y} {z = z} a b c f i)
+    (Items.more {l = l′} {d = d′} {v = v′} {is = is′} {x = x′} {y = y′} {z = z′} a′ b′ c′ f′ i′) r q n e =
+    let s = (x ++ (digits 4 d ++ (y ++ z))) ++ r in
+    let m : First kind s 0 l x d y z r = first k a b c (record { same = refl }) in
+    let o : First kind s 0 l′ x′ d′ y′ z′ q = first k a′ b′ c′ (record { same = e }) in
+    let ee : m .head .entry ≡ o .head .entry = cc (sym (m .head .read) ∙ o .head .read) in
+    let pp : m .head .entry .place ≡ o .head .entry .place = ap (λ (t : Entry). t .place) ee in
+    let dd : d ≡ d′ = sym (m .head .declared) ∙ (ap (λ (t : Entry). t .length) ee ∙ o .head .declared) in
+    let ll : l ≡ l′ = says-one (m .head .says) (o .head .says) (ap recordOf ee) in
+    let hh : y ++ (z ++ r) ≡ y′ ++ (z′ ++ q) = sym (m .value .same) ∙ (ap (λ p. drop p s) pp ∙ o .value .same) in
+    let vv = amf0.unique v v′ y y′ (z ++ r) (z′ ++ q) f f′ hh in
+    let zz = front y y′ (z ++ r) (z′ ++ q) hh (ap length (vv .1)) .1 in
+    let xx = front x x′ _ _ (sym (append-assoc x _ r) ∙ (e ∙ append-assoc x′ _ q)) (omega (arith, m .head .place, o .head .place)) .0 in
+    let ii = items-unique k i i′ r q (omega arith) zz in
+    (rw (ll, dd, vv .0, ii .0), rw (xx, dd, vv .1, ii .1))

@@ -1,0 +1,308 @@
+-- The theorems on the packet calls, over what they come to.
+use Prim.Native.Nat.{ℕ, _*_, _≤_, _<_}
+use mathlib.Core.Path.{_≡_, refl, sym, ap, _∙_}
+use mathlib.Core.Logic.{_≢_, _↔_}
+use mathlib.Core.List.{List}
+use native.Mathlib.Nat.{sub-zero}
+use native.Mathlib.Omega.{arith}
+use lib.ListN.{length, drop, replicate, length-take}
+use lib.Dec.{leb, ltb, eqb}
+use borrow.Author.Tests.{leb-true, eqb-false}
+use Rattle.wire.specs.Limit as limit
+use Rattle.wire.proofs.Laws.{picked, pick-no}
+use Rattle.image.specs.declared.reading.Reading.{Reading}
+use Rattle.image.specs.Due.{Ends}
+use Rattle.image.specs.Whole.{Whole, bytes, accepted, refused, padded}
+use Rattle.packet.specs.declared.head.Entry.{Entry}
+use Rattle.packet.specs.declared.entry.Found.{Found}
+use Rattle.packet.specs.declared.entry.Found.the-variants as Found
+use Rattle.packet.specs.Reading.{packetAt, all, incompleteOf, wholeOf}
+use Rattle.packet.specs.Entry.{Cut, found, stops, cutOf, spanOf, entryIn, readEntry}
+use Rattle.packet.specs.Code.{foundIn}
+use Rattle.packet.specs.Why.{Comes, ComesEntry, inEntry}
+use Rattle.packet.proofs.Laws.{Splits, cut-told}
+use Rattle.packet.proofs.Reasons.{packet-kept, small, tells, forward}
+use Rattle.packet_theorems.proofs.Outcome.{comes, comes-entry, entry-kept}
+
+-- ---- one outcome
+
+-- an outcome of a call that its contract permits: what it returns, and the image that it leaves; `comes-to` is what the call comes to in a room
+pub record Permits (comes-to : ℕ → Whole) (image : List ℕ) (r : Reading) (left : List ℕ) : Type 0 where
+  pub returns : r ≡ comes-to (length image) .reading
+  pub leaves : left ≡ padded (comes-to (length image) .bytes) (length image)
+
+abbrev pub PermitsParse : List ℕ → List ℕ → Reading → List ℕ → Type 0
+PermitsParse s = Permits (wholeOf s)
+
+abbrev pub PermitsIncomplete : List ℕ → List ℕ → Reading → List ℕ → Type 0
+PermitsIncomplete s = Permits (incompleteOf s)
+
+abbrev pub PermitsEntry : List ℕ → ℕ → List ℕ → Reading → List ℕ → Type 0
+PermitsEntry s number = Permits (readEntry s number)
+
+pub record PermitsNth (s : List ℕ) (number : ℕ) (f : Found) : Type 0 where
+  pub returns : f ≡ foundIn (cutOf s) number
+
+module _ (image : List ℕ) (r q : Reading) (i j : List ℕ) where
+  same : (w : ℕ → Whole) → Permits w image r i → Permits w image q j → (r ≡ q) × (i ≡ j)
+  same w a b = (a .returns ∙ sym (b .returns), a .leaves ∙ sym (b .leaves))
+
+  -- Any two outcomes that the contract of `parse` permits for an input and an image are the same.
+  pub parse-determined : (s : List ℕ) → PermitsParse s image r i → PermitsParse s image q j → (r ≡ q) × (i ≡ j)
+  parse-determined s = same (wholeOf s)
+
+  -- The same of `parse_incomplete`.
+  pub incomplete-determined : (s : List ℕ) → PermitsIncomplete s image r i → PermitsIncomplete s image q j → (r ≡ q) × (i ≡ j)
+  incomplete-determined s = same (incompleteOf s)
+
+  -- The same of `parse_entry`.
+  pub entry-determined : (s : List ℕ) (number : ℕ) → PermitsEntry s number image r i → PermitsEntry s number image q j → (r ≡ q) × (i ≡ j)
+  entry-determined s number = same (readEntry s number)
+
+-- The same of `nth`, which makes no image.
+pub nth-determined : (s : List ℕ) (number : ℕ) (f g : Found) → PermitsNth s number f → PermitsNth s number g → f ≡ g
+nth-determined s number f g a b = a .returns ∙ sym (b .returns)
+
+-- ---- the answers
+
+-- The incomplete reading is refused for the limit, for the room or where the packet's reading stops, and is else accepted.
+pub reasons : (s : List ℕ) (room : ℕ) → Comes s room (incompleteOf s room)
+reasons = comes
+
+-- The reading of an entry is refused by the cut or for want of an entry, for the room, for depth or as damaged, and is else accepted: its value takes all
+-- the bytes of its span.
+pub entry-reasons : (s : List ℕ) (number room : ℕ) → ComesEntry s number room (readEntry s number room)
+entry-reasons = comes-entry
+
+-- an answer of the whole readings: 0 to 5, or 7
+pub record Answer (a : ℕ) : Type 0 where
+  pub high : a ≤ 7
+  pub tree : a ≢ 6
+
+pub incomplete-answers : (s : List ℕ) (room : ℕ) → Answer (incompleteOf s room .reading .answer)
+incomplete-answers s room = go (incompleteOf s room) (comes s room)
+  where
+    go : (w : Whole) → Comes s room w → Answer (w .reading .answer)
+    go w (Comes.over-limit i) = record { high = omega arith; tree = λ e. omega arith }
+    go w (Comes.no-room i j) = record { high = omega arith; tree = λ e. omega arith }
+    go w (Comes.not-read p i j t) = let b = tells s 0 (packetAt s) (packet-kept s) _ p t in record { high = b .high; tree = b .tree }
+    go w (Comes.read i j f) = record { high = omega arith; tree = λ e. omega arith }
+
+-- what holds of the incomplete reading and of a refusal with 3 holds of the whole one
+over-all : (P : Whole → Type 0) (s : List ℕ) (room : ℕ) → P (incompleteOf s room) → P (refused 3) → P (wholeOf s room)
+unfolding wholeOf
+over-all P s room f g =
+    let w = incompleteOf s room in
+    picked P (eqb (w .reading .answer) 0) _ _ (λ t. picked P (leb (length s) (w .reading .used)) _ _ (λ u. f) (λ u. g)) (λ t. f)
+
+pub parse-answers : (s : List ℕ) (room : ℕ) → Answer (wholeOf s room .reading .answer)
+parse-answers s room =
+    over-all (λ w. Answer (w .reading .answer)) s room (incomplete-answers s room) (record { high = omega arith; tree = λ e. omega arith })
+
+-- a refusal of `nth`: 1 for an input over the limit, 2, 3 or 7 from the cut, or 8
+pub record NthAnswer (s : List ℕ) (a : ℕ) : Type 0 where
+  pub low : 1 ≤ a
+  pub high : a ≤ 8
+  pub room : a ≢ 4
+  pub deep : a ≢ 5
+  pub tree : a ≢ 6
+  pub over : a ≡ 1 → limit.bytes < length s
+
+missing : (s : List ℕ) (number : ℕ) (x : Cut) → Splits s x → {a p : ℕ} → foundIn x number ≡ Found.Stop a p → NthAnswer s a
+missing s number (stops b q) w {a} {p} h =
+    let e : b ≡ a = cc in
+    let c = w .cuts in
+    rw (← e) (record { low = c .low; high = omega arith; room = c .room; deep = c .deep; tree = c .tree; over = w .over })
+missing s number (found es z) w {a} {p} h =
+    picked (λ f. f ≡ Found.Stop a p → NthAnswer s a) (ltb number (length es)) _ _
+    (λ t e. let z : _≡_ {A = ℕ} 0 1 = cc in absurd (omega arith))
+    (λ t e. let b : 8 ≡ a = cc in rw (← b) eight)
+    h
+  where
+    eight : NthAnswer s 8
+    eight =
+        record {
+          low = omega arith;
+          high = omega arith;
+          room = λ e. omega arith;
+          deep = λ e. omega arith;
+          tree = λ e. omega arith;
+          over = λ e. absurd (omega arith);
+        }
+
+pub nth-answers : (s : List ℕ) (number a p : ℕ) → foundIn (cutOf s) number ≡ Found.Stop a p → NthAnswer s a
+nth-answers s number a p h = missing s number (cutOf s) (cut-told s) h
+
+-- an answer of the reading of an entry: any of the table's but 6
+pub record EntryAnswer (a : ℕ) : Type 0 where
+  pub high : a ≤ 9
+  pub tree : a ≢ 6
+
+pub entry-answers : (s : List ℕ) (number room : ℕ) → EntryAnswer (readEntry s number room .reading .answer)
+entry-answers s number room = go (readEntry s number room) (comes-entry s number room)
+  where
+    go : (w : Whole) → ComesEntry s number room w → EntryAnswer (w .reading .answer)
+    go w (ComesEntry.none h) = let m = nth-answers s number _ _ h in record { high = omega arith; tree = m .tree }
+    go w (ComesEntry.no-room h i) = record { high = omega arith; tree = λ e. omega arith }
+    go w (ComesEntry.deep p h i t) = record { high = omega arith; tree = λ e. omega arith }
+    go w (ComesEntry.damaged a p h i t l) = record { high = omega arith; tree = λ e. omega arith }
+    go w (ComesEntry.unused n h i t l) = record { high = omega arith; tree = λ e. omega arith }
+    go w (ComesEntry.read h i t) = record { high = omega arith; tree = λ e. omega arith }
+
+-- The answer of each call is 1 exactly where the input is over the limit.
+pub incomplete-over-limit : (s : List ℕ) (room : ℕ) → incompleteOf s room .reading .answer ≡ 1 ↔ limit.bytes < length s
+incomplete-over-limit s room = go (incompleteOf s room) (comes s room)
+  where
+    go : (w : Whole) → Comes s room w → w .reading .answer ≡ 1 ↔ limit.bytes < length s
+    go w (Comes.over-limit i) = (λ e. i, λ e. refl)
+    go w (Comes.no-room i j) = (λ e. absurd (omega arith), λ e. absurd (omega arith))
+    go w (Comes.not-read p i j t) = let b = tells s 0 (packetAt s) (packet-kept s) _ p t in (λ e. absurd (omega arith), λ e. absurd (omega arith))
+    go w (Comes.read i j f) = (λ e. absurd (omega arith), λ e. absurd (omega arith))
+
+pub parse-over-limit : (s : List ℕ) (room : ℕ) → wholeOf s room .reading .answer ≡ 1 ↔ limit.bytes < length s
+unfolding wholeOf incompleteOf
+parse-over-limit s room = (
+  over-all (λ w. w .reading .answer ≡ 1 → limit.bytes < length s) s room (incomplete-over-limit s room .0) (λ e. absurd (omega arith)),
+  λ l. ap (λ w. all s w .reading .answer) (pick-no (length s) limit.bytes _ _ l),
+)
+
+pub entry-over-limit : (s : List ℕ) (number room : ℕ) → readEntry s number room .reading .answer ≡ 1 ↔ limit.bytes < length s
+unfolding readEntry cutOf
+entry-over-limit s number room = (
+  go (readEntry s number room) (comes-entry s number room),
+  λ l. ap (λ x. entryIn s x number room .reading .answer) (pick-no (length s) limit.bytes _ _ l),
+)
+  where
+    go : (w : Whole) → ComesEntry s number room w → w .reading .answer ≡ 1 → limit.bytes < length s
+    go w (ComesEntry.none h) e = nth-answers s number _ _ h .over e
+    go w (ComesEntry.no-room h i) e = absurd (omega arith)
+    go w (ComesEntry.deep p h i t) e = absurd (omega arith)
+    go w (ComesEntry.damaged a p h i t l) e = absurd (omega arith)
+    go w (ComesEntry.unused n h i t l) e = absurd (omega arith)
+    go w (ComesEntry.read h i t) e = absurd (omega arith)
+
+-- ---- acceptances
+
+-- What `parse_incomplete` accepts ends inside the input, and what `parse` accepts it has used to the last byte.
+pub incomplete-uses : (s : List ℕ) (room : ℕ) → incompleteOf s room .reading .answer ≡ 0 → incompleteOf s room .reading .used ≤ length s
+incomplete-uses s room = go (incompleteOf s room) (comes s room)
+  where
+    go : (w : Whole) → Comes s room w → w .reading .answer ≡ 0 → w .reading .used ≤ length s
+    go w (Comes.over-limit i) e = absurd (omega arith)
+    go w (Comes.no-room i j) e = omega arith
+    go w (Comes.not-read p i j t) e = omega arith
+    go w (Comes.read i j f) e = forward s 0 (packetAt s) (packet-kept s) _ f .1
+
+pub parse-uses-all : (s : List ℕ) (room : ℕ) → wholeOf s room .reading .answer ≡ 0 → wholeOf s room .reading .used ≡ length s
+unfolding wholeOf
+parse-uses-all s room =
+    let w = incompleteOf s room in
+    let P : Whole → Type 0 = λ x. x .reading .answer ≡ 0 → x .reading .used ≡ length s in
+    picked P (eqb (w .reading .answer) 0) _ _
+    (λ t. picked P (leb (length s) (w .reading .used)) _ _
+    (λ u e. let h = leb-true (length s) (w .reading .used) u in omega (arith, incomplete-uses s room e))
+    (λ u e. absurd (omega arith)))
+    (λ t e. absurd (eqb-false _ 0 t e))
+
+-- What `parse_entry` accepts is an entry of the cut: the bytes used are those of its span, and the image is that of the value in them alone.
+pub record Takes (s : List ℕ) (number : ℕ) (w : Whole) : Type 0 where
+  pub entry : Entry
+  pub found : foundIn (cutOf s) number ≡ Found.Is entry
+  pub ends : Ends (inEntry s entry) (entry .length)
+  pub same : w ≡ accepted (entry .length) (bytes (inEntry s entry))
+
+pub entry-takes : (s : List ℕ) (number room : ℕ) → readEntry s number room .reading .answer ≡ 0 → Takes s number (readEntry s number room)
+entry-takes s number room = go (readEntry s number room) (comes-entry s number room)
+  where
+    go : (w : Whole) → ComesEntry s number room w → w .reading .answer ≡ 0 → Takes s number w
+    go w (ComesEntry.none h) e = let m = nth-answers s number _ _ h in absurd (omega (arith, m .low))
+    go w (ComesEntry.no-room h i) e = absurd (omega arith)
+    go w (ComesEntry.deep p h i t) e = absurd (omega arith)
+    go w (ComesEntry.damaged a p h i t l) e = absurd (omega arith)
+    go w (ComesEntry.unused n h i t l) e = absurd (omega arith)
+    go w (ComesEntry.read h i t) e = record { entry = _; found = h; ends = t; same = refl }
+
+-- ---- refusals
+
+-- A refused call returns 0 and 0, and has no byte of an image.
+pub incomplete-refused : (s : List ℕ) (room : ℕ) → incompleteOf s room .reading .answer ≢ 0 → incompleteOf s room ≡ refused (incompleteOf s room .reading .answer)
+incomplete-refused s room = go (incompleteOf s room) (comes s room)
+  where
+    go : (w : Whole) → Comes s room w → w .reading .answer ≢ 0 → w ≡ refused (w .reading .answer)
+    go w (Comes.over-limit i) ne = refl
+    go w (Comes.no-room i j) ne = refl
+    go w (Comes.not-read p i j t) ne = refl
+    go w (Comes.read i j f) ne = absurd (ne refl)
+
+pub parse-refused : (s : List ℕ) (room : ℕ) → wholeOf s room .reading .answer ≢ 0 → wholeOf s room ≡ refused (wholeOf s room .reading .answer)
+parse-refused s room = over-all (λ w. w .reading .answer ≢ 0 → w ≡ refused (w .reading .answer)) s room (incomplete-refused s room) (λ ne. refl)
+
+pub entry-refused : (s : List ℕ) (number room : ℕ) → readEntry s number room .reading .answer ≢ 0
+    → readEntry s number room ≡ refused (readEntry s number room .reading .answer)
+entry-refused s number room = go (readEntry s number room) (comes-entry s number room)
+  where
+    go : (w : Whole) → ComesEntry s number room w → w .reading .answer ≢ 0 → w ≡ refused (w .reading .answer)
+    go w (ComesEntry.none h) ne = refl
+    go w (ComesEntry.no-room h i) ne = refl
+    go w (ComesEntry.deep p h i t) ne = refl
+    go w (ComesEntry.damaged a p h i t l) ne = refl
+    go w (ComesEntry.unused n h i t l) ne = refl
+    go w (ComesEntry.read h i t) ne = absurd (ne refl)
+
+zeros : (w : ℕ → Whole) (image : List ℕ) (r : Reading) (left : List ℕ) → Permits w image r left → r .answer ≢ 0
+    → (w (length image) .reading .answer ≢ 0 → w (length image) ≡ refused (w (length image) .reading .answer)) → left ≡ replicate (length image) 0
+zeros w image r left p ne h =
+    let same : r .answer ≡ w (length image) .reading .answer = ap (λ (q : Reading). q .answer) (p .returns) in
+    p .leaves ∙ rw (h λ e. ne (same ∙ e)) (ap (λ k. replicate k 0) (sub-zero (length image)))
+
+module _ (image : List ℕ) (r : Reading) (left : List ℕ) (ne : r .answer ≢ 0) where
+  -- So a refused call leaves an image of zeros.
+  pub parse-zeros : (s : List ℕ) → PermitsParse s image r left → left ≡ replicate (length image) 0
+  parse-zeros s p = zeros (wholeOf s) image r left p ne (parse-refused s (length image))
+
+  pub incomplete-zeros : (s : List ℕ) → PermitsIncomplete s image r left → left ≡ replicate (length image) 0
+  incomplete-zeros s p = zeros (incompleteOf s) image r left p ne (incomplete-refused s (length image))
+
+  pub entry-zeros : (s : List ℕ) (number : ℕ) → PermitsEntry s number image r left → left ≡ replicate (length image) 0
+  entry-zeros s number p = zeros (readEntry s number) image r left p ne (entry-refused s number (length image))
+
+-- ---- the room
+
+-- In a room of three bytes for each byte of the input, no whole reading is refused for room.
+pub incomplete-room : (s : List ℕ) (room : ℕ) → 3 * length s ≤ room → incompleteOf s room .reading .answer ≢ 4
+incomplete-room s room h = go (incompleteOf s room) (comes s room)
+  where
+    go : (w : Whole) → Comes s room w → w .reading .answer ≢ 4
+    go w (Comes.over-limit i) e = omega arith
+    go w (Comes.no-room i j) e = omega (arith, small s 0 (packetAt s) (packet-kept s))
+    go w (Comes.not-read p i j t) e = tells s 0 (packetAt s) (packet-kept s) _ p t .room e
+    go w (Comes.read i j f) e = omega arith
+
+-- Within the limit, the incomplete reading gives 4 exactly where the records that it finds have more bytes than the room.
+pub incomplete-room-exact : (s : List ℕ) (room : ℕ) → length s ≤ limit.bytes
+    → incompleteOf s room .reading .answer ≡ 4 ↔ room < length (bytes (packetAt s))
+incomplete-room-exact s room h = go (incompleteOf s room) (comes s room)
+  where
+    go : (w : Whole) → Comes s room w → w .reading .answer ≡ 4 ↔ room < length (bytes (packetAt s))
+    go w (Comes.over-limit i) = absurd (omega arith)
+    go w (Comes.no-room i j) = (λ e. j, λ e. refl)
+    go w (Comes.not-read p i j t) = (λ e. absurd (tells s 0 (packetAt s) (packet-kept s) _ p t .room e), λ e. absurd (omega arith))
+    go w (Comes.read i j f) = (λ e. absurd (omega arith), λ e. absurd (omega arith))
+
+pub parse-room : (s : List ℕ) (room : ℕ) → 3 * length s ≤ room → wholeOf s room .reading .answer ≢ 4
+parse-room s room h = over-all (λ w. w .reading .answer ≢ 4) s room (incomplete-room s room h) (λ e. omega arith)
+
+-- In a room of three bytes for each byte of its span, no reading of an entry is refused for room: the other entries don't count.
+pub entry-room : (s : List ℕ) (number room : ℕ) (e : Entry) → foundIn (cutOf s) number ≡ Found.Is e → 3 * e .length ≤ room
+    → readEntry s number room .reading .answer ≢ 4
+entry-room s number room e f h = go (readEntry s number room) (comes-entry s number room)
+  where
+    go : (w : Whole) → ComesEntry s number room w → w .reading .answer ≢ 4
+    go w (ComesEntry.none g) z = nth-answers s number _ _ g .room z
+    go w (ComesEntry.no-room {e = d} g i) z =
+        let same : e ≡ d = cc in
+        omega (arith, small (spanOf s d) 0 (inEntry s d) (entry-kept s d), length-take (d .length) (drop (d .place) s), ap (λ (x : Entry). x .length) same)
+    go w (ComesEntry.deep p g i t) z = omega arith
+    go w (ComesEntry.damaged a p g i t l) z = omega arith
+    go w (ComesEntry.unused n g i t l) z = omega arith
+    go w (ComesEntry.read g i t) z = omega arith

@@ -1,0 +1,339 @@
+-- The theorems on the writer of packets, over what its public call comes to.
+use Prim.Native.Nat.{ℕ, _*_, _≤_, _<_}
+use mathlib.Core.Path.{_≡_, refl, sym, ap, subst, _∙_}
+use mathlib.Core.Logic.{_≢_, _↔_, _⊎_, inl, inr}
+use mathlib.Core.List.{List, append-nil}
+use mathlib.Core.Bool.{Bool, true}
+use native.Mathlib.Omega.{arith}
+use lib.ListN.{length, take, drop, getD, length-append, length-drop}
+use lib.Seq.{length-take-le, drop-append-seam}
+use Rattle.wire.specs.Number.{Bytes}
+use Rattle.wire.specs.Limit as limit
+use Rattle.wire.proofs.Stands.{Here}
+use Rattle.image.specs.declared.writing.Writing.{Writing}
+use Rattle.image.specs.Out.{Written, written, unwritten, sized, onto}
+use Rattle.image.specs.Whole.{Whole}
+use Rattle.amf0.specs.Written as amf0
+use Rattle.amf0.specs.Written.{Alike}
+use Rattle.amf0_theorems.proofs.WriteOutcome.{sized-written, written-sized}
+use Rattle.packet.specs.declared.head.Entry.{Entry}
+use Rattle.packet.specs.Packet.{Packet, Encoded}
+use Rattle.packet.specs.Shown.{Within}
+use Rattle.packet.specs.Reading.{incompleteOf, wholeOf}
+use Rattle.packet.specs.Entry.{found, cutOf, noEntry, readEntry}
+use Rattle.packet.specs.Change.{Exact, Agrees}
+use Rattle.packet.specs.Writing.{writeOf}
+use Rattle.packet.specs.Written.{write, saying, Images, Writable, Outcome, rewriteOf, Parts, itemsOf, noItem}
+use Rattle.packet_theorems.proofs.Puts.{packet-written}
+use Rattle.packet_theorems.proofs.Shortest.{write-encoded, packet-least, write-saying, within-saying, within-said}
+use Rattle.packet_theorems.proofs.Unique.{images-one}
+use Rattle.packet_theorems.proofs.WriteBytes.{write-bytes}
+use Rattle.packet_theorems.proofs.WriteOutcome.{ReadImage, taken-image, WasRead, read-incomplete, read-whole, images-alike}
+use Rattle.packet_theorems.proofs.WriteReasons.{answered, outcome}
+use Rattle.packet_theorems.proofs.Cutting.{packet-cut, each-count, each-at, shallow-append, shallow-at}
+use Rattle.packet_theorems.proofs.EntryOutcome.{whole-taken}
+use Rattle.packet_theorems.proofs.PacketTheorems.{complete, Gives, entry-complete}
+use Rattle.packet_theorems.proofs.Demand3.{agreement}
+
+-- ---- one outcome
+
+-- an outcome of the public call that its contract permits: what it returns, and the output that it leaves
+pub record PermitsWrite (image text : List ℕ) (exact : Bool) (out : List ℕ) (r : Writing) (left : List ℕ) : Type 0 where
+  pub returns : r ≡ writeOf image text exact (length out) .writing
+  pub leaves : left ≡ onto (writeOf image text exact (length out) .bytes) out
+
+-- Any two outcomes that the contract permits for an image, a text, a setting and an output are the same.
+pub determined-write : (image text : List ℕ) (exact : Bool) (out : List ℕ) (r q : Writing) (i j : List ℕ) → PermitsWrite image text exact out r i
+    → PermitsWrite image text exact out q j → (r ≡ q) × (i ≡ j)
+determined-write image text exact out r q i j a b = (a .returns ∙ sym (b .returns), a .leaves ∙ sym (b .leaves))
+
+-- ---- the writing and the packet
+
+-- Within the limits, the image of a packet is written as that packet, with exact lengths or without: but 1 where that is over the limit, and 4 where it has
+-- no room.
+pub written-packet : (image text : List ℕ) (exact : Bool) (p : Packet) (room : ℕ) → Writable image text p
+    → writeOf image text exact room ≡ sized (write exact p) room
+written-packet image text exact p room w = packet-written exact room w
+
+-- No image is that of two packets, but for the lengths that their entries declare, which an image does not tell.
+pub one-packet : (image text : List ℕ) (exact : Bool) (p q : Packet) → length image ≤ limit.image → Images text p image → Images text q image
+    → saying exact p ≡ saying exact q
+one-packet image text exact p q h a b = images-one exact h a b
+
+-- the packet p, written as b
+pub record WrittenAs (exact : Bool) (p : Packet) (b : List ℕ) : Type 0 where
+  pub same : b ≡ write exact p
+  pub encoded : Encoded (saying exact p) b
+  pub small : length b ≤ limit.bytes
+  pub bytes : Bytes b
+
+-- What is written of the image of a packet is that packet, but for the lengths that its entries declare: those are as asked for.
+pub written-is : (image text b : List ℕ) (exact : Bool) (p : Packet) (out : ℕ) → Writable image text p → writeOf image text exact out ≡ written b
+    → WrittenAs exact p b
+written-is image text b exact p out w e =
+    let g = written-sized (write exact p) out b (sym (packet-written exact out w) ∙ e) in
+    let x = write-encoded exact (w .images) (w .image-size) (λ t. g .small) .encoded in
+    rw (g .same) (record { same = refl; encoded = x; small = g .small; bytes = subst Bytes (write-saying exact exact p) (write-bytes exact x) })
+
+-- an acceptance of all of b, which is the packet p but for the lengths that its entries declare, with an image of that packet
+pub record ReadsBack (b : List ℕ) (exact : Bool) (p : Packet) (w : Whole) : Type 0 where
+  pub answer : w .reading .answer ≡ 0
+  pub used : w .reading .used ≡ length b
+  pub encoded : Encoded (saying exact p) b
+  pub image : ReadImage b (saying exact p) w
+
+-- What is written reads back whole, given room, as the packet of the image, but for the lengths that its entries declare.
+pub written-back : (image text b : List ℕ) (exact : Bool) (p : Packet) (out more : ℕ) → Writable image text p → writeOf image text exact out ≡ written b
+    → 3 * length b ≤ more → ReadsBack b exact p (wholeOf b more)
+written-back image text b exact p out more w e h =
+    let x = written-is image text b exact p out w e in
+    let deep : Within limit.levels (saying exact p) = within-saying limit.levels exact p (w .deep) in
+    let c = complete (saying exact p) b more (x .encoded) deep (x .small) h in
+    let here : Here b 0 b _ = record { same = sym (append-nil b) } in
+    record { answer = c .answer; used = c .used; encoded = x .encoded; image = taken-image (x .encoded) deep here (whole-taken b more (c .answer)) }
+
+-- And to write that once more, in either setting, puts out what the packet is written as: in the same setting, the same bytes.
+pub written-again : (image text b : List ℕ) (exact : Bool) (p : Packet) (out more : ℕ) → Writable image text p → writeOf image text exact out ≡ written b
+    → 3 * length b ≤ more → ((next : Bool) (once : ℕ) → rewriteOf wholeOf b more next once ≡ sized (write next p) once)
+    × ((once : ℕ) → length b ≤ once → rewriteOf wholeOf b more exact once ≡ written b)
+written-again image text b exact p out more w e h =
+    let x = written-is image text b exact p out w e in
+    let m = written-back image text b exact p out more w e h .image .writable in
+    let other : (next : Bool) (once : ℕ) → rewriteOf wholeOf b more next once ≡ sized (write next p) once =
+    λ next once. packet-written next once m ∙ ap (λ z. sized z once) (write-saying next exact p) in
+    (other, λ once i. other exact once ∙ (ap (λ z. sized z once) (sym (x .same)) ∙ sized-written b once (x .small) i))
+
+-- ---- what was read, written
+
+-- the used bytes of s are a packet, and w puts out the same packet, but for the lengths that its entries declare, in no more bytes
+pub record Rewritten (s : List ℕ) (exact : Bool) (v : Whole) (w : Written) : Type 0 where
+  pub packet : Packet
+  pub before : Encoded packet (take (v .reading .used) s)
+  pub after : Encoded (saying exact packet) (w .bytes)
+  pub answer : w .writing .answer ≡ 0
+  pub count : w .writing .count ≡ length (w .bytes)
+  pub fewer : w .writing .count ≤ v .reading .used
+
+-- the used bytes of s are a packet, all of b is the same packet but for the lengths that its entries declare, in no more bytes, and the images that v and w
+-- have of them differ in the places of texts alone
+pub record RoundTrip (s b : List ℕ) (exact : Bool) (v w : Whole) : Type 0 where
+  pub packet : Packet
+  pub before : Encoded packet (take (v .reading .used) s)
+  pub after : Encoded (saying exact packet) b
+  pub answer : w .reading .answer ≡ 0
+  pub used : w .reading .used ≡ length b
+  pub fewer : length b ≤ v .reading .used
+  pub image : Images s packet (v .bytes)
+  pub image-too : Images b (saying exact packet) (w .bytes)
+  pub alike : Alike s b (v .bytes) (w .bytes)
+
+module _ {s : List ℕ} {v : Whole} (m : WasRead s v) (exact : Bool) where
+  fewer : length (write exact (m .packet)) ≤ v .reading .used
+  fewer = omega (arith, packet-least exact (m .encoded), length-take-le (v .reading .used) s (m .used))
+
+  accepts : (out : ℕ) → v .reading .used ≤ out → Rewritten s exact v (writeOf (v .bytes) s exact out)
+  accepts out h =
+      let w = m .image .writable in
+      let l : length (write exact (m .packet)) ≤ limit.bytes = omega (arith, fewer, m .used, w .text-size) in
+      rw (packet-written exact out w ∙ sized-written (write exact (m .packet)) out l (omega (arith, fewer)))
+      (record {
+        packet = m .packet;
+        before = m .encoded;
+        after = write-encoded exact (w .images) (w .image-size) (λ t. l) .encoded;
+        answer = refl;
+        count = refl;
+        fewer = fewer;
+      })
+
+  trips : (b : List ℕ) (out more : ℕ) → writeOf (v .bytes) s exact out ≡ written b → 3 * length b ≤ more → RoundTrip s b exact v (wholeOf b more)
+  trips b out more e h =
+      let w = m .image .writable in
+      let r = written-back (v .bytes) s b exact (m .packet) out more w e h in
+      record {
+        packet = m .packet;
+        before = m .encoded;
+        after = r .encoded;
+        answer = r .answer;
+        used = r .used;
+        fewer = rw (written-is (v .bytes) s b exact (m .packet) out w e .same) fewer;
+        image = w .images;
+        image-too = r .image .writable .images;
+        alike = images-alike exact (m .image) (r .image);
+      }
+
+-- A packet that was read whole is written, in either setting, where the output has as much room as the bytes used: as the same packet, but for the lengths
+-- that its entries declare, in no more bytes.
+pub accepted-write : (s : List ℕ) (room : ℕ) (exact : Bool) (out : ℕ) → Bytes s → wholeOf s room .reading .answer ≡ 0 → wholeOf s room .reading .used ≤ out
+    → Rewritten s exact (wholeOf s room) (rewriteOf wholeOf s room exact out)
+accepted-write s room exact out bs e = accepts (read-whole s room bs e) exact out
+
+-- So is a packet that the incomplete reading used.
+pub accepted-write-incomplete : (s : List ℕ) (room : ℕ) (exact : Bool) (out : ℕ) → Bytes s → incompleteOf s room .reading .answer ≡ 0
+    → incompleteOf s room .reading .used ≤ out → Rewritten s exact (incompleteOf s room) (rewriteOf incompleteOf s room exact out)
+accepted-write-incomplete s room exact out bs e = accepts (read-incomplete s room bs e) exact out
+
+-- A packet that was read whole and then written, in either setting, reads back, given room, as the same packet: the same headers, flags, targets, responses
+-- and values, texts and number bits included, in no more bytes than were used. Only text places and declared lengths may differ.
+pub round-trip : (s b : List ℕ) (room : ℕ) (exact : Bool) (out more : ℕ) → Bytes s → wholeOf s room .reading .answer ≡ 0
+    → rewriteOf wholeOf s room exact out ≡ written b → 3 * length b ≤ more → RoundTrip s b exact (wholeOf s room) (wholeOf b more)
+round-trip s b room exact out more bs e = trips (read-whole s room bs e) exact b out more
+
+-- So does a packet that the incomplete reading used.
+pub round-trip-incomplete : (s b : List ℕ) (room : ℕ) (exact : Bool) (out more : ℕ) → Bytes s → incompleteOf s room .reading .answer ≡ 0
+    → rewriteOf incompleteOf s room exact out ≡ written b → 3 * length b ≤ more → RoundTrip s b exact (incompleteOf s room) (wholeOf b more)
+round-trip-incomplete s b room exact out more bs e = trips (read-incomplete s room bs e) exact b out more
+
+-- To read that and write it once more in the same setting changes nothing more.
+pub again : (s b : List ℕ) (room : ℕ) (exact : Bool) (out more once : ℕ) → Bytes s → wholeOf s room .reading .answer ≡ 0
+    → rewriteOf wholeOf s room exact out ≡ written b → 3 * length b ≤ more → length b ≤ once → rewriteOf wholeOf b more exact once ≡ written b
+again s b room exact out more once bs e f h =
+    let m = read-whole s room bs e in
+    written-again (wholeOf s room .bytes) s b exact (m .packet) out more (m .image .writable) f h .1 once
+
+-- Nor does it after the incomplete reading.
+pub again-incomplete : (s b : List ℕ) (room : ℕ) (exact : Bool) (out more once : ℕ) → Bytes s → incompleteOf s room .reading .answer ≡ 0
+    → rewriteOf incompleteOf s room exact out ≡ written b → 3 * length b ≤ more → length b ≤ once → rewriteOf wholeOf b more exact once ≡ written b
+again-incomplete s b room exact out more once bs e f h =
+    let m = read-incomplete s room bs e in
+    written-again (incompleteOf s room .bytes) s b exact (m .packet) out more (m .image .writable) f h .1 once
+
+-- ---- exact lengths
+
+-- b has exact lengths, and its cut finds the entries of the packet p, headers first and then messages
+pub record CutsExactly (b : List ℕ) (p : Packet) : Type 0 where
+  pub exact : Exact b
+  pub entries : List Entry
+  -- up to the last byte
+  pub cut : cutOf b ≡ found entries (length b)
+  -- as many as p has
+  pub count : length entries ≡ length (itemsOf p)
+  -- each with the kind, the flag and the texts of p's, and a span that is what the value is written as
+  pub each : (k : ℕ) → k < length entries → let i = getD (itemsOf p) k noItem in Parts b (i .label) (amf0.write (i .value)) (getD entries k noEntry)
+  -- read by entry, in a room of three times that span, each value is accepted: all of its span is used, and the image tells it
+  pub reads : (k room : ℕ) → k < length entries → 3 * getD entries k noEntry .length ≤ room
+      → Gives b (getD (itemsOf p) k noItem .value) (getD entries k noEntry .length) (readEntry b k room)
+  -- and reading by entry agrees with the whole reading, in every room in which that accepts
+  pub agrees : (room : ℕ) → wholeOf b room .reading .answer ≡ 0 → Agrees b room
+
+-- What the writer makes with exact lengths, of the image of any packet, is cut into that packet's entries.
+pub cuts-exactly : (image text b : List ℕ) (p : Packet) (out : ℕ) → Writable image text p → writeOf image text true out ≡ written b → CutsExactly b p
+cuts-exactly image text b p out w e =
+    let g = written-sized (write true p) out b (sym (packet-written true out w) ∙ e) in
+    let f = packet-cut (w .images) (w .image-size) (g .small) in
+    let m = write-encoded true (w .images) (w .image-size) (λ t. g .small) in
+    let x : Exact (write true p) = record { packet = saying true p; encoded = m .encoded; exact = m .exactly refl } in
+    let bs : Bytes (write true p) = subst Bytes (write-saying true true p) (write-bytes true (m .encoded)) in
+    let n = each-count (write true p) (itemsOf p) (f .entries) (f .each) in
+    let all = shallow-append limit.levels (p .headers) (p .messages) (w .deep .0) (w .deep .1) in
+    rw (g .same)
+    (record {
+      exact = x;
+      entries = f .entries;
+      cut = f .cut;
+      count = n;
+      each = λ k h. each-at (write true p) (itemsOf p) (f .entries) k (f .each) h .parts;
+      reads = λ k room h r.
+          let o = each-at (write true p) (itemsOf p) (f .entries) k (f .each) h in
+          entry-complete (write true p) bs (f .entries) (length (write true p)) (f .cut) k h (getD (itemsOf p) k noItem .value) room
+          (rw (o .parts .span) (o .encodes)) (shallow-at limit.levels (itemsOf p) k all (omega arith))
+          (rw (o .parts .span) (rw (o .parts .long) at r));
+      agrees = λ room a. agreement (write true p) room bs x a;
+    })
+
+-- the used bytes of s are a packet, and b is cut into its entries
+pub record CutsAsRead (s b : List ℕ) (v : Whole) : Type 0 where
+  pub packet : Packet
+  pub before : Encoded packet (take (v .reading .used) s)
+  pub cuts : CutsExactly b packet
+
+-- So is what it makes of a packet that was read whole.
+pub cuts-as-read : (s b : List ℕ) (room out : ℕ) → Bytes s → wholeOf s room .reading .answer ≡ 0 → rewriteOf wholeOf s room true out ≡ written b
+    → CutsAsRead s b (wholeOf s room)
+cuts-as-read s b room out bs e f =
+    let m = read-whole s room bs e in
+    record { packet = m .packet; before = m .encoded; cuts = cuts-exactly (wholeOf s room .bytes) s b (m .packet) out (m .image .writable) f }
+
+-- And of one that the incomplete reading used.
+pub cuts-as-read-incomplete : (s b : List ℕ) (room out : ℕ) → Bytes s → incompleteOf s room .reading .answer ≡ 0
+    → rewriteOf incompleteOf s room true out ≡ written b → CutsAsRead s b (incompleteOf s room)
+cuts-as-read-incomplete s b room out bs e f =
+    let m = read-incomplete s room bs e in
+    record { packet = m .packet; before = m .encoded; cuts = cuts-exactly (incompleteOf s room .bytes) s b (m .packet) out (m .image .writable) f }
+
+-- ---- the answers
+
+-- The answer is one of 0, 1, 4, 5 and 6.
+pub write-answers : (image text : List ℕ) (exact : Bool) (room : ℕ)
+    → let a = writeOf image text exact room .writing .answer in (a ≡ 0) ⊎ ((a ≡ 1) ⊎ ((a ≡ 4) ⊎ ((a ≡ 5) ⊎ (a ≡ 6))))
+write-answers image text exact room =
+    answered image text exact room (λ w. let a = w .writing .answer in (a ≡ 0) ⊎ ((a ≡ 1) ⊎ ((a ≡ 4) ⊎ ((a ≡ 5) ⊎ (a ≡ 6)))))
+    (inr (inl refl)) (inr (inr (inl refl))) (inr (inr (inr (inl refl)))) (inr (inr (inr (inr refl)))) (λ b h. inl refl)
+
+-- A call is refused for a size, because the image is that of no packet or of one too deep, or for the room; else it puts out what the packet is written as.
+pub write-reasons : (image text : List ℕ) (exact : Bool) (room : ℕ) → Bytes image → Outcome image text exact room (writeOf image text exact room)
+write-reasons = outcome
+
+-- A write is accepted exactly where the image is that of a packet whose bytes are within the limit and the room.
+pub write-accepted : (image text : List ℕ) (exact : Bool) (room : ℕ) → Bytes image → writeOf image text exact room .writing .answer ≡ 0
+    ↔ (p : Packet) × Writable image text p × (length (write exact p) ≤ limit.bytes) × (length (write exact p) ≤ room)
+write-accepted image text exact room bs = (
+  go (writeOf image text exact room) (outcome image text exact room bs),
+  λ x. ap (λ (w : Written). w .writing .answer) (packet-written exact room (x .1) ∙ sized-written (write exact (x .0)) room (x .2) (x .3)),
+)
+  where
+    go : (w : Written) → Outcome image text exact room w → w .writing .answer ≡ 0
+        → (p : Packet) × Writable image text p × (length (write exact p) ≤ limit.bytes) × (length (write exact p) ≤ room)
+    go w (Outcome.text-over h) e = absurd (omega arith)
+    go w (Outcome.image-over h) e = absurd (omega arith)
+    go w (Outcome.no-packet h i f) e = absurd (omega arith)
+    go w (Outcome.too-deep h i f) e = absurd (omega arith)
+    go w (Outcome.output-over m h) e = absurd (omega arith)
+    go w (Outcome.no-room m h i) e = absurd (omega arith)
+    go w (Outcome.put-out {p} m h i) e = (p, m, h, i)
+
+-- Within the limits, the image of a packet with a value that is too deep is refused with 5.
+pub write-deep : (image text : List ℕ) (exact : Bool) (p : Packet) (room : ℕ) → Bytes image → length text ≤ limit.bytes → length image ≤ limit.image
+    → Images text p image → (Within limit.levels p → ⊥) → writeOf image text exact room ≡ unwritten 5
+write-deep image text exact p room bs h i m d = go (writeOf image text exact room) (outcome image text exact room bs)
+  where
+    other : (q : Packet) → Writable image text q → ⊥
+    other q w =
+        let e = one-packet image text exact p q i m (w .images) in
+        d (within-said limit.levels exact p (subst (Within limit.levels) (sym e) (within-saying limit.levels exact q (w .deep))))
+
+    go : (w : Written) → Outcome image text exact room w → w ≡ unwritten 5
+    go w (Outcome.text-over j) = absurd (omega arith)
+    go w (Outcome.image-over j) = absurd (omega arith)
+    go w (Outcome.no-packet j k f) = absurd (f p m)
+    go w (Outcome.too-deep j k f) = refl
+    go w (Outcome.output-over {p = q} n j) = absurd (other q n)
+    go w (Outcome.no-room {p = q} n j k) = absurd (other q n)
+    go w (Outcome.put-out {p = q} n j k) = absurd (other q n)
+
+-- A refused write counts 0 and leaves the output as it was.
+pub write-refused : (image text : List ℕ) (exact : Bool) (out : List ℕ) (r : Writing) (left : List ℕ) → PermitsWrite image text exact out r left → r .answer ≢ 0
+    → (r .count ≡ 0) × (left ≡ out)
+write-refused image text exact out r left p =
+    answered image text exact (length out) (λ w. r ≡ w .writing → left ≡ onto (w .bytes) out → r .answer ≢ 0 → (r .count ≡ 0) × (left ≡ out))
+    (none 1) (none 4) (none 5) (none 6) (λ b h e f ne. absurd (ne (ap (λ (q : Writing). q .answer) e))) (p .returns) (p .leaves)
+  where
+    none : (a : ℕ) → r ≡ unwritten a .writing → left ≡ out → r .answer ≢ 0 → (r .count ≡ 0) × (left ≡ out)
+    none a e f ne = (ap (λ (q : Writing). q .count) e, f)
+
+-- An accepted write changes as many bytes as it counts, at the front of the output, and no other.
+pub write-kept : (image text : List ℕ) (exact : Bool) (out : List ℕ) (r : Writing) (left : List ℕ) → PermitsWrite image text exact out r left → r .answer ≡ 0
+    → (r .count ≤ length out) × (length left ≡ length out) × (drop (r .count) left ≡ drop (r .count) out)
+write-kept image text exact out r left p =
+    answered image text exact (length out) (λ w. r ≡ w .writing → left ≡ onto (w .bytes) out → r .answer ≡ 0 → Kept)
+    (none 1 λ e. omega arith) (none 4 λ e. omega arith) (none 5 λ e. omega arith) (none 6 λ e. omega arith)
+    (λ b h e f z. rw (e, f) (
+      h,
+      omega (arith, length-append b (drop (length b) out), length-drop (length b) out),
+      drop-append-seam b (drop (length b) out),
+    )) (p .returns) (p .leaves)
+  where
+    Kept : Type 0
+    Kept = (r .count ≤ length out) × (length left ≡ length out) × (drop (r .count) left ≡ drop (r .count) out)
+
+    none : (a : ℕ) → a ≢ 0 → r ≡ unwritten a .writing → left ≡ out → r .answer ≡ 0 → Kept
+    none a ne e f z = absurd (ne (sym (ap (λ (q : Writing). q .answer) e) ∙ z))

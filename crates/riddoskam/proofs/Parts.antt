@@ -1,0 +1,19 @@
+-- A result that is known whole is known in each part.
+use mathlib.Core.Path.{_≡_, ap}
+use Rattle.image.specs.declared.reading.Reading.{Reading}
+use Rattle.image.specs.declared.writing.Writing.{Writing}
+
+pub answer-read : {r s : Reading} → r ≡ s → r .answer ≡ s .answer
+answer-read e = ap (λ (x : Reading). x .answer) e
+
+pub used-read : {r s : Reading} → r ≡ s → r .used ≡ s .used
+used-read e = ap (λ (x : Reading). x .used) e
+
+pub made-read : {r s : Reading} → r ≡ s → r .made ≡ s .made
+made-read e = ap (λ (x : Reading). x .made) e
+
+pub answer-written : {w v : Writing} → w ≡ v → w .answer ≡ v .answer
+answer-written e = ap (λ (x : Writing). x .answer) e
+
+pub count-written : {w v : Writing} → w ≡ v → w .count ≡ v .count
+count-written e = ap (λ (x : Writing). x .count) e

@@ -1,0 +1,131 @@
+/* price FILE.sol SHELF: the price of a shelf, in cents, out of an LSO of prices, and then out of a packet of new prices, one message a shelf.
+
+   An image is walked record by record; a text is compared where it stands in the input, and copied nowhere. Nothing here takes memory. */
+#include <stdio.h>
+#include <string.h>
+
+#include "riddoskam.h"
+
+enum { INPUT = 8192 };
+
+static uint8_t input[INPUT];
+static uint8_t image[3 * INPUT];
+
+/* An image that was made, and the input that its texts stand in. */
+struct tree {
+    const uint8_t *image;
+    size_t made;
+    const uint8_t *input;
+    size_t length;
+};
+
+static int is_text(struct tree t, uint64_t place, uint64_t length, const char *word) {
+    size_t from;
+    size_t n = riddoskam_part(t.input, t.length, place, length, &from);
+    return n == strlen(word) && memcmp(t.input + from, word, n) == 0;
+}
+
+/* The place behind the value at a place; the image's end where no value stands there. It goes at most 32 levels deep, as deep as a reading does. */
+static size_t behind(struct tree t, size_t at) {
+    uint64_t f[5];
+    size_t next;
+    if (riddoskam_record_at(t.image, t.made, at, f, &next) != RIDDOSKAM_ACCEPTED) return t.made;
+    switch (f[0]) {
+    case RIDDOSKAM_STRICT_ARRAY:
+        for (uint64_t i = 0; i < f[1]; i++) next = behind(t, next);
+        return next;
+    case RIDDOSKAM_OBJECT:
+    case RIDDOSKAM_ECMA_ARRAY:
+    case RIDDOSKAM_TYPED_OBJECT:
+        while (riddoskam_record_at(t.image, t.made, next, f, &next) == RIDDOSKAM_ACCEPTED && f[0] == RIDDOSKAM_KEY) next = behind(t, next);
+        return next;
+    default:
+        return next;
+    }
+}
+
+/* The value under a key, among the pairs from a place on. */
+static int find(struct tree t, size_t at, const char *key, size_t *value) {
+    uint64_t f[5];
+    size_t next;
+    while (riddoskam_record_at(t.image, t.made, at, f, &next) == RIDDOSKAM_ACCEPTED && f[0] == RIDDOSKAM_KEY) {
+        if (is_text(t, f[1], f[2], key)) {
+            *value = next;
+            return 1;
+        }
+        at = behind(t, next);
+    }
+    return 0;
+}
+
+/* The number under "cents" of the object at a place. */
+static int cents(struct tree t, size_t at, double *price) {
+    uint64_t f[5];
+    size_t next, value;
+    if (riddoskam_record_at(t.image, t.made, at, f, &next) != RIDDOSKAM_ACCEPTED || f[0] != RIDDOSKAM_OBJECT) return 0;
+    if (!find(t, next, "cents", &value)) return 0;
+    if (riddoskam_record_at(t.image, t.made, value, f, &next) != RIDDOSKAM_ACCEPTED || f[0] != RIDDOSKAM_NUMBER) return 0;
+    memcpy(price, &f[1], sizeof *price);
+    return 1;
+}
+
+static void from_file(size_t length, const char *shelf) {
+    uint64_t f[5];
+    size_t used, made, pairs, value;
+    double price;
+    uint8_t answer = riddoskam_lso_parse(input, length, image, sizeof image, &used, &made);
+    struct tree t = {image, made, input, length};
+    if (answer != RIDDOSKAM_ACCEPTED) {
+        printf("file: answer %u\n", answer);
+        return;
+    }
+    /* The file's record stands first; its pairs follow. */
+    if (riddoskam_record_at(t.image, t.made, 0, f, &pairs) == RIDDOSKAM_ACCEPTED && find(t, pairs, shelf, &value) && cents(t, value, &price))
+        printf("file: shelf %s costs %.0f\n", shelf, price);
+    else
+        printf("file: no price for shelf %s\n", shelf);
+}
+
+/* Each entry is read by itself: a damaged one costs its own shelf the new price and no other. */
+static void from_packet(const uint8_t *packet, size_t length) {
+    size_t e[RIDDOSKAM_ENTRY_NUMBERS], used, made, from;
+    for (size_t k = 0;; k++) {
+        uint8_t answer = riddoskam_packet_nth(packet, length, k, e);
+        if (answer != RIDDOSKAM_ACCEPTED) {
+            if (answer != RIDDOSKAM_NO_ENTRY) printf("packet: answer %u\n", answer);
+            return;
+        }
+        size_t n = riddoskam_part(packet, length, e[RIDDOSKAM_ENTRY_PLACE1], e[RIDDOSKAM_ENTRY_LENGTH1], &from);
+        double price;
+        answer = riddoskam_packet_parse_entry(packet, length, k, image, sizeof image, &used, &made);
+        struct tree t = {image, made, packet, length};
+        if (answer != RIDDOSKAM_ACCEPTED)
+            printf("packet: shelf %.*s: answer %u\n", (int)n, packet + from, answer);
+        else if (cents(t, 0, &price))
+            printf("packet: shelf %.*s costs %.0f\n", (int)n, packet + from, price);
+        else
+            printf("packet: shelf %.*s has no price\n", (int)n, packet + from);
+    }
+}
+
+/* Three messages, each an object with "cents" in it. In the second a byte is bent: the object's marker 03 is a 04, which no value has. */
+#define MESSAGE(shelf, marker, high, low)                                                                                                                     \
+    0, 4, 'A', '-', '0', shelf, 0, 0, 0, 0, 0, 20, marker, 0, 5, 'c', 'e', 'n', 't', 's', 0x00, 0x40, high, low, 0, 0, 0, 0, 0, 0, 0, 9
+static const uint8_t packet[] = {0, 0, 0, 0, 0, 3, MESSAGE('1', 0x03, 0x5F, 0xC0), MESSAGE('2', 0x04, 0x72, 0xB0), MESSAGE('3', 0x03, 0x54, 0xC0)};
+
+int main(int count, char **words) {
+    if (count != 3) {
+        fprintf(stderr, "usage: price FILE.sol SHELF\n");
+        return 2;
+    }
+    FILE *file = fopen(words[1], "rb");
+    if (!file) {
+        perror(words[1]);
+        return 2;
+    }
+    size_t length = fread(input, 1, sizeof input, file);
+    fclose(file);
+    from_file(length, words[2]);
+    from_packet(packet, sizeof packet);
+    return 0;
+}

@@ -1,0 +1,263 @@
+//! Riddoskam for Rust: AMF0 values, LSO files and AMF packets, read and written over lent buffers, with no allocation.
+//!
+//! Every function here is safe. What the C functions ask of a caller, that pointers and lengths are right and that what is written overlaps nothing, is what
+//! `&[u8]` and `&mut [u8]` say. All else is proved of the library: each call ends on every input, and its contract gives every byte that it leaves.
+//!
+//! A reading fills an image, a row of records ([`record_at`]); a text in it is a place and a length in the input ([`part`]). Past what is made the image is
+//! zero, and all of it where a reading is refused. A refused writing changes nothing.
+#![no_std]
+
+mod sys {
+    extern "C" {
+        pub fn riddoskam_inside(input: *const u8, n: usize, place: usize, length: usize) -> bool;
+        pub fn riddoskam_part(input: *const u8, n: usize, place: usize, length: usize, from: &mut usize) -> usize;
+        pub fn riddoskam_parse_single_element(input: *const u8, n: usize, image: *mut u8, room: usize, used: &mut usize, made: &mut usize) -> u8;
+        pub fn riddoskam_lso_parse(input: *const u8, n: usize, image: *mut u8, room: usize, used: &mut usize, made: &mut usize) -> u8;
+        pub fn riddoskam_lso_parse_incomplete(input: *const u8, n: usize, image: *mut u8, room: usize, used: &mut usize, made: &mut usize) -> u8;
+        pub fn riddoskam_packet_parse(input: *const u8, n: usize, image: *mut u8, room: usize, used: &mut usize, made: &mut usize) -> u8;
+        pub fn riddoskam_packet_parse_incomplete(input: *const u8, n: usize, image: *mut u8, room: usize, used: &mut usize, made: &mut usize) -> u8;
+        pub fn riddoskam_packet_parse_entry(packet: *const u8, n: usize, number: usize, image: *mut u8, room: usize, used: &mut usize, made: &mut usize) -> u8;
+        pub fn riddoskam_write_value(image: *const u8, n: usize, text: *const u8, m: usize, out: *mut u8, room: usize, count: &mut usize) -> u8;
+        pub fn riddoskam_lso_write_to_bytes(image: *const u8, n: usize, text: *const u8, m: usize, out: *mut u8, room: usize, count: &mut usize) -> u8;
+        pub fn riddoskam_packet_write_to_bytes(image: *const u8, n: usize, text: *const u8, m: usize, exact: bool, out: *mut u8, room: usize, count: &mut usize) -> u8;
+        pub fn riddoskam_packet_nth(packet: *const u8, n: usize, number: usize, entry: &mut [usize; 8]) -> u8;
+        pub fn riddoskam_record_at(image: *const u8, n: usize, at: usize, fields: &mut [u64; 5], next: &mut usize) -> u8;
+    }
+}
+
+/// Why a call was refused: the answers of the library but 0.
+#[derive(Clone, Copy, Debug, PartialEq, Eq)]
+#[repr(u8)]
+pub enum Refusal {
+    OverLimit = 1,
+    NotWhole = 2,
+    NotRight = 3,
+    NoRoom = 4,
+    TooDeep = 5,
+    NoTree = 6,
+    OtherVersion = 7,
+    NoEntry = 8,
+    Damaged = 9,
+}
+
+fn judged<T>(answer: u8, value: T) -> Result<T, Refusal> {
+    use Refusal::*;
+    Err(match answer {
+        0 => return Ok(value),
+        1 => OverLimit,
+        2 => NotWhole,
+        3 => NotRight,
+        4 => NoRoom,
+        5 => TooDeep,
+        6 => NoTree,
+        7 => OtherVersion,
+        8 => NoEntry,
+        // No call answers more than 9.
+        _ => Damaged,
+    })
+}
+
+/// A reading that was accepted: the bytes of the input that it used, and the bytes of the image that it made.
+#[derive(Clone, Copy, Debug, PartialEq, Eq)]
+pub struct Reading {
+    pub used: usize,
+    pub made: usize,
+}
+
+type Reader = unsafe extern "C" fn(*const u8, usize, *mut u8, usize, &mut usize, &mut usize) -> u8;
+
+fn read(by: Reader, input: &[u8], image: &mut [u8]) -> Result<Reading, Refusal> {
+    let mut r = Reading { used: 0, made: 0 };
+    // SAFETY: each pointer stands with the length of its slice, and a `&mut` overlaps nothing.
+    let answer = unsafe { by(input.as_ptr(), input.len(), image.as_mut_ptr(), image.len(), &mut r.used, &mut r.made) };
+    judged(answer, r)
+}
+
+/// One value at the front of the input.
+pub fn parse_single_element(input: &[u8], image: &mut [u8]) -> Result<Reading, Refusal> {
+    read(sys::riddoskam_parse_single_element, input, image)
+}
+
+/// A file that is the whole input.
+pub fn lso_parse(input: &[u8], image: &mut [u8]) -> Result<Reading, Refusal> {
+    read(sys::riddoskam_lso_parse, input, image)
+}
+
+/// A file, as far as it can be read.
+pub fn lso_parse_incomplete(input: &[u8], image: &mut [u8]) -> Result<Reading, Refusal> {
+    read(sys::riddoskam_lso_parse_incomplete, input, image)
+}
+
+/// A packet that is the whole input; declared lengths are not looked at.
+pub fn packet_parse(input: &[u8], image: &mut [u8]) -> Result<Reading, Refusal> {
+    read(sys::riddoskam_packet_parse, input, image)
+}
+
+/// A packet at the front of the input; declared lengths are not looked at.
+pub fn packet_parse_incomplete(input: &[u8], image: &mut [u8]) -> Result<Reading, Refusal> {
+    read(sys::riddoskam_packet_parse_incomplete, input, image)
+}
+
+/// The value of entry `number` of a packet that its declared lengths cut exactly, read as that part of the packet alone.
+pub fn packet_parse_entry(packet: &[u8], number: usize, image: &mut [u8]) -> Result<Reading, Refusal> {
+    let mut r = Reading { used: 0, made: 0 };
+    // SAFETY: as in `read`.
+    let answer = unsafe {
+        sys::riddoskam_packet_parse_entry(packet.as_ptr(), packet.len(), number, image.as_mut_ptr(), image.len(), &mut r.used, &mut r.made)
+    };
+    judged(answer, r)
+}
+
+type Writer = unsafe extern "C" fn(*const u8, usize, *const u8, usize, *mut u8, usize, &mut usize) -> u8;
+
+fn write(by: Writer, image: &[u8], text: &[u8], out: &mut [u8]) -> Result<usize, Refusal> {
+    let mut count = 0;
+    // SAFETY: as in `read`.
+    let answer = unsafe { by(image.as_ptr(), image.len(), text.as_ptr(), text.len(), out.as_mut_ptr(), out.len(), &mut count) };
+    judged(answer, count)
+}
+
+/// Writes the value of an image, whose texts stand in `text`: the number of bytes written.
+pub fn write_value(image: &[u8], text: &[u8], out: &mut [u8]) -> Result<usize, Refusal> {
+    write(sys::riddoskam_write_value, image, text, out)
+}
+
+/// Writes the file of an image; the length field is set anew.
+pub fn lso_write_to_bytes(image: &[u8], text: &[u8], out: &mut [u8]) -> Result<usize, Refusal> {
+    write(sys::riddoskam_lso_write_to_bytes, image, text, out)
+}
+
+/// Writes the packet of an image, with exact lengths or with FFFFFFFF.
+pub fn packet_write_to_bytes(image: &[u8], text: &[u8], exact_lengths: bool, out: &mut [u8]) -> Result<usize, Refusal> {
+    let mut count = 0;
+    // SAFETY: as in `read`.
+    let answer = unsafe {
+        sys::riddoskam_packet_write_to_bytes(
+            image.as_ptr(),
+            image.len(),
+            text.as_ptr(),
+            text.len(),
+            exact_lengths,
+            out.as_mut_ptr(),
+            out.len(),
+            &mut count,
+        )
+    };
+    judged(answer, count)
+}
+
+/// A text: its place in the input, and its length.
+#[derive(Clone, Copy, Debug, PartialEq, Eq)]
+pub struct Text {
+    pub place: usize,
+    pub length: usize,
+}
+
+/// Whether a text is inside an input.
+pub fn inside(input: &[u8], text: Text) -> bool {
+    // SAFETY: as in `read`.
+    unsafe { sys::riddoskam_inside(input.as_ptr(), input.len(), text.place, text.length) }
+}
+
+/// The text, as that part of the input; the empty part at the front where it is not inside.
+pub fn part(input: &[u8], text: Text) -> &[u8] {
+    let mut from = 0;
+    // SAFETY: as in `read`.
+    let length = unsafe { sys::riddoskam_part(input.as_ptr(), input.len(), text.place, text.length, &mut from) };
+    &input[from..from + length]
+}
+
+/// What an entry of a packet is, with its texts.
+#[derive(Clone, Copy, Debug, PartialEq, Eq)]
+pub enum Role {
+    Header { name: Text, flag: bool },
+    Message { target: Text, response: Text },
+}
+
+/// An entry of a packet, and the part of the packet that its value is.
+#[derive(Clone, Copy, Debug, PartialEq, Eq)]
+pub struct Entry {
+    pub role: Role,
+    pub value: Text,
+}
+
+/// Entry `number` of a packet that its declared lengths cut exactly.
+pub fn packet_nth(packet: &[u8], number: usize) -> Result<Entry, Refusal> {
+    let mut e = [0; 8];
+    // SAFETY: as in `read`.
+    let answer = unsafe { sys::riddoskam_packet_nth(packet.as_ptr(), packet.len(), number, &mut e) };
+    let text = |i: usize| Text { place: e[i], length: e[i + 1] };
+    let role = if e[0] == 0x31 {
+        Role::Header { name: text(2), flag: e[1] != 0 }
+    } else {
+        Role::Message { target: text(2), response: text(4) }
+    };
+    judged(answer, Entry { role, value: text(6) })
+}
+
+/// A record of an image.
+#[derive(Clone, Copy, Debug, PartialEq)]
+pub enum Record {
+    Number(f64),
+    Boolean(bool),
+    String(Text),
+    /// Pairs follow, then an end.
+    Object,
+    Null,
+    Undefined,
+    Reference(u16),
+    /// The length as it was read; pairs follow, then an end.
+    EcmaArray(u32),
+    ObjectEnd,
+    /// That many values follow.
+    StrictArray(u32),
+    /// Milliseconds, and the zone if there is one.
+    Date(f64, Option<u16>),
+    Unsupported,
+    Xml(Text),
+    /// The class name; pairs follow, then an end.
+    TypedObject(Text),
+    /// Its value follows.
+    Key(Text),
+    Packet { headers: u16, messages: u16 },
+    /// Its value follows.
+    Header { name: Text, flag: bool },
+    /// Its value follows.
+    Message { target: Text, response: Text },
+    /// The length that the file stored, and its name; pairs follow to the image's end.
+    Lso { stored: u32, name: Text },
+}
+
+/// The record at a place of an image, and the place behind it; [`Refusal::NoTree`] where none stands there.
+pub fn record_at(image: &[u8], at: usize) -> Result<(Record, usize), Refusal> {
+    use Record::*;
+    let mut f = [0; 5];
+    let mut next = 0;
+    // SAFETY: as in `read`.
+    judged(unsafe { sys::riddoskam_record_at(image.as_ptr(), image.len(), at, &mut f, &mut next) }, ())?;
+    let text = |i: usize| Text { place: f[i] as usize, length: f[i + 1] as usize };
+    let record = match f[0] {
+        0x00 => Number(f64::from_bits(f[1])),
+        0x01 => Boolean(f[1] != 0),
+        0x02 => String(text(1)),
+        0x03 => Object,
+        0x05 => Null,
+        0x06 => Undefined,
+        0x07 => Reference(f[1] as u16),
+        0x08 => EcmaArray(f[1] as u32),
+        0x09 => ObjectEnd,
+        0x0A => StrictArray(f[1] as u32),
+        0x0B => Date(f64::from_bits(f[1]), if f[2] != 0 { Some(f[3] as u16) } else { None }),
+        0x0D => Unsupported,
+        0x0F => Xml(text(1)),
+        0x10 => TypedObject(text(1)),
+        0x20 => Key(text(1)),
+        0x30 => Packet { headers: f[1] as u16, messages: f[2] as u16 },
+        0x31 => Header { name: text(1), flag: f[3] != 0 },
+        0x32 => Message { target: text(1), response: text(3) },
+        0x33 => Lso { stored: f[1] as u32, name: text(2) },
+        // No record has another kind.
+        _ => return Err(Refusal::NoTree),
+    };
+    Ok((record, next))
+}

@@ -1,0 +1,178 @@
+use riddoskam::*;
+
+const FILE: &[u8] = include_bytes!("../../../samples/prices.sol");
+
+/// The place behind the value at a place.
+fn behind(image: &[u8], at: usize) -> usize {
+    let (record, mut next) = record_at(image, at).unwrap();
+    match record {
+        Record::StrictArray(n) => (0..n).fold(next, |at, _| behind(image, at)),
+        Record::Object | Record::EcmaArray(_) | Record::TypedObject(_) => loop {
+            match record_at(image, next).unwrap() {
+                (Record::Key(_), value) => next = behind(image, value),
+                (_, end) => return end,
+            }
+        },
+        _ => next,
+    }
+}
+
+/// The value under a key, among the pairs from a place on.
+fn find(image: &[u8], input: &[u8], mut at: usize, key: &[u8]) -> Option<usize> {
+    while let Ok((Record::Key(text), value)) = record_at(image, at) {
+        if part(input, text) == key {
+            return Some(value);
+        }
+        at = behind(image, value);
+    }
+    None
+}
+
+/// The number under "cents" of the object at a place.
+fn cents(image: &[u8], input: &[u8], at: usize) -> Option<f64> {
+    let (Record::Object, pairs) = record_at(image, at).ok()? else { return None };
+    let value = find(image, input, pairs, b"cents")?;
+    let (Record::Number(price), _) = record_at(image, value).ok()? else { return None };
+    Some(price)
+}
+
+fn message(shelf: &[u8], price: f64) -> Vec<u8> {
+    let mut value = b"\x03\x00\x05cents\x00".to_vec();
+    value.extend(price.to_be_bytes());
+    value.extend([0, 0, 9]);
+    let mut m = vec![0, shelf.len() as u8];
+    m.extend(shelf);
+    m.extend([0, 0]);
+    m.extend((value.len() as u32).to_be_bytes());
+    m.extend(value);
+    m
+}
+
+fn packet() -> Vec<u8> {
+    let mut p = vec![0, 0, 0, 0, 0, 3];
+    p.extend(message(b"A-01", 127.0));
+    p.extend(message(b"A-02", 299.0));
+    p.extend(message(b"A-03", 83.0));
+    p
+}
+
+#[test]
+fn a_price_out_of_a_file() {
+    let mut image = [0xA5; 3 * 627];
+    assert_eq!(lso_parse(FILE, &mut image), Ok(Reading { used: 627, made: 436 }));
+    assert!(image[436..].iter().all(|&b| b == 0));
+    let (file, pairs) = record_at(&image, 0).unwrap();
+    let Record::Lso { stored, name } = file else { panic!("{file:?}") };
+    assert_eq!((stored, part(FILE, name)), (621, &b"prices"[..]));
+    let shelf = find(&image[..436], FILE, pairs, b"A-02").unwrap();
+    assert_eq!(cents(&image, FILE, shelf), Some(299.0));
+    assert_eq!(find(&image[..436], FILE, pairs, b"Z-99"), None);
+}
+
+#[test]
+fn a_file_is_written_as_it_was_read() {
+    let mut image = [0; 3 * 627];
+    let made = lso_parse(FILE, &mut image).unwrap().made;
+    let mut out = [0x5A; 700];
+    assert_eq!(lso_write_to_bytes(&image[..made], FILE, &mut out), Ok(627));
+    assert_eq!(&out[..627], FILE);
+    assert!(out[627..].iter().all(|&b| b == 0x5A));
+}
+
+#[test]
+fn refused() {
+    let mut image = [0xA5; 64];
+    assert_eq!(lso_parse(&FILE[..600], &mut [0; 2000]), Err(Refusal::NotRight));
+    assert!(lso_parse_incomplete(&FILE[..600], &mut [0; 2000]).unwrap().used < 600);
+    assert_eq!(lso_parse(FILE, &mut image), Err(Refusal::NoRoom));
+    assert_eq!(image, [0; 64]);
+    let mut out = [0x5A; 16];
+    assert_eq!(write_value(&[0x04], &[], &mut out), Err(Refusal::NoTree));
+    assert_eq!(write_value(&[0x00, 1, 2, 3, 4, 5, 6, 7, 8], &[], &mut out[..8]), Err(Refusal::NoRoom));
+    assert_eq!(out, [0x5A; 16]);
+    assert_eq!(parse_single_element(&[], &mut []), Err(Refusal::NotWhole));
+    assert_eq!(parse_single_element(&[5], &mut []), Err(Refusal::NoRoom));
+    assert_eq!(parse_single_element(&vec![5; 1_048_577], &mut image), Err(Refusal::OverLimit));
+    let deep: Vec<u8> = [0x0A, 0, 0, 0, 1].repeat(32).into_iter().chain([5]).collect();
+    assert_eq!(parse_single_element(&deep, &mut [0; 1000]), Err(Refusal::TooDeep));
+    assert_eq!(packet_parse(&[0, 3], &mut image), Err(Refusal::OtherVersion));
+}
+
+#[test]
+fn a_bent_byte_costs_one_shelf() {
+    let mut p = packet();
+    let mut image = [0; 300];
+    assert_eq!(packet_parse(&p, &mut image).unwrap().used, p.len());
+    let second = packet_nth(&p, 1).unwrap();
+    p[second.value.place] = 4;
+    assert_eq!(packet_parse(&p, &mut image), Err(Refusal::NotRight));
+    let price = |k: usize, image: &mut [u8]| {
+        let entry = packet_nth(&p, k)?;
+        let Role::Message { target, .. } = entry.role else { panic!("{entry:?}") };
+        let made = packet_parse_entry(&p, k, image)?.made;
+        Ok((part(&p, target), cents(&image[..made], &p, 0)))
+    };
+    assert_eq!(price(0, &mut image), Ok((&b"A-01"[..], Some(127.0))));
+    assert_eq!(price(1, &mut image), Err(Refusal::Damaged));
+    assert_eq!(image, [0; 300]);
+    assert_eq!(price(2, &mut image), Ok((&b"A-03"[..], Some(83.0))));
+    assert_eq!(price(3, &mut image), Err(Refusal::NoEntry));
+}
+
+#[test]
+fn lengths_as_asked() {
+    let p = packet();
+    let mut image = [0; 300];
+    let made = packet_parse_incomplete(&p, &mut image).unwrap().made;
+    let mut out = [0; 200];
+    let n = packet_write_to_bytes(&image[..made], &p, true, &mut out).unwrap();
+    assert_eq!(&out[..n], &p[..]);
+    let n = packet_write_to_bytes(&image[..made], &p, false, &mut out).unwrap();
+    assert_eq!(packet_nth(&out[..n], 0), Err(Refusal::NotWhole));
+    let place = packet_nth(&p, 0).unwrap().value.place;
+    assert_eq!(out[place - 4..place], [0xFF; 4]);
+}
+
+#[test]
+fn a_header_and_its_flag() {
+    let p = b"\x00\x00\x00\x01\x00\x01h\x07\x00\x00\x00\x01\x05\x00\x00";
+    let e = packet_nth(p, 0).unwrap();
+    assert_eq!(e, Entry { role: Role::Header { name: Text { place: 6, length: 1 }, flag: true }, value: Text { place: 12, length: 1 } });
+    let mut image = [0; 45];
+    let made = packet_parse(p, &mut image).unwrap().made;
+    assert_eq!(record_at(&image, 0).unwrap().0, Record::Packet { headers: 1, messages: 0 });
+    assert_eq!(record_at(&image, 5).unwrap(), (Record::Header { name: Text { place: 6, length: 1 }, flag: true }, 12));
+    assert_eq!(record_at(&image[..made], 12).unwrap(), (Record::Null, 13));
+    assert_eq!(record_at(&image[..made], 13), Err(Refusal::NoTree));
+}
+
+#[test]
+fn each_kind_of_value() {
+    let one = |input: &[u8]| {
+        let mut image = [0; 64];
+        parse_single_element(input, &mut image).unwrap();
+        record_at(&image, 0).unwrap().0
+    };
+    let text = |place, length| Text { place, length };
+    assert_eq!(one(b"\x00\x3F\xF0\0\0\0\0\0\0"), Record::Number(1.0));
+    assert_eq!(one(b"\x01\x02"), Record::Boolean(true));
+    assert_eq!(one(b"\x02\x00\x02hi"), Record::String(text(3, 2)));
+    assert_eq!(one(b"\x03\0\0\x09"), Record::Object);
+    assert_eq!(one(b"\x05"), Record::Null);
+    assert_eq!(one(b"\x06"), Record::Undefined);
+    assert_eq!(one(b"\x07\x01\x02"), Record::Reference(0x102));
+    assert_eq!(one(b"\x08\0\0\0\x05\0\0\x09"), Record::EcmaArray(5));
+    assert_eq!(one(b"\x0A\0\0\0\x01\x05"), Record::StrictArray(1));
+    assert_eq!(one(b"\x0B\x3F\xF0\0\0\0\0\0\0\0\x07"), Record::Date(1.0, Some(7)));
+    assert_eq!(one(b"\x0F\0\0\0\x01x"), Record::Xml(text(5, 1)));
+    assert_eq!(one(b"\x10\0\x01C\0\0\x09"), Record::TypedObject(text(3, 1)));
+    assert_eq!(one(b"\x11"), Record::Unsupported);
+}
+
+#[test]
+fn texts() {
+    assert!(inside(b"abc", Text { place: 3, length: 0 }));
+    assert!(!inside(b"abc", Text { place: 1, length: usize::MAX }));
+    assert_eq!(part(b"abc", Text { place: 1, length: 2 }), b"bc");
+    assert_eq!(part(b"abc", Text { place: 2, length: 2 }), b"");
+}

@@ -1,0 +1,133 @@
+/* Riddoskam: AMF0 values, LSO files and AMF packets, read and written over lent buffers. The library is target/staticlib/libriddoskam.a, made by
+   `rt staticlib riddoskam`, for x86-64 Linux; of the C library it uses memset alone. It has no state, takes no memory and keeps no pointer, so calls may run
+   beside each other.
+
+   A row of bytes is a pointer and a length. What a C caller owes is what C itself can't check:
+   - a pointer to a row is not NULL, even where the length is 0, and as many bytes stand behind it as the length says;
+   - what a call writes (image, out, entry, fields, counts) overlaps no other argument, and nobody else touches it during the call;
+   - what it reads (input, image, text, packet) isn't written by anybody during the call.
+   Nothing else is owed: whatever the bytes and the numbers are, each call ends, and its answer, its counts and every byte that it leaves are proved to be what
+   is said here (crates/riddoskam/src/lib.rt). */
+#ifndef RIDDOSKAM_H
+#define RIDDOSKAM_H
+
+#include <stdbool.h>
+#include <stddef.h>
+#include <stdint.h>
+
+#ifdef __cplusplus
+extern "C" {
+#endif
+
+/* Answers. */
+enum {
+    RIDDOSKAM_ACCEPTED = 0,
+    RIDDOSKAM_OVER_LIMIT = 1,    /* input, text, image or output over its limit */
+    RIDDOSKAM_NOT_WHOLE = 2,     /* a field isn't whole, or a count or a declared length exceeds the bytes left */
+    RIDDOSKAM_NOT_RIGHT = 3,     /* a fixed byte is wrong, text isn't UTF-8, no value has this marker, or bytes are left over */
+    RIDDOSKAM_NO_ROOM = 4,       /* the image or the output doesn't fit */
+    RIDDOSKAM_TOO_DEEP = 5,      /* a value at depth 33 */
+    RIDDOSKAM_NO_TREE = 6,       /* the image isn't a tree of the asked kind, or names bad text */
+    RIDDOSKAM_OTHER_VERSION = 7, /* packet version byte 3 */
+    RIDDOSKAM_NO_ENTRY = 8,      /* no entry of that number */
+    RIDDOSKAM_DAMAGED = 9        /* the entry's value is short, malformed or not used to the end */
+};
+
+/* Limits: bytes of an input, a text or an output; bytes of an image that is given to a writer; levels. An image of three times the input's length always has
+   room. */
+enum { RIDDOSKAM_BYTES = 1048576, RIDDOSKAM_IMAGE = 3145728, RIDDOSKAM_LEVELS = 32 };
+
+/* Kinds of records, with what stands in fields[1] and the ones behind it. A text is its place in the input and its length. */
+enum {
+    RIDDOSKAM_NUMBER = 0x00,       /* the bits of a double */
+    RIDDOSKAM_BOOLEAN = 0x01,      /* 0 or 1 */
+    RIDDOSKAM_STRING = 0x02,       /* text */
+    RIDDOSKAM_OBJECT = 0x03,       /* pairs follow, then an end */
+    RIDDOSKAM_NULL = 0x05,
+    RIDDOSKAM_UNDEFINED = 0x06,
+    RIDDOSKAM_REFERENCE = 0x07,    /* index */
+    RIDDOSKAM_ECMA_ARRAY = 0x08,   /* length as read; pairs follow, then an end */
+    RIDDOSKAM_OBJECT_END = 0x09,
+    RIDDOSKAM_STRICT_ARRAY = 0x0A, /* count; that many values follow */
+    RIDDOSKAM_DATE = 0x0B,         /* the bits of a double, 1 where there is a zone, the zone */
+    RIDDOSKAM_UNSUPPORTED = 0x0D,
+    RIDDOSKAM_XML = 0x0F,          /* text */
+    RIDDOSKAM_TYPED_OBJECT = 0x10, /* text of the class name; pairs follow, then an end */
+    RIDDOSKAM_KEY = 0x20,          /* text; its value follows */
+    RIDDOSKAM_PACKET = 0x30,       /* how many headers, how many messages */
+    RIDDOSKAM_HEADER = 0x31,       /* text of the name, flag; its value follows */
+    RIDDOSKAM_MESSAGE = 0x32,      /* text of the target, text of the response; its value follows */
+    RIDDOSKAM_LSO = 0x33           /* stored length, text of the name; pairs follow to the image's end */
+};
+
+/* ---- Readings
+
+   Each reads `input` into `image`. Accepted: `*used` bytes of the input were used and `*made` bytes of the image made; the image past them is zero.
+   Refused: `*used` and `*made` are 0, and the whole image is zero. */
+
+/* One value at the front of the input. Answers 0 to 5. */
+uint8_t riddoskam_parse_single_element(const uint8_t *input, size_t input_length, uint8_t *image, size_t image_length, size_t *used, size_t *made);
+
+/* A file that is the whole input; a file as far as it can be read. Answers 0 to 5. */
+uint8_t riddoskam_lso_parse(const uint8_t *input, size_t input_length, uint8_t *image, size_t image_length, size_t *used, size_t *made);
+uint8_t riddoskam_lso_parse_incomplete(const uint8_t *input, size_t input_length, uint8_t *image, size_t image_length, size_t *used, size_t *made);
+
+/* A packet that is the whole input; a packet at the front of the input. Declared lengths are not looked at. Answers 0 to 5 and 7. */
+uint8_t riddoskam_packet_parse(const uint8_t *input, size_t input_length, uint8_t *image, size_t image_length, size_t *used, size_t *made);
+uint8_t riddoskam_packet_parse_incomplete(const uint8_t *input, size_t input_length, uint8_t *image, size_t image_length, size_t *used, size_t *made);
+
+/* The value of entry `number`, from 0, headers first, of a packet that its declared lengths cut exactly: read as that part of the packet alone, so no other
+   entry's value has a say. Places count from the packet's start. Answers 0 to 5 and 7 to 9. */
+uint8_t riddoskam_packet_parse_entry(const uint8_t *packet, size_t packet_length, size_t number, uint8_t *image, size_t image_length, size_t *used,
+                                     size_t *made);
+
+/* ---- Writings
+
+   Each writes the tree of `image`, whose texts stand in `text` at the places that the image names, into `out`. Accepted: the first `*count` bytes of the
+   output are written and no other. Refused: `*count` is 0 and no byte of the output is changed. The image is a tree's bytes alone: of a buffer that was read
+   into, its first `made` bytes. Answers 0, 1, 4, 5, 6. */
+
+uint8_t riddoskam_write_value(const uint8_t *image, size_t image_length, const uint8_t *text, size_t text_length, uint8_t *out, size_t out_length,
+                              size_t *count);
+
+/* The file; its length field is set anew. */
+uint8_t riddoskam_lso_write_to_bytes(const uint8_t *image, size_t image_length, const uint8_t *text, size_t text_length, uint8_t *out, size_t out_length,
+                                     size_t *count);
+
+/* The packet; each declared length is exact, or FFFFFFFF where `exact_lengths` is false. */
+uint8_t riddoskam_packet_write_to_bytes(const uint8_t *image, size_t image_length, const uint8_t *text, size_t text_length, bool exact_lengths, uint8_t *out,
+                                        size_t out_length, size_t *count);
+
+/* ---- Entries, records, texts */
+
+/* Where the numbers of an entry stand. A header's texts are its name and an empty one at 0, a message's are its target and its response. */
+enum {
+    RIDDOSKAM_ENTRY_KIND, /* RIDDOSKAM_HEADER or RIDDOSKAM_MESSAGE */
+    RIDDOSKAM_ENTRY_FLAG, /* 0 or 1; 0 for a message */
+    RIDDOSKAM_ENTRY_PLACE1,
+    RIDDOSKAM_ENTRY_LENGTH1,
+    RIDDOSKAM_ENTRY_PLACE2,
+    RIDDOSKAM_ENTRY_LENGTH2,
+    RIDDOSKAM_ENTRY_PLACE, /* of the value */
+    RIDDOSKAM_ENTRY_LENGTH,
+    RIDDOSKAM_ENTRY_NUMBERS
+};
+
+/* Entry `number` of a packet that its declared lengths cut exactly; values are not looked into. Refused, all eight numbers are 0. Answers 0 to 3, 7, 8. */
+uint8_t riddoskam_packet_nth(const uint8_t *packet, size_t packet_length, size_t number, size_t entry[8]);
+
+/* The record at a place of an image: fields[0] is its kind, the others are its body, field by field, and 0 where it has none. `*next` is the place behind it.
+   Where no whole and right record stands there, the answer is 6 and all are 0. */
+uint8_t riddoskam_record_at(const uint8_t *image, size_t image_length, size_t at, uint64_t fields[5], size_t *next);
+
+/* Whether `place + length` (in whole numbers, never wrapped) is at most the input's length. */
+bool riddoskam_inside(const uint8_t *input, size_t input_length, size_t place, size_t length);
+
+/* The text of a place and length: it begins at `input + *from` and its length is the result. Where the two are not inside, both are 0. */
+size_t riddoskam_part(const uint8_t *input, size_t input_length, size_t place, size_t length, size_t *from);
+
+#ifdef __cplusplus
+}
+#endif
+
+#endif

@@ -1,0 +1,562 @@
+/* hostile SEED CASES [SHAM]: calls the compiled library through its C face on random and bent inputs, and looks at everything that a call may leave.
+
+   Each call is made twice, on the same bytes: once with every buffer right behind a page that can't be touched, and once right before one; on the other
+   side stand 256 bytes that must stay. So a byte that is read or written outside a buffer ends the program, or is seen. After each call:
+   - the answer is one of the call's, and the same in both places, with the same counts and the same bytes;
+   - what was only lent to be read is as it was;
+   - a reading that is refused leaves zeros and counts of 0; an accepted one has counts inside its buffers, zeros behind what is made, and an image that is
+     records from its first byte to its last;
+   - a writing that is refused leaves the output as it was; an accepted one changes no byte past its count, and what it wrote reads back as an image of the
+     same length, in no more bytes than were read where the image was read;
+   - an entry's places lie inside the packet, and its value, read alone, gives what reading the entry gives.
+   A call that doesn't end is ended by the clock after a minute. The same SEED gives the same cases. SHAM, a number from 1 to 7, plants a fault between the
+   library and the checks, so that one sees them fail. */
+#include <signal.h>
+#include <stdio.h>
+#include <stdlib.h>
+#include <string.h>
+#include <sys/mman.h>
+#include <sys/wait.h>
+#include <unistd.h>
+
+#include "riddoskam.h"
+
+enum { PAGE = 65536, LEFT = 256, MOST = RIDDOSKAM_BYTES + 1 };
+
+/* ---- numbers */
+
+static uint64_t state;
+
+static uint64_t any(void) {
+    uint64_t z = state += 0x9E3779B97F4A7C15u;
+    z = (z ^ z >> 30) * 0xBF58476D1CE4E5B9u;
+    z = (z ^ z >> 27) * 0x94D049BB133111EBu;
+    return z ^ z >> 31;
+}
+
+static size_t below(size_t n) { return n ? any() % n : 0; }
+
+/* ---- what is told */
+
+static unsigned long long now_case;
+static const char *now_call = "none";
+static int sham, guard_tried;
+static unsigned long long calls[16], accepted[16], answers[10];
+static const char *names[16];
+
+static void fail(const char *what) {
+    printf("FAILED in case %llu, %s: %s\n", now_case, now_call, what);
+    fflush(stdout);
+    _exit(1);
+}
+
+#define MUST(fact, what)           \
+    do {                           \
+        if (!(fact)) fail(what);   \
+    } while (0)
+
+static void on_signal(int n) {
+    if (guard_tried) _exit(7);
+    fail(n == SIGALRM ? "it does not end" : "it touches what is not its own");
+}
+
+/* ---- buffers between pages that can't be touched */
+
+struct area {
+    uint8_t *base;
+    size_t room;
+};
+
+static struct area lent[3]; /* input or image that is read, text, and what is written */
+
+static struct area area(size_t most) {
+    struct area a;
+    a.room = (most + LEFT + PAGE - 1) / PAGE * PAGE;
+    uint8_t *p = mmap(NULL, a.room + 3 * PAGE, PROT_NONE, MAP_PRIVATE | MAP_ANONYMOUS, -1, 0);
+    if (p == MAP_FAILED) fail("no memory");
+    p += PAGE - (uintptr_t)p % PAGE;
+    a.base = p + PAGE;
+    a.base -= (uintptr_t)a.base % PAGE;
+    if (mprotect(a.base, a.room, PROT_READ | PROT_WRITE) != 0) fail("no memory");
+    return a;
+}
+
+/* n bytes right behind the page before (side 0) or right before the page behind (side 1). */
+static uint8_t *lend(int which, int side, size_t n) {
+    struct area a = lent[which];
+    if (side == 0) {
+        memset(a.base + n, 0xC3, LEFT);
+        return a.base;
+    }
+    memset(a.base + a.room - n - LEFT, 0xC3, LEFT);
+    return a.base + a.room - n;
+}
+
+static void left_alone(int which, int side, size_t n) {
+    struct area a = lent[which];
+    uint8_t *p = side == 0 ? a.base + n : a.base + a.room - n - LEFT;
+    for (int i = 0; i < LEFT; i++) MUST(p[i] == 0xC3, "a byte beside a buffer changed");
+}
+
+static int all(const uint8_t *p, size_t n, uint8_t b) {
+    return n == 0 || (p[0] == b && memcmp(p, p + 1, n - 1) == 0);
+}
+
+/* ---- calls */
+
+enum { VALUE, FILE_WHOLE, FILE_START, PACKET_WHOLE, PACKET_FRONT, ENTRY, WRITE_VALUE, WRITE_FILE, WRITE_PACKET, WRITE_OPEN, NTH, RECORD, TEXTS };
+
+static uint8_t call_reading(int call, const uint8_t *s, size_t n, size_t number, uint8_t *image, size_t room, size_t *used, size_t *made) {
+    switch (call) {
+    case VALUE: return riddoskam_parse_single_element(s, n, image, room, used, made);
+    case FILE_WHOLE: return riddoskam_lso_parse(s, n, image, room, used, made);
+    case FILE_START: return riddoskam_lso_parse_incomplete(s, n, image, room, used, made);
+    case PACKET_WHOLE: return riddoskam_packet_parse(s, n, image, room, used, made);
+    case PACKET_FRONT: return riddoskam_packet_parse_incomplete(s, n, image, room, used, made);
+    default: return riddoskam_packet_parse_entry(s, n, number, image, room, used, made);
+    }
+}
+
+static uint8_t call_writing(int call, const uint8_t *image, size_t n, const uint8_t *text, size_t m, uint8_t *out, size_t room, size_t *count) {
+    switch (call) {
+    case WRITE_VALUE: return riddoskam_write_value(image, n, text, m, out, room, count);
+    case WRITE_FILE: return riddoskam_lso_write_to_bytes(image, n, text, m, out, room, count);
+    case WRITE_PACKET: return riddoskam_packet_write_to_bytes(image, n, text, m, true, out, room, count);
+    default: return riddoskam_packet_write_to_bytes(image, n, text, m, false, out, room, count);
+    }
+}
+
+static void told(int call, uint8_t answer) {
+    calls[call]++;
+    answers[answer]++;
+    if (answer == 0) accepted[call]++;
+}
+
+static void records(const uint8_t *image, size_t made) {
+    uint64_t f[5];
+    size_t at = 0, next;
+    while (at < made) {
+        MUST(riddoskam_record_at(image, made, at, f, &next) == 0, "the image isn't records");
+        MUST(next > at && next <= made, "a record leads out of the image");
+        at = next;
+    }
+    MUST(at == made, "the image isn't whole records");
+}
+
+struct result {
+    uint8_t answer;
+    size_t used, made;
+};
+
+/* A reading of the bytes s, in both places. The image is left in `image` where it is accepted. */
+static struct result reading(int call, const uint8_t *s, size_t n, size_t number, size_t room, uint8_t *image) {
+    static const char *const right[] = {"012345", "012345", "012345", "0123457", "0123457", "012345789"};
+    struct result first = {0, 0, 0};
+    now_call = names[call];
+    for (int side = 0; side < 2; side++) {
+        struct result r = {0, 77, 77};
+        uint8_t *in = lend(0, side, n), *im = lend(2, side, room);
+        memcpy(in, s, n);
+        memset(im, 0xA5, room);
+        r.answer = call_reading(call, in, n, number, im, room, &r.used, &r.made);
+        if (sham == 1) im[room] = 0;
+        if (sham == 2) im[-1] = 0;
+        if (sham == 3 && r.answer != 0 && room > 0) im[room - 1] = 1;
+        if (sham == 4 && r.answer == 0) r.used = n + 1;
+        if (sham == 5 && now_case == 100)
+            for (;;) pause();
+        if (sham == 6 && n > 0) in[n - 1] ^= 1;
+        left_alone(0, side, n);
+        left_alone(2, side, room);
+        MUST(memcmp(in, s, n) == 0, "the input changed");
+        MUST(r.answer <= 9 && strchr(right[call], '0' + r.answer), "it has no such answer");
+        MUST((n > RIDDOSKAM_BYTES) == (r.answer == 1), "1 is for inputs over the limit");
+        if (r.answer == 0) {
+            MUST(r.used <= n && r.made <= room, "counts lead out of the buffers");
+            MUST(all(im + r.made, room - r.made, 0), "the image isn't zero past what is made");
+            MUST((call != FILE_WHOLE && call != PACKET_WHOLE) || r.used == n, "a whole reading left bytes over");
+            MUST(r.made > 0 && r.made <= 3 * n, "three times the input is too little");
+            if (side == 0) records(im, r.made);
+        } else {
+            MUST(r.used == 0 && r.made == 0, "counts on a refusal");
+            MUST(all(im, room, 0), "a refused reading left something");
+        }
+        MUST(r.answer != 4 || room < 3 * n, "4 with three times the input");
+        if (side == 0) {
+            first = r;
+            memcpy(image, im, room);
+        } else {
+            MUST(r.answer == first.answer && r.used == first.used && r.made == first.made, "another result in another place");
+            MUST(memcmp(im, image, room) == 0, "another image in another place");
+        }
+    }
+    told(call, first.answer);
+    return first;
+}
+
+/* A writing, in both places: the count, and what was written in `out`. */
+static struct result writing(int call, const uint8_t *image, size_t n, const uint8_t *text, size_t m, size_t room, uint8_t *out) {
+    struct result first = {0, 0, 0};
+    now_call = names[call];
+    for (int side = 0; side < 2; side++) {
+        struct result r = {0, 0, 77};
+        uint8_t *im = lend(0, side, n), *tx = lend(1, side, m), *o = lend(2, side, room);
+        memcpy(im, image, n);
+        memcpy(tx, text, m);
+        memset(o, 0x5A, room);
+        r.answer = call_writing(call, im, n, tx, m, o, room, &r.made);
+        if (sham == 7 && r.answer != 0 && room > 0) o[0] = 0;
+        left_alone(0, side, n);
+        left_alone(1, side, m);
+        left_alone(2, side, room);
+        MUST(memcmp(im, image, n) == 0 && memcmp(tx, text, m) == 0, "the image or the text changed");
+        MUST(r.answer <= 9 && strchr("01456", '0' + r.answer), "it has no such answer");
+        if (r.answer == 0)
+            MUST(r.made <= room && r.made <= RIDDOSKAM_BYTES, "the count leads out of the output");
+        else
+            MUST(r.made == 0, "a count on a refusal");
+        MUST(all(o + r.made, room - r.made, 0x5A), "a byte past the count changed");
+        if (side == 0) {
+            first = r;
+            memcpy(out, o, room);
+        } else {
+            MUST(r.answer == first.answer && r.made == first.made, "another result in another place");
+            MUST(memcmp(o, out, room) == 0, "another output in another place");
+        }
+    }
+    told(call, first.answer);
+    return first;
+}
+
+/* ---- inputs */
+
+static uint8_t input[MOST + 65536];
+static size_t length;
+
+static void put(uint8_t b) {
+    if (length < MOST) input[length++] = b;
+}
+
+static void put_number(int width, uint64_t n) {
+    while (width-- > 0) put(n >> (8 * width));
+}
+
+static void put_text(int width, size_t n) {
+    put_number(width, n);
+    int wide = below(4) == 0;
+    for (size_t i = 0; i < n;) {
+        if (wide && n - i >= 2 && below(2)) {
+            put(0xC2 + below(30));
+            put(0x80 + below(64));
+            i += 2;
+        } else if (wide && n - i >= 4 && below(4) == 0) {
+            put(0xF1);
+            for (int k = 0; k < 3; k++) put(0x80 + below(64));
+            i += 4;
+        } else {
+            put(' ' + below(95));
+            i++;
+        }
+    }
+}
+
+static size_t some_length(void) { return below(20) == 0 ? below(700) : below(12); }
+
+static void put_value(int left);
+
+static void put_pairs(int left) {
+    for (size_t n = below(5); n > 0; n--) {
+        put_text(2, some_length());
+        put_value(left);
+    }
+    put_text(2, below(8) == 0 ? below(5) : 0);
+    put(9);
+}
+
+static void put_value(int left) {
+    static const uint8_t plain[] = {0, 1, 2, 5, 6, 7, 0x0B, 0x0C, 0x0D, 0x0F, 0x11, 0x12, 0xFF, 0, 2, 2};
+    static const uint8_t nest[] = {3, 8, 0x0A, 0x10};
+    uint8_t m = left > 0 && below(3) ? nest[below(sizeof nest)] : plain[below(sizeof plain)];
+    put(m);
+    switch (m) {
+    case 0: put_number(8, any()); break;
+    case 1: put(below(3)); break;
+    case 2: put_text(2, some_length()); break;
+    case 7: put_number(2, any()); break;
+    case 0x0B: put_number(8, any()); put_number(2, below(3)); break;
+    case 0x0C: case 0x0F: put_text(4, some_length()); break;
+    case 3: put_pairs(left - 1); break;
+    case 8: put_number(4, below(9)); put_pairs(left - 1); break;
+    case 0x10: put_text(2, some_length()); put_pairs(left - 1); break;
+    case 0x0A: {
+        size_t n = below(5);
+        put_number(4, n);
+        while (n-- > 0) put_value(left - 1);
+        break;
+    }
+    }
+}
+
+/* A value under `levels` arrays of one value. */
+static void put_deep(size_t levels) {
+    while (levels-- > 0) {
+        put(0x0A);
+        put_number(4, 1);
+    }
+    put_value(1);
+}
+
+static void put_file(void) {
+    static const uint8_t signature[] = {'T', 'C', 'S', 'O', 0, 4, 0, 0, 0, 0};
+    put_number(2, 0xBF);
+    put_number(4, any());
+    for (size_t i = 0; i < sizeof signature; i++) put(signature[i]);
+    put_text(2, some_length());
+    put_number(4, 0);
+    for (size_t n = below(6); n > 0; n--) {
+        put_text(2, some_length());
+        put_value(below(4));
+        put(0);
+    }
+}
+
+static void put_entries(int header) {
+    size_t n = below(4);
+    put_number(2, n);
+    while (n-- > 0) {
+        put_text(2, some_length());
+        if (header)
+            put(below(3));
+        else
+            put_text(2, some_length());
+        size_t at = length;
+        put_number(4, 0xFFFFFFFF);
+        put_value(below(4));
+        size_t end = length;
+        if (below(16)) {
+            length = at;
+            put_number(4, end - at - 4);
+            length = end;
+        }
+    }
+}
+
+static void put_packet(void) {
+    put(0);
+    put(below(40) == 0 ? 3 : 0);
+    put_entries(1);
+    put_entries(0);
+}
+
+/* Bytes that say much in these formats. */
+static uint8_t telling(void) {
+    static const uint8_t bytes[] = {
+        0, 0, 0, 0, 1, 1, 2, 3, 4, 5, 6, 7, 8, 9, 9, 0x0A, 0x0B,
+        0x0C, 0x0D, 0x0E, 0x0F, 0x10, 0x11, 0x12, 0x7F, 0x80, 0xBF, 0xC2, 0xE0, 0xF4, 0xFF,
+    };
+    return below(4) ? bytes[below(sizeof bytes)] : any();
+}
+
+static void bend(uint8_t *s, size_t *n, size_t most) {
+    for (size_t times = 1 + below(4); times > 0; times--) {
+        size_t at = below(*n);
+        switch (below(7)) {
+        case 0: if (*n) s[at] ^= 1 << below(8); break;
+        case 1: if (*n) s[at] = telling(); break;
+        case 2: *n = at; break;
+        case 3: if (*n < most) { memmove(s + at + 1, s + at, *n - at); s[at] = telling(); ++*n; } break;
+        case 4: if (*n) { memmove(s + at, s + at + 1, *n - at - 1); --*n; } break;
+        case 5: for (size_t k = 0; k < 4 && at + k < *n; k++) s[at + k] = below(2) ? 0xFF : 0; break;
+        case 6: { size_t from = below(*n), k = below(20); if (from + k <= *n && at + k <= *n) memmove(s + at, s + from, k); break; }
+        }
+    }
+}
+
+static void make_input(void) {
+    length = 0;
+    size_t kind = below(32);
+    if (kind < 9)
+        put_value(below(6));
+    else if (kind < 16)
+        put_file();
+    else if (kind < 26)
+        put_packet();
+    else if (kind < 27)
+        put_deep(28 + below(8));
+    else
+        for (size_t n = below(40); n > 0; n--) put(telling());
+    if (below(400) == 0) {
+        /* one that is long: up to the limit and just over it */
+        size_t n = below(3) ? below(100000) : RIDDOSKAM_BYTES - 1 + below(3);
+        uint8_t b = telling();
+        while (length < n) put(below(64) ? b : telling());
+    } else if (below(5) < 3)
+        bend(input, &length, MOST);
+    if (below(6) == 0)
+        for (size_t n = below(4); n > 0; n--) put(telling());
+}
+
+static size_t some_room(size_t n) {
+    switch (below(8)) {
+    case 0: return below(4);
+    case 1: return below(n + 1);
+    case 2: return below(3 * n + 1);
+    default: return 3 * n;
+    }
+}
+
+/* ---- a case */
+
+static uint8_t tree[4 * MOST], again[4 * MOST], written[2 * MOST], bent[4 * MOST];
+
+/* An image that was read of `input`, written and read again. */
+static void round_trip(int read, int write, struct result r, size_t n) {
+    struct result w = writing(write, tree, r.made, input, n, n + 40, written);
+    MUST(w.answer == 0, "what was read can't be written");
+    MUST(w.made <= r.used, "more bytes than were read");
+    struct result b = reading(read, written, w.made, 0, 3 * w.made, again);
+    MUST(b.answer == 0 && b.used == w.made && b.made == r.made, "what was written doesn't read back");
+    /* exactly enough room, and one byte less */
+    if (w.made > 0) {
+        MUST(writing(write, tree, r.made, input, n, w.made, written).answer == 0, "its own length is too little room");
+        MUST(writing(write, tree, r.made, input, n, w.made - 1, written).answer == 4, "a byte too little is room enough");
+    }
+    /* the last element of a file that is read so far needs room too, and is dropped */
+    if (read != FILE_START) MUST(reading(read, input, n, 0, r.made, again).answer == 0, "its own image is too little room");
+}
+
+static void read_and_write(int read, int write) {
+    struct result r = reading(read, input, length, 0, some_room(length), tree);
+    if (r.answer == 0 && length < 5000) {
+        round_trip(read, write, r, length);
+        /* the image bent: whatever it is, the writer answers */
+        size_t n = r.made;
+        memcpy(bent, tree, n);
+        bend(bent, &n, sizeof bent);
+        writing(write, bent, n, input, length, below(3) ? 2 * length + 40 : below(length + 1), written);
+    }
+}
+
+static void entries(void) {
+    size_t e[8];
+    for (size_t k = 0; k < 9; k++) {
+        now_call = names[NTH];
+        uint8_t answer = 0;
+        for (int side = 0; side < 2; side++) {
+            uint8_t *p = lend(0, side, length);
+            memcpy(p, input, length);
+            memset(e, 0xEE, sizeof e);
+            answer = riddoskam_packet_nth(p, length, k, e);
+            left_alone(0, side, length);
+        }
+        MUST(strchr("012378", '0' + answer), "it has no such answer");
+        told(NTH, answer);
+        struct result r = reading(ENTRY, input, length, k, some_room(length), tree);
+        if (answer != 0) {
+            MUST(r.answer == answer, "an entry that is not there is read");
+            for (int i = 0; i < 8; i++) MUST(e[i] == 0, "a refused entry left something");
+            return;
+        }
+        MUST(e[0] == RIDDOSKAM_HEADER || e[0] == RIDDOSKAM_MESSAGE, "an entry's kind");
+        MUST(e[1] <= 1 && (e[0] == RIDDOSKAM_HEADER || e[1] == 0), "an entry's flag");
+        for (int i = 2; i < 8; i += 2) MUST(riddoskam_inside(input, length, e[i], e[i + 1]), "an entry leads out of the packet");
+        if (r.answer == 0) MUST(r.used == e[7], "an entry that is not used to its end");
+        /* the value's bytes alone, with room for all */
+        r = reading(ENTRY, input, length, k, 3 * length, tree);
+        struct result v = reading(VALUE, input + e[6], e[7], 0, 3 * length, again);
+        uint8_t want = v.answer == 2 || v.answer == 3 || (v.answer == 0 && v.used < e[7]) ? 9 : v.answer;
+        MUST(r.answer == want, "an entry answers otherwise than its value alone");
+        MUST(want != 0 || r.made == v.made, "an entry has another image than its value alone");
+    }
+}
+
+static void random_image(void) {
+    static const uint8_t kinds[] = {0, 1, 2, 3, 5, 6, 7, 8, 9, 9, 0x0A, 0x0B, 0x0D, 0x0F, 0x10, 0x20, 0x20, 0x30, 0x31, 0x32, 0x33};
+    size_t n = 0, most = below(60);
+    while (n < most) {
+        bent[n++] = kinds[below(sizeof kinds)];
+        for (size_t k = below(12); k > 0 && n < most; k--) bent[n++] = below(3) ? 0 : telling();
+    }
+    for (int call = WRITE_VALUE; call <= WRITE_OPEN; call++) writing(call, bent, n, input, length < 3000 ? length : 3000, below(200), written);
+    now_call = names[RECORD];
+    uint64_t f[5];
+    for (int side = 0; side < 2; side++) {
+        uint8_t *p = lend(0, side, n);
+        memcpy(p, bent, n);
+        for (size_t at = 0; at < n + 3; at++) {
+            size_t next = 77;
+            memset(f, 0xEE, sizeof f);
+            uint8_t answer = riddoskam_record_at(p, n, at, f, &next);
+            told(RECORD, answer);
+            if (answer == 0) {
+                MUST(next > at && next <= n && next - at <= 12 && f[0] == p[at], "a record leads out of the image");
+            } else {
+                MUST(answer == 6 && next == 0, "it has no such answer");
+                for (int i = 0; i < 5; i++) MUST(f[i] == 0, "a refused record left something");
+            }
+        }
+        left_alone(0, side, n);
+    }
+}
+
+static void texts(void) {
+    now_call = names[TEXTS];
+    size_t place = below(4) ? below(length + 3) : any(), n = below(4) ? below(length + 3) : any(), from = 77;
+    int in = place <= length && n <= length - place;
+    MUST(riddoskam_inside(input, length, place, n) == in, "inside");
+    size_t got = riddoskam_part(input, length, place, n, &from);
+    MUST(in ? got == n && from == place : got == 0 && from == 0, "part");
+    told(TEXTS, 0);
+}
+
+int main(int count, char **words) {
+    static const char *const all_names[] = {
+        "value read", "file read whole", "file read so far", "packet read whole",
+        "packet read at the front", "entry read", "value written", "file written",
+        "packet written, exact lengths", "packet written, FFFFFFFF", "entry by number", "record",
+        "inside and part",
+    };
+    if (count < 3) return 2;
+    memcpy(names, all_names, sizeof all_names);
+    state = strtoull(words[1], NULL, 10);
+    unsigned long long most = strtoull(words[2], NULL, 10);
+    sham = count > 3 ? atoi(words[3]) : 0;
+    lent[0] = area(4 * MOST);
+    lent[1] = area(MOST);
+    lent[2] = area(4 * MOST);
+    signal(SIGSEGV, on_signal);
+    signal(SIGBUS, on_signal);
+    signal(SIGALRM, on_signal);
+    /* the pages around a buffer can't be touched */
+    for (int i = 0; i < 3; i++)
+        for (int side = 0; side < 2; side++) {
+            pid_t child = fork();
+            if (child == 0) {
+                guard_tried = 1;
+                *(volatile uint8_t *)(side ? lent[i].base + lent[i].room : lent[i].base - 1) = 1;
+                _exit(0);
+            }
+            int status = 0;
+            if (child < 0 || waitpid(child, &status, 0) != child || !WIFEXITED(status) || WEXITSTATUS(status) != 7)
+                fail("a page that must not be touched can be");
+        }
+    for (now_case = 0; now_case < most; now_case++) {
+        if (now_case % 64 == 0) alarm(sham == 5 ? 2 : 60);
+        make_input();
+        read_and_write(VALUE, WRITE_VALUE);
+        read_and_write(below(2) ? FILE_WHOLE : FILE_START, WRITE_FILE);
+        read_and_write(below(2) ? PACKET_WHOLE : PACKET_FRONT, below(2) ? WRITE_PACKET : WRITE_OPEN);
+        entries();
+        texts();
+        if (below(4) == 0) random_image();
+    }
+    unsigned long long sum = 0;
+    for (int i = 0; i <= TEXTS; i++) {
+        printf("%-30s %10llu calls, %9llu accepted\n", names[i], calls[i], accepted[i]);
+        sum += calls[i];
+    }
+    printf("answers");
+    for (int i = 0; i < 10; i++) printf(" %d: %llu", i, answers[i]);
+    printf("\n%llu inputs, %llu calls, each in both places: nothing touched outside, nothing left that must not be\n", most, sum);
+    return 0;
+}
