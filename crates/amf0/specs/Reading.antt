@@ -1,13 +1,11 @@
 -- What reading a value finds, from a place of an input on: document 01, "Reading one value". `left` is how many levels are left.
 use Prim.Native.Nat.{ℕ, zero, suc, _+_}
 use mathlib.Core.List.{List}
-use mathlib.Core.Bool.{Bool, true, false}
 use lib.ListN.{length}
 use lib.Dec.{leb, eqb}
 use Rattle.wire.specs.Choice.{pick}
 use Rattle.wire.specs.Field.{u8At, textAt, got8, gotText}
 use Rattle.wire.specs.Limit as limit
-use Rattle.image.specs.declared.record.Record.{Record}
 use Rattle.image.specs.declared.record.Record.the-variants.{ObjectEnd, Key}
 use Rattle.image.specs.Due.{Due, end, stop, due, _>>=_, based}
 use Rattle.image.specs.Whole.{Whole, settled, refused}

@@ -1,7 +1,6 @@
 -- What writing a value puts out, from a place of an image on: document 01, "A write checks first". `left` is how many levels are left.
-use Prim.Native.Nat.{ℕ, zero, suc, _+_, _*_, _≤_}
-use mathlib.Core.Path.{_≡_}
-use mathlib.Core.List.{List, [], _∷_, _++_}
+use Prim.Native.Nat.{ℕ, zero, suc, _+_}
+use mathlib.Core.List.{List, [], _∷_}
 use mathlib.Core.Bool.{Bool, true, false}
 use lib.ListN.{length}
 use lib.Dec.{leb, eqb}
@@ -10,12 +9,9 @@ use Rattle.wire.specs.Number.{digits}
 use Rattle.wire.specs.Bytes.{decimal}
 use Rattle.wire.specs.Field.{u8At, got8}
 use Rattle.wire.specs.Limit as limit
-use Rattle.wire.specs.declared.cursor.Cursor.{Cursor}
 use Rattle.image.specs.declared.record.Field.{Field}
 use Rattle.image.specs.declared.record.Record.{Record}
 use Rattle.image.specs.declared.record.Record.the-variants.{Number, Boolean, Text, Object, Null, Undefined, Reference, EcmaArray, ObjectEnd, StrictArray, Date, Unsupported, Xml, TypedObject, Key, Packet, Header, Message, Lso}
-use Rattle.image.specs.declared.reading.Step.{Step}
-use Rattle.image.specs.declared.reading.Step.the-variants.{Next}
 use Rattle.image.specs.declared.taking.Taken.{Taken}
 use Rattle.image.specs.declared.taking.Taken.the-variants.{Found, Bad}
 use Rattle.image.specs.declared.writing.Row.{Row}

@@ -1,15 +1,15 @@
 -- What is a file is read as that file, up to where no further element can be read.
-use Prim.Native.Nat.{ℕ, zero, suc, _+_, _^_, _≤_, _<_}
+use Prim.Native.Nat.{ℕ, zero, suc, _+_, _≤_, _<_}
 use mathlib.Core.Path.{_≡_, refl, sym, ap, ap₂, _∙_}
 use mathlib.Core.List.{List, [], _∷_, _++_, map, append-assoc, append-nil}
 use native.Mathlib.Omega.{arith}
 use lib.ListN.{length, length-append}
 use lib.Dec.{lit<}
 use Rattle.wire.specs.Number.{digits}
-use Rattle.wire.specs.Field.{to, tagAt, textAt, bytesAt, pastTag}
+use Rattle.wire.specs.Field.{to}
 use Rattle.wire.specs.Limit as limit
 use Rattle.wire.specs.declared.cursor.Tag.the-variants as Tag
-use Rattle.wire.proofs.Stands.{Here, cut, skip, behind, inside, there, u32-at, text-at, tag-at}
+use Rattle.wire.proofs.Stands.{Here, cut, skip, inside, there, u32-at, text-at, tag-at}
 use Rattle.image.specs.declared.record.Record.{Record}
 use Rattle.image.specs.declared.record.Record.the-variants as Record
 use Rattle.image.specs.Record.{bytesOf}
@@ -20,7 +20,7 @@ use Rattle.amf0.specs.Standard.{Sort, Tree, depth, UTF-8, Encodes}
 use Rattle.amf0.specs.Standard.UTF-8.{short}
 use Rattle.amf0.specs.Standard.Tree.{node, none, property, nil, cons}
 use Rattle.amf0.specs.Shown.{Word, told, words, laid}
-use Rattle.amf0.specs.Shown.Word.{item, name, close}
+use Rattle.amf0.specs.Shown.Word.{item, name}
 use Rattle.amf0_theorems.proofs.Complete.{past}
 use Rattle.amf0.specs.Written.{unplaced}
 use Rattle.amf0_theorems.proofs.Telling.{recordsOf, bytes-laid, reads}

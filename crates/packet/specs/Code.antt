@@ -9,7 +9,7 @@ use lib.Dec.{leb, ltb, eqb}
 use Rattle.wire.specs.Choice.{pick}
 use Rattle.wire.specs.Limit as limit
 use Rattle.wire.specs.Number.{digits}
-use Rattle.wire.specs.Field.{to, u16At, got16}
+use Rattle.wire.specs.Field.{u16At, got16}
 use Rattle.wire.specs.declared.cursor.Cursor.{Cursor}
 use Rattle.image.specs.declared.reading.Step.{Step}
 use Rattle.image.specs.declared.reading.Step.the-variants.{Next, Stop}

@@ -30,7 +30,7 @@ use Rattle.packet.specs.Reading.{recordOf, entriesAt, countAfter, packetAt, who
 use Rattle.packet.specs.Entry.{found, entryAt, walk, cutOf, noEntry, spanOf, valueOf, readEntry}
 use Rattle.packet.specs.Change.{imagesFrom, Agrees}
 use Rattle.packet_theorems.proofs.Same.{Headed, head-read}
-use Rattle.packet_theorems.proofs.EntryOutcome.{whole-taken}
+use Rattle.packet_theorems.proofs.Taken.{whole-taken}
 use Rattle.packet_theorems.proofs.Judge.{length-based, settled-based}
 
 -- ---- readings that end
@@ -51,7 +51,7 @@ bind-ends (end m) k n h go = go m refl h
 bind-ends (stop a p) k n h go = absurd h
 bind-ends (due r p d) k n h go = bind-ends d k n h go
 
-based-ends : (a : ℕ) (d : Due) (n : ℕ) → Ends (based a d) n → Ends d n
+pub based-ends : (a : ℕ) (d : Due) (n : ℕ) → Ends (based a d) n → Ends d n
 based-ends a (end m) n e = e
 based-ends a (stop w p) n e = absurd e
 based-ends a (due r p d) n e = based-ends a d n e

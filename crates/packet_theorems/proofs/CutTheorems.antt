@@ -14,7 +14,7 @@ use Rattle.packet.specs.declared.head.Entry.{Entry}
 use Rattle.packet.specs.declared.entry.Cutting.{Cutting}
 use Rattle.packet.specs.declared.entry.Found.{Found}
 use Rattle.packet.specs.declared.entry.Found.the-variants as Found
-use Rattle.packet.specs.Entry.{Cut, found, stops, cutOf, noEntry, Listed, uncut, listed, listOf, filled}
+use Rattle.packet.specs.Entry.{Cut, found, stops, cutOf, noEntry, Listed, listed, listOf, filled}
 use Rattle.packet.specs.Code.{foundIn}
 use Rattle.packet.specs.Change.{Changed}
 use Rattle.packet.specs.Why.{ComesList}

@@ -19,7 +19,7 @@ use Rattle.packet.specs.Change.{Changed, Judged, Keeps, Exact, Agrees}
 use Rattle.packet_theorems.proofs.Same.{Same, same-bytes}
 use Rattle.packet_theorems.proofs.Frame.{cut-read, lies-told, lies-apart, beside-at}
 use Rattle.packet_theorems.proofs.Judge.{judged}
-use Rattle.packet_theorems.proofs.EntryOutcome.{whole-taken}
+use Rattle.packet_theorems.proofs.Taken.{whole-taken}
 use Rattle.packet_theorems.proofs.Whole.{packet-told, packet-shallow}
 use Rattle.packet_theorems.proofs.Agree.{agree}
 

@@ -4,13 +4,13 @@ pub mod Demand3
 pub mod Same
 pub mod Frame
 pub mod Judge
-pub mod EntryOutcome
 pub mod Heads
 pub mod Agree
 pub mod Examples
 pub mod Theorems
 pub mod CutTheorems
 pub mod Outcome
+pub mod Taken
 pub mod PacketTheorems
 pub mod Items
 pub mod Whole

@@ -36,7 +36,7 @@ use Rattle.packet_theorems.proofs.Heads.{Kinded, headers, messages}
 use Rattle.packet_theorems.proofs.Agree.{bytes-bind, count-after}
 use Rattle.packet_theorems.proofs.Items.{First, first, Told, items-told}
 use Rattle.packet_theorems.proofs.Whole.{Framed, framed}
-use Rattle.packet_theorems.proofs.EntryOutcome.{thrice, Taken, taken, whole-taken}
+use Rattle.packet_theorems.proofs.Taken.{thrice, Taken, taken, whole-taken}
 use Rattle.packet_theorems.proofs.PacketTheorems.{Means, sound-incomplete, sound}
 
 -- ---- records, but for places

@@ -31,7 +31,7 @@ use Rattle.packet_theorems.proofs.WriteBytes.{write-bytes}
 use Rattle.packet_theorems.proofs.WriteOutcome.{ReadImage, taken-image, WasRead, read-incomplete, read-whole, images-alike}
 use Rattle.packet_theorems.proofs.WriteReasons.{answered, outcome}
 use Rattle.packet_theorems.proofs.Cutting.{packet-cut, each-count, each-at, shallow-append, shallow-at}
-use Rattle.packet_theorems.proofs.EntryOutcome.{whole-taken}
+use Rattle.packet_theorems.proofs.Taken.{whole-taken}
 use Rattle.packet_theorems.proofs.PacketTheorems.{complete, Gives, entry-complete}
 use Rattle.packet_theorems.proofs.Demand3.{agreement}
 

@@ -1,22 +1,19 @@
 -- The readers of a value, of pairs and of values in a row, which call each other: each carries out what its part of the reading says.
 use Prim.Native.Nat.{ℕ, _+_, _-_, _*_, _≤_, _<_}
-use mathlib.Core.Path.{_≡_, refl, sym, ap, _∙_}
+use mathlib.Core.Path.{_≡_, refl, sym, _∙_}
 use native.Mathlib.Nat.{le-refl}
 use native.Mathlib.Omega.{arith}
 use lib.ListN.{length}
 use denote.Ref.{now}
 use borrow.Author.Needs.{needs}
-use Rattle.wire.specs.declared.cursor.Cursor.{Cursor}
 use Rattle.wire.specs.declared.cursor.U8.the-variants as U8
 use Rattle.wire.specs.declared.cursor.Text.the-variants as Text
-use Rattle.wire.specs.Field.{u8At, textAt, to}
+use Rattle.wire.specs.Field.{u8At, to}
 use Rattle.wire.proofs.Laws.{u8-next, u8-stop, text-next, text-stop}
-use Rattle.image.specs.declared.record.Record.the-variants.{ObjectEnd, Key}
-use Rattle.image.specs.declared.reading.Step.the-variants.{Next, Stop}
-use Rattle.image.specs.Due.{Due, run, ran, due, end, stop, _>>=_, based, Within}
+use Rattle.image.specs.declared.record.Record.the-variants.{Key}
+use Rattle.image.specs.Due.{Due, run, due, end, _>>=_, based}
 use Rattle.image.proofs.Laws.{run-then, run-halt, run-then-based, run-halt-based, run-stop, run-end, within, within-stop, within-next}
-use Rattle.amf0.specs.Marker.{markerOf}
-use Rattle.amf0.specs.Fields.{fieldsAt, shut}
+use Rattle.amf0.specs.Fields.{shut}
 use Rattle.amf0.specs.Reading.{value as valueOf, pairs as pairsOf, items as itemsOf, pair as pairOf, follow}
 use Rattle.amf0.proofs.Laws.{value-cut, value-shut, value-fields, fields-refused, fields-due, pairs-cut, pairs-pair, pair-cut, pair-end, pair-key, items-done, items-item, u8-whole}
 use borrow.Fn.Kinds.{In}
