@@ -1,0 +1,3 @@
+pub mod Calendar
+pub mod Halving
+pub mod Escapes

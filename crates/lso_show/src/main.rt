@@ -1,0 +1,203 @@
+// Shows an LSO file as lines that people can read: `lso_show FILE`. A first word `packet` says that the file is an AMF packet, `entries` that it is one and
+// is to be read by entry, and `value` that it is one AMF0 value.
+mod big;
+mod date;
+mod double;
+mod entries;
+mod page;
+mod refusal;
+mod tree;
+
+use image::reading::Reading;
+use libc::STDOUT_FILENO;
+use page::Page;
+use page::decimal;
+use page::end;
+use page::word;
+use refusal::refusal;
+use wire::answer::ACCEPTED;
+use wire::text::part;
+
+// What a file is to be read as.
+enum Form {
+    File,
+    Packet,
+    // A packet by its entries.
+    Entries,
+    Value,
+}
+
+// How many bytes of a file were read, or that it can't be.
+enum Input {
+    Read(usize),
+    Unread,
+}
+
+fn usage() {
+    io::write_all(
+        STDOUT_FILENO,
+        b"usage: lso_show [packet | entries | value] FILE\n",
+    );
+}
+
+// A file is read as far as it can be: what can't be read stands behind the bytes used.
+fn parse(form: Form, input: &[u8], image: &mut [u8]) -> Reading {
+    match form {
+        Form::File => lso::read::parse_incomplete(input, image),
+        Form::Value => amf0::read::parse_single_element(input, image),
+        _ => packet::read::parse_incomplete(input, image),
+    }
+}
+
+// How deep the values begin: an LSO's below its line, a packet's below those of the packet and the message, a value by itself.
+fn first_depth(form: Form) -> usize {
+    match form {
+        Form::File => 1,
+        Form::Value => 0,
+        _ => 2,
+    }
+}
+
+// Bytes behind what was read: a whole reading of a file or a packet refuses them.
+fn left_over(page: &mut Page, used: &mut usize, form: Form, place: usize, length: usize) {
+    match form {
+        Form::Value => word(page, used, b"bytes left over from @"),
+        _ => word(page, used, b"refused, answer 3: bytes left over from @"),
+    }
+    decimal(page, used, place as u64);
+    word(page, used, b" on: ");
+    decimal(page, used, length as u64);
+    word(page, used, b"\n");
+}
+
+fn show_whole(page: &mut Page, used: &mut usize, form: Form, input: &[u8], image: &mut [u8]) {
+    let r = parse(form, input, image);
+    if r.answer != ACCEPTED {
+        refusal(page, used, r.answer);
+        return;
+    }
+    tree::tree(page, used, input, part(image, 0, r.made), first_depth(form));
+    if r.used < input.len() {
+        left_over(page, used, form, r.used, input.len() - r.used);
+    }
+}
+
+fn show(page: &mut Page, used: &mut usize, form: Form, input: &[u8], image: &mut [u8]) {
+    match form {
+        Form::Entries => entries::entries(page, used, input, image),
+        _ => show_whole(page, used, form, input, image),
+    }
+}
+
+// A page that is written out at the end.
+fn show_page(page: &mut Page, form: Form, input: &[u8], image: &mut [u8]) {
+    let mut used: usize = 0;
+    show(page, &mut used, form, input, image);
+    end(page, used);
+}
+
+fn show_input(form: Form, input: &[u8], image: &mut [u8]) {
+    let mut page = [0u8; 4096];
+    show_page(&mut page, form, input, image);
+}
+
+fn read_some(fd: i32, buffer: &mut [u8]) -> Input {
+    let got = libc::read(fd, buffer);
+    if got < 0 {
+        Input::Unread
+    } else {
+        Input::Read(io::count(got, buffer))
+    }
+}
+
+// Reads until the buffer is full or the file ends.
+fn read_all(fd: i32, buffer: &mut [u8]) -> Input {
+    let mut done: usize = 0;
+    while done < buffer.len() {
+        match read_some(fd, &mut buffer[done..]) {
+            Input::Unread => {
+                return Input::Unread;
+            }
+            Input::Read(n) => {
+                if n == 0 {
+                    return Input::Read(done);
+                }
+                if buffer.len() - done < n {
+                    return Input::Unread;
+                }
+                done += n;
+            }
+        }
+    }
+    Input::Read(done)
+}
+
+// The input buffer has one byte more than a reader takes, which then says that there are too many.
+fn show_open(form: Form, fd: i32, path: &[u8], buffer: &mut [u8], image: &mut [u8]) {
+    match read_all(fd, buffer) {
+        Input::Read(n) => show_input(form, part(buffer, 0, n), image),
+        Input::Unread => os::fail(path),
+    }
+}
+
+// Shows the file that an argument names, or says why it can't be read.
+fn show_argument(form: Form, i: usize, buffer: &mut [u8], image: &mut [u8]) {
+    let mut path = io::buffer();
+    let n = os::arg(i, &mut path);
+    if os::errno() != 0 {
+        os::fail(b"FILE");
+        return;
+    }
+    let fd = os::open_read(&path[..n]);
+    if fd < 0 {
+        os::fail(&path[..n]);
+        return;
+    }
+    show_open(form, fd, &path[..n], buffer, image);
+    libc::close(fd);
+}
+
+fn is_word(a: &[u8], b: &[u8]) -> bool {
+    if a.len() != b.len() {
+        return false;
+    }
+    let mut i: usize = 0;
+    while i < a.len() {
+        if a[i] != b[i] {
+            return false;
+        }
+        i += 1;
+    }
+    true
+}
+
+// The file behind a first word.
+fn show_as(word: &[u8], buffer: &mut [u8], image: &mut [u8]) {
+    if is_word(word, b"packet") {
+        show_argument(Form::Packet, 2, buffer, image);
+    } else if is_word(word, b"entries") {
+        show_argument(Form::Entries, 2, buffer, image);
+    } else if is_word(word, b"value") {
+        show_argument(Form::Value, 2, buffer, image);
+    } else {
+        usage();
+    }
+}
+
+fn show_asked(buffer: &mut [u8], image: &mut [u8]) {
+    let mut first = io::buffer();
+    match os::arg_count() {
+        2 => show_argument(Form::File, 1, buffer, image),
+        3 => {
+            let n = os::arg(1, &mut first);
+            show_as(&first[..n], buffer, image);
+        }
+        _ => usage(),
+    }
+}
+
+fn main() {
+    let mut buffer = [0u8; 1_048_577];
+    let mut image = [0u8; 3_145_728];
+    show_asked(&mut buffer, &mut image);
+}
