@@ -2,9 +2,9 @@
    `rt staticlib riddoskam`, for x86-64 Linux; of the C library it uses memset alone. It has no state, takes no memory and keeps no pointer, so calls may run
    beside each other.
 
-   A row of bytes is a pointer and a length. What a C caller owes is what C itself can't check:
-   - a pointer to a row is not NULL, even where the length is 0, and as many bytes stand behind it as the length says;
-   - what a call writes (image, out, entry, fields, counts) overlaps no other argument, and nobody else touches it during the call;
+   A row of bytes, or of numbers, is a pointer and a length. What a C caller owes is what C itself can't check:
+   - a pointer to a row is not NULL, even where the length is 0, and as many bytes or numbers stand behind it as the length says;
+   - what a call writes (image, out, entry, numbers, fields, counts) overlaps no other argument, and nobody else touches it during the call;
    - what it reads (input, image, text, packet) isn't written by anybody during the call.
    Nothing else is owed: whatever the bytes and the numbers are, each call ends, and its answer, its counts and every byte that it leaves are proved to be what
    is said here (crates/riddoskam/src/lib.rt). */
@@ -25,11 +25,11 @@ enum {
     RIDDOSKAM_OVER_LIMIT = 1,    /* input, text, image or output over its limit */
     RIDDOSKAM_NOT_WHOLE = 2,     /* a field isn't whole, or a count or a declared length exceeds the bytes left */
     RIDDOSKAM_NOT_RIGHT = 3,     /* a fixed byte is wrong, text isn't UTF-8, no value has this marker, or bytes are left over */
-    RIDDOSKAM_NO_ROOM = 4,       /* the image or the output doesn't fit */
+    RIDDOSKAM_NO_ROOM = 4,       /* the image, the output or the row of entries doesn't fit */
     RIDDOSKAM_TOO_DEEP = 5,      /* a value at depth 33 */
     RIDDOSKAM_NO_TREE = 6,       /* the image isn't a tree of the asked kind, or names bad text */
     RIDDOSKAM_OTHER_VERSION = 7, /* packet version byte 3 */
-    RIDDOSKAM_NO_ENTRY = 8,      /* no entry of that number */
+    RIDDOSKAM_NO_ENTRY = 8,      /* no entry of that number, or no such part of the packet */
     RIDDOSKAM_DAMAGED = 9        /* the entry's value is short, malformed or not used to the end */
 };
 
@@ -81,6 +81,12 @@ uint8_t riddoskam_packet_parse_incomplete(const uint8_t *input, size_t input_len
 uint8_t riddoskam_packet_parse_entry(const uint8_t *packet, size_t packet_length, size_t number, uint8_t *image, size_t image_length, size_t *used,
                                      size_t *made);
 
+/* The value that is the part of a packet at `place` with `length` bytes, read and answered for as the value of an entry whose place and length are these:
+   for an entry of a cut this is riddoskam_packet_parse_entry by its number, without cutting again. 8 where the part isn't inside the packet. The entries of
+   the packet have no say. Answers 0, 1, 4, 5, 8, 9. */
+uint8_t riddoskam_packet_parse_span(const uint8_t *packet, size_t packet_length, size_t place, size_t length, uint8_t *image, size_t image_length,
+                                    size_t *used, size_t *made);
+
 /* ---- Writings
 
    Each writes the tree of `image`, whose texts stand in `text` at the places that the image names, into `out`. Accepted: the first `*count` bytes of the
@@ -115,6 +121,11 @@ enum {
 
 /* Entry `number` of a packet that its declared lengths cut exactly; values are not looked into. Refused, all eight numbers are 0. Answers 0 to 3, 7, 8. */
 uint8_t riddoskam_packet_nth(const uint8_t *packet, size_t packet_length, size_t number, size_t entry[8]);
+
+/* All entries of a packet that its declared lengths cut exactly, in one walk: eight numbers each, in a row that has room for numbers_length / 8 of them.
+   Accepted: `*used` is the packet's length and `*count` the number of its entries, which stand at the front of the row; every number behind them is 0. 4 where
+   the packet is cut, but into more entries than there is room for. Refused: both counts and all numbers are 0. Answers 0 to 4 and 7. */
+uint8_t riddoskam_packet_cut(const uint8_t *packet, size_t packet_length, size_t *numbers, size_t numbers_length, size_t *used, size_t *count);
 
 /* The record at a place of an image: fields[0] is its kind, the others are its body, field by field, and 0 where it has none. `*next` is the place behind it.
    Where no whole and right record stands there, the answer is 6 and all are 0. */

@@ -8,8 +8,10 @@
      records from its first byte to its last;
    - a writing that is refused leaves the output as it was; an accepted one changes no byte past its count, and what it wrote reads back as an image of the
      same length, in no more bytes than were read where the image was read;
-   - an entry's places lie inside the packet, and its value, read alone, gives what reading the entry gives.
-   A call that doesn't end is ended by the clock after a minute. The same SEED gives the same cases. SHAM, a number from 1 to 7, plants a fault between the
+   - an entry's places lie inside the packet, and its value, read alone, gives what reading the entry gives;
+   - a cut that is refused leaves zeros; an accepted one has the entries that they are by number, and zeros behind them, and the span of each reads as the
+     entry does by its number, to the last byte of the image; any other span reads as its bytes alone.
+   A call that doesn't end is ended by the clock after a minute. The same SEED gives the same cases. SHAM, a number from 1 to 10, plants a fault between the
    library and the checks, so that one sees them fail. */
 #include <signal.h>
 #include <stdio.h>
@@ -104,16 +106,24 @@ static int all(const uint8_t *p, size_t n, uint8_t b) {
 
 /* ---- calls */
 
-enum { VALUE, FILE_WHOLE, FILE_START, PACKET_WHOLE, PACKET_FRONT, ENTRY, WRITE_VALUE, WRITE_FILE, WRITE_PACKET, WRITE_OPEN, NTH, RECORD, TEXTS };
+enum { VALUE, FILE_WHOLE, FILE_START, PACKET_WHOLE, PACKET_FRONT, ENTRY, SPAN, WRITE_VALUE, WRITE_FILE, WRITE_PACKET, WRITE_OPEN, NTH, CUT, RECORD, TEXTS };
 
-static uint8_t call_reading(int call, const uint8_t *s, size_t n, size_t number, uint8_t *image, size_t room, size_t *used, size_t *made) {
+/* What is asked of a packet: an entry by its number, or a span. */
+struct asked {
+    size_t number, place, length;
+};
+
+static const struct asked nothing;
+
+static uint8_t call_reading(int call, const uint8_t *s, size_t n, struct asked a, uint8_t *image, size_t room, size_t *used, size_t *made) {
     switch (call) {
     case VALUE: return riddoskam_parse_single_element(s, n, image, room, used, made);
     case FILE_WHOLE: return riddoskam_lso_parse(s, n, image, room, used, made);
     case FILE_START: return riddoskam_lso_parse_incomplete(s, n, image, room, used, made);
     case PACKET_WHOLE: return riddoskam_packet_parse(s, n, image, room, used, made);
     case PACKET_FRONT: return riddoskam_packet_parse_incomplete(s, n, image, room, used, made);
-    default: return riddoskam_packet_parse_entry(s, n, number, image, room, used, made);
+    case SPAN: return riddoskam_packet_parse_span(s, n, a.place, a.length, image, room, used, made);
+    default: return riddoskam_packet_parse_entry(s, n, a.number, image, room, used, made);
     }
 }
 
@@ -149,8 +159,8 @@ struct result {
 };
 
 /* A reading of the bytes s, in both places. The image is left in `image` where it is accepted. */
-static struct result reading(int call, const uint8_t *s, size_t n, size_t number, size_t room, uint8_t *image) {
-    static const char *const right[] = {"012345", "012345", "012345", "0123457", "0123457", "012345789"};
+static struct result reading(int call, const uint8_t *s, size_t n, struct asked a, size_t room, uint8_t *image) {
+    static const char *const right[] = {"012345", "012345", "012345", "0123457", "0123457", "012345789", "014589"};
     struct result first = {0, 0, 0};
     now_call = names[call];
     for (int side = 0; side < 2; side++) {
@@ -158,7 +168,7 @@ static struct result reading(int call, const uint8_t *s, size_t n, size_t number
         uint8_t *in = lend(0, side, n), *im = lend(2, side, room);
         memcpy(in, s, n);
         memset(im, 0xA5, room);
-        r.answer = call_reading(call, in, n, number, im, room, &r.used, &r.made);
+        r.answer = call_reading(call, in, n, a, im, room, &r.used, &r.made);
         if (sham == 1) im[room] = 0;
         if (sham == 2) im[-1] = 0;
         if (sham == 3 && r.answer != 0 && room > 0) im[room - 1] = 1;
@@ -166,6 +176,7 @@ static struct result reading(int call, const uint8_t *s, size_t n, size_t number
         if (sham == 5 && now_case == 100)
             for (;;) pause();
         if (sham == 6 && n > 0) in[n - 1] ^= 1;
+        if (sham == 10 && call == SPAN && r.answer == 9) r.answer = 8;
         left_alone(0, side, n);
         left_alone(2, side, room);
         MUST(memcmp(in, s, n) == 0, "the input changed");
@@ -414,7 +425,7 @@ static void round_trip(int read, int write, struct result r, size_t n) {
     struct result w = writing(write, tree, r.made, input, n, n + 40, written);
     MUST(w.answer == 0, "what was read can't be written");
     MUST(w.made <= r.used, "more bytes than were read");
-    struct result b = reading(read, written, w.made, 0, 3 * w.made, again);
+    struct result b = reading(read, written, w.made, nothing, 3 * w.made, again);
     MUST(b.answer == 0 && b.used == w.made && b.made == r.made, "what was written doesn't read back");
     /* exactly enough room, and one byte less */
     if (w.made > 0) {
@@ -422,11 +433,11 @@ static void round_trip(int read, int write, struct result r, size_t n) {
         MUST(writing(write, tree, r.made, input, n, w.made - 1, written).answer == 4, "a byte too little is room enough");
     }
     /* the last element of a file that is read so far needs room too, and is dropped */
-    if (read != FILE_START) MUST(reading(read, input, n, 0, r.made, again).answer == 0, "its own image is too little room");
+    if (read != FILE_START) MUST(reading(read, input, n, nothing, r.made, again).answer == 0, "its own image is too little room");
 }
 
 static void read_and_write(int read, int write) {
-    struct result r = reading(read, input, length, 0, some_room(length), tree);
+    struct result r = reading(read, input, length, nothing, some_room(length), tree);
     if (r.answer == 0 && length < 5000) {
         round_trip(read, write, r, length);
         /* the image bent: whatever it is, the writer answers */
@@ -436,6 +447,15 @@ static void read_and_write(int read, int write) {
         writing(write, bent, n, input, length, below(3) ? 2 * length + 40 : below(length + 1), written);
     }
 }
+
+/* What the bytes of a value answer by themselves, with room for all: 2, 3 and unused bytes are damage. The image is left in `again`. */
+static struct result alone(size_t place, size_t n) {
+    struct result v = reading(VALUE, input + place, n, nothing, 3 * length, again);
+    if (v.answer == 2 || v.answer == 3 || (v.answer == 0 && v.used < n)) return (struct result){9, 0, 0};
+    return v;
+}
+
+static int same(struct result a, struct result b) { return a.answer == b.answer && a.used == b.used && a.made == b.made; }
 
 static void entries(void) {
     size_t e[8];
@@ -451,7 +471,8 @@ static void entries(void) {
         }
         MUST(strchr("012378", '0' + answer), "it has no such answer");
         told(NTH, answer);
-        struct result r = reading(ENTRY, input, length, k, some_room(length), tree);
+        struct asked entry = {.number = k};
+        struct result r = reading(ENTRY, input, length, entry, some_room(length), tree);
         if (answer != 0) {
             MUST(r.answer == answer, "an entry that is not there is read");
             for (int i = 0; i < 8; i++) MUST(e[i] == 0, "a refused entry left something");
@@ -461,13 +482,70 @@ static void entries(void) {
         MUST(e[1] <= 1 && (e[0] == RIDDOSKAM_HEADER || e[1] == 0), "an entry's flag");
         for (int i = 2; i < 8; i += 2) MUST(riddoskam_inside(input, length, e[i], e[i + 1]), "an entry leads out of the packet");
         if (r.answer == 0) MUST(r.used == e[7], "an entry that is not used to its end");
-        /* the value's bytes alone, with room for all */
-        r = reading(ENTRY, input, length, k, 3 * length, tree);
-        struct result v = reading(VALUE, input + e[6], e[7], 0, 3 * length, again);
-        uint8_t want = v.answer == 2 || v.answer == 3 || (v.answer == 0 && v.used < e[7]) ? 9 : v.answer;
-        MUST(r.answer == want, "an entry answers otherwise than its value alone");
-        MUST(want != 0 || r.made == v.made, "an entry has another image than its value alone");
+        r = reading(ENTRY, input, length, entry, 3 * length, tree);
+        MUST(same(r, alone(e[6], e[7])), "an entry answers otherwise than its value alone");
     }
+}
+
+/* The cut, in both places; then each of its entries by number and by its span. */
+static void cut(void) {
+    static size_t row[96];
+    size_t room = below(4) ? 80 + below(16) : below(40), count = 0;
+    uint8_t answer = 0;
+    now_call = names[CUT];
+    for (int side = 0; side < 2; side++) {
+        size_t used = 77, n = 77;
+        uint8_t *p = lend(0, side, length);
+        size_t *numbers = (size_t *)lend(2, side, room * sizeof *row);
+        memcpy(p, input, length);
+        memset(numbers, 0xEE, room * sizeof *row);
+        uint8_t a = riddoskam_packet_cut(p, length, numbers, room, &used, &n);
+        if (sham == 8 && a == 0 && n > 0) numbers[8 * n - 1] ^= 1;
+        if (sham == 9) numbers[room] = 0;
+        left_alone(0, side, length);
+        left_alone(2, side, room * sizeof *row);
+        MUST(memcmp(p, input, length) == 0, "the packet changed");
+        MUST(a <= 9 && strchr("012347", '0' + a), "it has no such answer");
+        MUST((length > RIDDOSKAM_BYTES) == (a == 1), "1 is for inputs over the limit");
+        if (a == 0)
+            MUST(used == length && n <= room / 8, "counts lead out of the buffers");
+        else
+            MUST(used == 0 && n == 0, "counts on a refusal");
+        MUST(all((uint8_t *)(numbers + 8 * n), (room - 8 * n) * sizeof *row, 0), "the row isn't zero behind the entries");
+        if (side == 0) {
+            answer = a;
+            count = n;
+            memcpy(row, numbers, room * sizeof *row);
+        } else {
+            MUST(a == answer && n == count, "another result in another place");
+            MUST(memcmp(numbers, row, room * sizeof *row) == 0, "another row in another place");
+        }
+    }
+    told(CUT, answer);
+    /* behind the last entry there is none; where the row is too short there is one more; else the refusal is the same */
+    size_t e[8];
+    uint8_t behind = riddoskam_packet_nth(input, length, answer == 4 ? room / 8 : count, e);
+    MUST(behind == (answer == 0 ? 8 : answer == 4 ? 0 : answer), "the cut ends elsewhere than the numbers");
+    for (size_t k = 0; k < count; k++) {
+        now_call = names[CUT];
+        MUST(riddoskam_packet_nth(input, length, k, e) == 0 && memcmp(e, row + 8 * k, sizeof e) == 0, "an entry is another by its number");
+        size_t image = some_room(length);
+        struct result r = reading(SPAN, input, length, (struct asked){.place = e[6], .length = e[7]}, image, tree);
+        struct result q = reading(ENTRY, input, length, (struct asked){.number = k}, image, again);
+        MUST(same(r, q), "a span answers otherwise than its entry");
+        MUST(memcmp(tree, again, image) == 0, "a span has another image than its entry");
+    }
+}
+
+static void span(void) {
+    struct asked a = {.place = below(8) ? below(length + 1) : any()};
+    a.length = below(8) ? below(below(2) ? length + 3 : 40) : any();
+    struct result r = reading(SPAN, input, length, a, 3 * length, tree);
+    if (length > RIDDOSKAM_BYTES) return;
+    if (a.place > length || a.length > length - a.place)
+        MUST(r.answer == 8, "a span that is not inside is read");
+    else
+        MUST(same(r, alone(a.place, a.length)), "a span answers otherwise than its bytes alone");
 }
 
 static void random_image(void) {
@@ -512,9 +590,9 @@ static void texts(void) {
 int main(int count, char **words) {
     static const char *const all_names[] = {
         "value read", "file read whole", "file read so far", "packet read whole",
-        "packet read at the front", "entry read", "value written", "file written",
-        "packet written, exact lengths", "packet written, FFFFFFFF", "entry by number", "record",
-        "inside and part",
+        "packet read at the front", "entry read", "span read", "value written",
+        "file written", "packet written, exact lengths", "packet written, FFFFFFFF", "entry by number",
+        "packet cut", "record", "inside and part",
     };
     if (count < 3) return 2;
     memcpy(names, all_names, sizeof all_names);
@@ -547,6 +625,8 @@ int main(int count, char **words) {
         read_and_write(below(2) ? FILE_WHOLE : FILE_START, WRITE_FILE);
         read_and_write(below(2) ? PACKET_WHOLE : PACKET_FRONT, below(2) ? WRITE_PACKET : WRITE_OPEN);
         entries();
+        cut();
+        span();
         texts();
         if (below(4) == 0) random_image();
     }

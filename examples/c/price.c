@@ -6,7 +6,7 @@
 
 #include "riddoskam.h"
 
-enum { INPUT = 8192 };
+enum { INPUT = 8192, ENTRIES = 64 };
 
 static uint8_t input[INPUT];
 static uint8_t image[3 * INPUT];
@@ -86,18 +86,17 @@ static void from_file(size_t length, const char *shelf) {
         printf("file: no price for shelf %s\n", shelf);
 }
 
-/* Each entry is read by itself: a damaged one costs its own shelf the new price and no other. */
+/* One cut finds all entries, and then each is read by itself: a damaged one costs its own shelf the new price and no other. */
 static void from_packet(const uint8_t *packet, size_t length) {
-    size_t e[RIDDOSKAM_ENTRY_NUMBERS], used, made, from;
-    for (size_t k = 0;; k++) {
-        uint8_t answer = riddoskam_packet_nth(packet, length, k, e);
-        if (answer != RIDDOSKAM_ACCEPTED) {
-            if (answer != RIDDOSKAM_NO_ENTRY) printf("packet: answer %u\n", answer);
-            return;
-        }
+    static size_t numbers[ENTRIES * RIDDOSKAM_ENTRY_NUMBERS];
+    size_t used, made, count, from;
+    uint8_t answer = riddoskam_packet_cut(packet, length, numbers, sizeof numbers / sizeof *numbers, &used, &count);
+    if (answer != RIDDOSKAM_ACCEPTED) printf("packet: answer %u\n", answer);
+    for (size_t k = 0; k < count; k++) {
+        const size_t *e = numbers + k * RIDDOSKAM_ENTRY_NUMBERS;
         size_t n = riddoskam_part(packet, length, e[RIDDOSKAM_ENTRY_PLACE1], e[RIDDOSKAM_ENTRY_LENGTH1], &from);
         double price;
-        answer = riddoskam_packet_parse_entry(packet, length, k, image, sizeof image, &used, &made);
+        answer = riddoskam_packet_parse_span(packet, length, e[RIDDOSKAM_ENTRY_PLACE], e[RIDDOSKAM_ENTRY_LENGTH], image, sizeof image, &used, &made);
         struct tree t = {image, made, packet, length};
         if (answer != RIDDOSKAM_ACCEPTED)
             printf("packet: shelf %.*s: answer %u\n", (int)n, packet + from, answer);

@@ -1,6 +1,7 @@
 //! driver SIDE CALL TIMES FILE: makes a call TIMES times on a file's bytes. SIDE is `riddoskam` or `rust`. Prints the nanoseconds of one call, by the clock.
 //!
-//! CALL: lso (a whole file), value, packet (a whole packet), write (the file, its tree made before), entry (the middle entry of a packet), entries (all).
+//! CALL: lso (a whole file), value, packet (a whole packet), write (the file, its tree made before), entry (the middle entry of a packet), entries (all of them,
+//! each by its number), spans (all of them, by one cut and each one's span).
 //! The image has three times the input's length and the output room for the file; both are lent anew to each call and never made anew. The Rust's tree is
 //! dropped inside the measured loop.
 use flash_lso::{amf0::read::AMF0Decoder, packet, read::Reader, write::write_to_bytes};
@@ -49,8 +50,18 @@ fn main() {
                 }
             })
         }
+        ("riddoskam", "spans") => {
+            let entries = (0..).take_while(|&k| riddoskam::packet_nth(input, k).is_ok()).count();
+            let mut list = vec![[0; 8]; entries];
+            run(times, || {
+                riddoskam::packet_cut(black_box(input), &mut list).unwrap();
+                for &e in &list {
+                    black_box(riddoskam::packet_parse_span(input, riddoskam::Entry::from(e).value, &mut image[..512]).unwrap());
+                }
+            })
+        }
         // The Rust reads no single entry: what it takes to get at one is the whole packet.
-        ("rust", "entry" | "entries") => run(times, || { black_box(packet::read::parse(black_box(input)).unwrap()); }),
+        ("rust", "entry" | "entries" | "spans") => run(times, || { black_box(packet::read::parse(black_box(input)).unwrap()); }),
         _ => panic!("driver SIDE CALL TIMES FILE"),
     }
 }

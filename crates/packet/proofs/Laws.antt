@@ -17,6 +17,7 @@ use Rattle.wire.specs.declared.cursor.U16.the-variants as U16
 use Rattle.wire.specs.declared.cursor.Tag.{Tag}
 use Rattle.wire.specs.declared.cursor.Tag.the-variants as Tag
 use Rattle.wire.specs.Limit as limit
+use Rattle.wire.specs.Text.{insideOf}
 use Rattle.wire.specs.Number.{number}
 use Rattle.wire.specs.Field.{to, bytesAt, u8At, u16At, tagAt, got8, got16, pastTag}
 use Rattle.wire.proofs.Laws.{picked, tag-next, tag-stop}
@@ -41,7 +42,7 @@ use Rattle.packet.specs.declared.entry.Found.the-variants as Found
 use Rattle.packet.specs.declared.walk.Walk.{Walk}
 use Rattle.packet.specs.declared.walk.Walk.the-variants as W
 use Rattle.packet.specs.Head.{versionAt, headerAt, messageAt, headAt, gotHead}
-use Rattle.packet.specs.Entry.{Cut, found, stops, gotCut, entryAt, walk, cutOf, noEntry, listed, filled, spanOf, judge, valueOf, entryIn}
+use Rattle.packet.specs.Entry.{Cut, found, stops, gotCut, entryAt, walk, cutOf, noEntry, listed, filled, spanOf, judge, valueOf, readSpan, entryIn}
 use Rattle.packet.specs.Code.{ended, behind, restOf, goesOn, goesBelow, ahead, aheads, without, endOf, firstIn, foundIn, refusedCut, countedIn, judgedOf}
 
 -- ---- heads
@@ -519,3 +520,17 @@ entry-read s image i e x l h r =
     let w = reasoned-answers (e .place) (spanOf s e) v (because (spanOf s e) (3 * 0) v (kept limit.levels (spanOf s e) 0 (omega arith))) in
     let a : Halts x = rw (ap (λ (y : Ran). y .step) q) (run-halts d 0 image w) in
     rw (n, judge-finished (e .place) (e .length) i x a, finished-ran d image q)
+
+-- the part of a packet that is an entry's value
+pub span-read : (s : List ℕ) (e : Entry) (room : ℕ) → length s ≤ limit.bytes → e .place + e .length ≤ length s
+    → readSpan s (e .place) (e .length) room ≡ valueOf s e room
+unfolding readSpan
+span-read s e room l h = rw (le-leb _ _ l, le-leb _ _ h)
+
+pub span-over : (s : List ℕ) (place n room : ℕ) → limit.bytes < length s → readSpan s place n room ≡ refused 1
+unfolding readSpan
+span-over s place n room l = rw (lt-leb _ _ l)
+
+pub span-out : (s : List ℕ) (place n room : ℕ) → length s ≤ limit.bytes → insideOf s place n ≡ false → readSpan s place n room ≡ refused 8
+unfolding readSpan
+span-out s place n room l h = rw (le-leb _ _ l, h)

@@ -5,6 +5,7 @@ use lib.ListN.{length, getD, replicate}
 use lib.Dec.{leb, ltb, eqb}
 use Rattle.wire.specs.Choice.{pick}
 use Rattle.wire.specs.Limit as limit
+use Rattle.wire.specs.Text.{insideOf}
 use Rattle.wire.specs.Field.{to, bytesAt, u16At, got16, pastTag}
 use Rattle.image.specs.Due.{based}
 use Rattle.image.specs.Whole.{Whole, settled, refused}
@@ -91,6 +92,11 @@ judge n w =
 -- the value reader on an entry's bytes alone, its places counted from the packet's start
 abbrev pub valueOf : List ℕ → Entry → ℕ → Whole
 valueOf s e room = judge (e .length) (settled (based (e .place) (value limit.levels (spanOf s e) 0)) room)
+
+-- the value in a part of a packet: 1 where the packet is over the limit, and 8 where the part is not inside it
+unfoldable pub readSpan : List ℕ → ℕ → ℕ → ℕ → Whole
+readSpan s place n room =
+    pick (leb (length s) limit.bytes) (pick (insideOf s place n) (valueOf s (entry 0 0 0 0 0 0 place n) room) (refused 8)) (refused 1)
 
 abbrev pub entryIn : List ℕ → Cut → ℕ → ℕ → Whole
 entryIn s (stops a p) number room = refused a

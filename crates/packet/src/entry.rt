@@ -20,14 +20,17 @@ use wire::answer::NO_ENTRY;
 use wire::answer::NO_ROOM;
 use wire::answer::NOT_RIGHT;
 use wire::answer::NOT_WHOLE;
+use wire::answer::OVER_LIMIT;
 use wire::cursor::Cursor;
+use wire::limit;
+use wire::text::inside;
 ghost use mathlib.Core.Path.{_≡_};
 ghost use mathlib.Core.List.{_++_};
 ghost use Prim.Native.Nat.{_+_, _-_, _≤_};
 ghost use lib.ListN.{length, take, replicate};
 ghost use Rattle.wire.specs.Limit.{bytes};
 ghost use Rattle.image.specs.Whole.{padded};
-ghost use Rattle.packet.specs.Entry.{cutOf, noEntry, listOf, filled, readEntry};
+ghost use Rattle.packet.specs.Entry.{cutOf, noEntry, listOf, filled, readSpan, readEntry};
 ghost use Rattle.packet.specs.Code.{restOf, firstIn, foundIn, refusedCut, countedIn, judgedOf};
 
 // What a cut returns: the bytes of the packet, and the number of its entries.
@@ -82,7 +85,7 @@ fn uncut(answer: u8) -> Cutting
 }
 
 // The end of a cut, of which n entries are in the list: if there are more, the list is too short, but the cut's own refusal comes first.
-fn counted(packet: &[u8], w: Walk, n: usize) -> Cutting
+pub fn counted(packet: &[u8], w: Walk, n: usize) -> Cutting
     ensures { λ r. ⌜ r ≡ countedIn (restOf (now (packet .entry)) w) n ⌝ }
 {
     match w {
@@ -163,19 +166,32 @@ fn judged(x: Step, base: usize, length: usize) -> Step
     }
 }
 
-// Reads the value of entry `number` of a packet, as that part of the packet alone; its places count from the packet's start.
+// Reads the value that stands in a part of a packet, as that part alone; its places count from the packet's start. Where the part is the value of an entry of
+// a cut, this reads that entry and does not cut again.
+pub fn parse_span(packet: &[u8], place: usize, size: usize, image: &mut [u8]) -> Reading
+    ensures { λ r. ⌜ r ≡ readSpan (now (packet .entry)) place size (length (now (image .entry))) .reading ⌝ }
+    ensures { λ _. ⌜ now (image .exit) ≡ padded (readSpan (now (packet .entry)) place size (length (now (image .entry))) .bytes) (length (now (image .entry))) ⌝ }
+{
+    if limit::BYTES < packet.len() {
+        return finish(image, Step::Stop(OVER_LIMIT, 0));
+    }
+    if inside(packet, place, size) {
+        let to = place + size;
+        let part = &packet[place..to];
+        let x = parse_value(image, part, Setting { base: place }, Cursor { at: 0 }, 0);
+        finish(image, judged(x, place, part.len()))
+    } else {
+        finish(image, Step::Stop(NO_ENTRY, 0))
+    }
+}
+
+// Reads the value of entry `number` of a packet.
 pub fn parse_entry(packet: &[u8], number: usize, image: &mut [u8]) -> Reading
     ensures { λ r. ⌜ r ≡ readEntry (now (packet .entry)) number (length (now (image .entry))) .reading ⌝ }
     ensures { λ r. ⌜ now (image .exit) ≡ padded (readEntry (now (packet .entry)) number (length (now (image .entry))) .bytes) (length (now (image .entry))) ⌝ }
 {
     match nth(packet, number) {
         Found::Stop(a, p) => finish(image, Step::Stop(a, p)),
-        Found::Is(e) => {
-            let from = e.place;
-            let to = from + e.length;
-            let part = &packet[from..to];
-            let x = parse_value(image, part, Setting { base: from }, Cursor { at: 0 }, 0);
-            finish(image, judged(x, from, part.len()))
-        }
+        Found::Is(e) => parse_span(packet, e.place, e.length, image),
     }
 }

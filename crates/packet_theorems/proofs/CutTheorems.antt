@@ -14,11 +14,11 @@ use Rattle.packet.specs.declared.head.Entry.{Entry}
 use Rattle.packet.specs.declared.entry.Cutting.{Cutting}
 use Rattle.packet.specs.declared.entry.Found.{Found}
 use Rattle.packet.specs.declared.entry.Found.the-variants as Found
-use Rattle.packet.specs.Entry.{Cut, found, stops, cutOf, noEntry, Listed, listed, listOf, filled}
+use Rattle.packet.specs.Entry.{Cut, found, stops, cutOf, noEntry, Listed, listed, listOf, filled, readSpan, readEntry}
 use Rattle.packet.specs.Code.{foundIn}
 use Rattle.packet.specs.Change.{Changed}
 use Rattle.packet.specs.Why.{ComesList}
-use Rattle.packet.proofs.Laws.{Splits, cut-told}
+use Rattle.packet.proofs.Laws.{Splits, cut-told, entry-chosen, span-read}
 use Rattle.packet_theorems.proofs.Frame.{cut-read}
 use Rattle.packet_theorems.proofs.Demand3.{same-cut}
 
@@ -104,6 +104,15 @@ cut-nth s list r left k p = go (listOf s (length list)) (cut-reasons s (length l
     go w (ComesList.cut {es} e l) f g h =
         let b : k < length es = omega (arith, ap (λ (c : Cutting). c .count) f) in
         rw (e, lt-ltb k (length es) b, g) (ap Found.Is (sym (getD-front es _ k noEntry b)))
+
+-- So the span of an entry that an accepted cut leaves in the list reads as that entry does by its number.
+pub cut-span : (s : List ℕ) (list : List Entry) (r : Cutting) (left : List Entry) (k room : ℕ) → PermitsCut s list r left → k < r .count
+    → readSpan s (getD left k noEntry .place) (getD left k noEntry .length) room ≡ readEntry s k room
+unfolding readEntry
+cut-span s list r left k room p h =
+    let e = getD left k noEntry in
+    let c = entry-chosen s k room (cutOf s) {e = e} (cut-told s) (sym (cut-nth s list r left k p h)) in
+    span-read s e room (c .short) (c .inside) ∙ sym (c .read)
 
 -- Demand 3, for the list: a packet that is cut, with other bytes inside its values and nothing else changed, is cut into the same list.
 pub same-list : (s t : List ℕ) (es : List Entry) (n room : ℕ) → cutOf s ≡ found es n → Changed es s t → listOf t room ≡ listOf s room

@@ -1,2 +1,3 @@
--- The parts of what a call of the library returns.
+-- The parts of what a call of the library returns, and the laws of a row of numbers.
 pub mod Parts
+pub mod Rows

@@ -2,6 +2,7 @@
 use mathlib.Core.Path.{_≡_, ap}
 use Rattle.image.specs.declared.reading.Reading.{Reading}
 use Rattle.image.specs.declared.writing.Writing.{Writing}
+use Rattle.packet.specs.declared.entry.Cutting.{Cutting}
 
 pub answer-read : {r s : Reading} → r ≡ s → r .answer ≡ s .answer
 answer-read e = ap (λ (x : Reading). x .answer) e
@@ -17,3 +18,12 @@ answer-written e = ap (λ (x : Writing). x .answer) e
 
 pub count-written : {w v : Writing} → w ≡ v → w .count ≡ v .count
 count-written e = ap (λ (x : Writing). x .count) e
+
+pub answer-cut : {k l : Cutting} → k ≡ l → k .answer ≡ l .answer
+answer-cut e = ap (λ (x : Cutting). x .answer) e
+
+pub used-cut : {k l : Cutting} → k ≡ l → k .used ≡ l .used
+used-cut e = ap (λ (x : Cutting). x .used) e
+
+pub count-cut : {k l : Cutting} → k ≡ l → k .count ≡ l .count
+count-cut e = ap (λ (x : Cutting). x .count) e

@@ -1,11 +1,12 @@
 -- What a call returns by value in Rattle, as the numbers that go out to C.
 use Prim.Native.Nat.{ℕ}
-use mathlib.Core.List.{List, [], _∷_}
+use mathlib.Core.List.{List, [], _∷_, _++_}
 use lib.ListN.{replicate}
 use Rattle.image.specs.declared.record.Layout.{Layout}
 use Rattle.image.specs.declared.taking.Taken.{Taken}
 use Rattle.image.specs.declared.taking.Taken.the-variants as Taken
 use Rattle.image.specs.Record.{layoutOf}
+use Rattle.image.specs.Whole.{padded}
 use Rattle.packet.specs.declared.head.Entry.{Entry}
 use Rattle.packet.specs.declared.entry.Found.{Found}
 use Rattle.packet.specs.declared.entry.Found.the-variants as Found
@@ -22,6 +23,15 @@ foundAnswer (Found.Stop a p) = a
 abbrev pub foundNumbers : Found → List ℕ
 foundNumbers (Found.Is e) = entryNumbers e
 foundNumbers (Found.Stop a p) = replicate 8 0
+
+-- entries in a row
+unfoldable pub numbersOf : List Entry → List ℕ
+numbersOf [] = []
+numbersOf (e ∷ es) = entryNumbers e ++ numbersOf es
+
+-- a row of so many numbers: the entries', and zeros to its end
+abbrev pub rowOf : List Entry → ℕ → List ℕ
+rowOf es n = padded (numbersOf es) n
 
 -- ---- a record
 

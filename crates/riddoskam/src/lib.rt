@@ -1,5 +1,7 @@
 // The library for programs in other languages: each public call, on numbers and slices alone. The answer is the result, the counts go out through
 // references. A slice is a pointer and a length, a reference is a pointer; include/riddoskam.h declares what stands here.
+mod row;
+
 use image::record::layout_of;
 use image::taking::Taken;
 use image::taking::record_at;
@@ -11,6 +13,7 @@ use wire::cursor::Cursor;
 use wire::text::inside;
 ghost use mathlib.Core.Path.{_≡_};
 ghost use mathlib.Core.List.{List};
+ghost use Prim.Native.Nat.{_/_};
 ghost use lib.ListN.{length, take, drop};
 ghost use Rattle.wire.specs.Choice.{pick};
 ghost use Rattle.wire.specs.Text.{insideOf, partOf};
@@ -23,9 +26,9 @@ ghost use Rattle.lso.specs.Reading.{wholeOf as wholeFile, incompleteOf as incom
 ghost use Rattle.lso.specs.Writing.{writeOf as fileWritten};
 ghost use Rattle.packet.specs.Reading.{wholeOf as wholePacket, incompleteOf as incompletePacket};
 ghost use Rattle.packet.specs.Writing.{writeOf as packetWritten};
-ghost use Rattle.packet.specs.Entry.{cutOf, readEntry};
+ghost use Rattle.packet.specs.Entry.{cutOf, listOf, readSpan, readEntry};
 ghost use Rattle.packet.specs.Code.{foundIn};
-ghost use Rattle.riddoskam.specs.Numbers.{foundAnswer, foundNumbers, takenAnswer, takenNumbers, takenNext};
+ghost use Rattle.riddoskam.specs.Numbers.{foundAnswer, foundNumbers, rowOf, takenAnswer, takenNumbers, takenNext};
 
 // ---- texts
 
@@ -229,6 +232,25 @@ pub extern "C" fn riddoskam_packet_nth(packet: &[u8], number: usize, entry: &mut
     }
 }
 
+// All entries of a packet, as a row of eight numbers each, as `riddoskam_packet_nth` has them; zeros behind them, and zeros alone where it is refused.
+#[no_mangle]
+pub extern "C" fn riddoskam_packet_cut(
+    packet: &[u8],
+    numbers: &mut [usize],
+    used: &mut usize,
+    count: &mut usize,
+) -> u8
+    ensures { λ r. ⌜ r ≡ listOf (now (packet .entry)) (length (now (numbers .entry)) / 8) .cutting .answer ⌝ }
+    ensures { λ _. ⌜ now (used .exit) ≡ listOf (now (packet .entry)) (length (now (numbers .entry)) / 8) .cutting .used ⌝ }
+    ensures { λ _. ⌜ now (count .exit) ≡ listOf (now (packet .entry)) (length (now (numbers .entry)) / 8) .cutting .count ⌝ }
+    ensures { λ _. ⌜ now (numbers .exit) ≡ rowOf (listOf (now (packet .entry)) (length (now (numbers .entry)) / 8) .entries) (length (now (numbers .entry))) ⌝ }
+{
+    let cut = row::cut(packet, numbers);
+    *used = cut.used;
+    *count = cut.count;
+    cut.answer
+}
+
 // Reads the value of entry `number`.
 #[no_mangle]
 pub extern "C" fn riddoskam_packet_parse_entry(
@@ -244,6 +266,27 @@ pub extern "C" fn riddoskam_packet_parse_entry(
     ensures { λ _. ⌜ now (image .exit) ≡ padded (readEntry (now (packet .entry)) number (length (now (image .entry))) .bytes) (length (now (image .entry))) ⌝ }
 {
     let span = packet::entry::parse_entry(packet, number, image);
+    *used = span.used;
+    *made = span.made;
+    span.answer
+}
+
+// Reads the value in a part of a packet, as the value of an entry whose place and length are known.
+#[no_mangle]
+pub extern "C" fn riddoskam_packet_parse_span(
+    packet: &[u8],
+    place: usize,
+    size: usize,
+    image: &mut [u8],
+    used: &mut usize,
+    made: &mut usize,
+) -> u8
+    ensures { λ r. ⌜ r ≡ readSpan (now (packet .entry)) place size (length (now (image .entry))) .reading .answer ⌝ }
+    ensures { λ _. ⌜ now (used .exit) ≡ readSpan (now (packet .entry)) place size (length (now (image .entry))) .reading .used ⌝ }
+    ensures { λ _. ⌜ now (made .exit) ≡ readSpan (now (packet .entry)) place size (length (now (image .entry))) .reading .made ⌝ }
+    ensures { λ _. ⌜ now (image .exit) ≡ padded (readSpan (now (packet .entry)) place size (length (now (image .entry))) .bytes) (length (now (image .entry))) ⌝ }
+{
+    let span = packet::entry::parse_span(packet, place, size, image);
     *used = span.used;
     *made = span.made;
     span.answer

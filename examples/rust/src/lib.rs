@@ -20,6 +20,17 @@ mod sys {
         pub fn riddoskam_write_value(image: *const u8, n: usize, text: *const u8, m: usize, out: *mut u8, room: usize, count: &mut usize) -> u8;
         pub fn riddoskam_lso_write_to_bytes(image: *const u8, n: usize, text: *const u8, m: usize, out: *mut u8, room: usize, count: &mut usize) -> u8;
         pub fn riddoskam_packet_write_to_bytes(image: *const u8, n: usize, text: *const u8, m: usize, exact: bool, out: *mut u8, room: usize, count: &mut usize) -> u8;
+        pub fn riddoskam_packet_parse_span(
+            packet: *const u8,
+            n: usize,
+            place: usize,
+            length: usize,
+            image: *mut u8,
+            room: usize,
+            used: &mut usize,
+            made: &mut usize,
+        ) -> u8;
+        pub fn riddoskam_packet_cut(packet: *const u8, n: usize, numbers: *mut usize, room: usize, used: &mut usize, count: &mut usize) -> u8;
         pub fn riddoskam_packet_nth(packet: *const u8, n: usize, number: usize, entry: &mut [usize; 8]) -> u8;
         pub fn riddoskam_record_at(image: *const u8, n: usize, at: usize, fields: &mut [u64; 5], next: &mut usize) -> u8;
     }
@@ -108,6 +119,26 @@ pub fn packet_parse_entry(packet: &[u8], number: usize, image: &mut [u8]) -> Res
     judged(answer, r)
 }
 
+/// The value that is a part of a packet, read as the value of an entry: for an entry of a cut this is [`packet_parse_entry`], without cutting again.
+/// [`Refusal::NoEntry`] where the part is not inside the packet.
+pub fn packet_parse_span(packet: &[u8], value: Text, image: &mut [u8]) -> Result<Reading, Refusal> {
+    let mut r = Reading { used: 0, made: 0 };
+    // SAFETY: as in `read`.
+    let answer = unsafe {
+        sys::riddoskam_packet_parse_span(
+            packet.as_ptr(),
+            packet.len(),
+            value.place,
+            value.length,
+            image.as_mut_ptr(),
+            image.len(),
+            &mut r.used,
+            &mut r.made,
+        )
+    };
+    judged(answer, r)
+}
+
 type Writer = unsafe extern "C" fn(*const u8, usize, *const u8, usize, *mut u8, usize, &mut usize) -> u8;
 
 fn write(by: Writer, image: &[u8], text: &[u8], out: &mut [u8]) -> Result<usize, Refusal> {
@@ -181,18 +212,44 @@ pub struct Entry {
     pub value: Text,
 }
 
+/// The numbers that an entry is handed out as.
+pub type Numbers = [usize; 8];
+
+impl From<Numbers> for Entry {
+    fn from(e: Numbers) -> Entry {
+        let text = |i: usize| Text { place: e[i], length: e[i + 1] };
+        let role = if e[0] == 0x31 {
+            Role::Header { name: text(2), flag: e[1] != 0 }
+        } else {
+            Role::Message { target: text(2), response: text(4) }
+        };
+        Entry { role, value: text(6) }
+    }
+}
+
 /// Entry `number` of a packet that its declared lengths cut exactly.
 pub fn packet_nth(packet: &[u8], number: usize) -> Result<Entry, Refusal> {
     let mut e = [0; 8];
     // SAFETY: as in `read`.
     let answer = unsafe { sys::riddoskam_packet_nth(packet.as_ptr(), packet.len(), number, &mut e) };
-    let text = |i: usize| Text { place: e[i], length: e[i + 1] };
-    let role = if e[0] == 0x31 {
-        Role::Header { name: text(2), flag: e[1] != 0 }
-    } else {
-        Role::Message { target: text(2), response: text(4) }
-    };
-    judged(answer, Entry { role, value: text(6) })
+    judged(answer, e.into())
+}
+
+/// A cut that was accepted: the bytes of the packet, and the number of its entries.
+#[derive(Clone, Copy, Debug, PartialEq, Eq)]
+pub struct Cutting {
+    pub used: usize,
+    pub count: usize,
+}
+
+/// All entries of a packet that its declared lengths cut exactly, in one walk. They stand at the front of the list, which is zero behind them, and all zero
+/// where the cut is refused; [`Refusal::NoRoom`] where the list is too short.
+pub fn packet_cut(packet: &[u8], list: &mut [Numbers]) -> Result<Cutting, Refusal> {
+    let mut c = Cutting { used: 0, count: 0 };
+    // SAFETY: as in `read`; a slice of arrays of eight is a row of eight times as many numbers.
+    let answer =
+        unsafe { sys::riddoskam_packet_cut(packet.as_ptr(), packet.len(), list.as_mut_ptr().cast(), 8 * list.len(), &mut c.used, &mut c.count) };
+    judged(answer, c)
 }
 
 /// A record of an image.

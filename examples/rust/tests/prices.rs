@@ -120,6 +120,42 @@ fn a_bent_byte_costs_one_shelf() {
 }
 
 #[test]
+fn all_shelves_by_one_cut() {
+    let mut p = packet();
+    let mut image = [0; 300];
+    let mut list = [[0xA5; 8]; 4];
+    let whole = Cutting { used: p.len(), count: 3 };
+    assert_eq!(packet_cut(&p, &mut list), Ok(whole));
+    for k in 0..3 {
+        assert_eq!(Ok(Entry::from(list[k])), packet_nth(&p, k));
+    }
+    assert_eq!(list[3], [0; 8]);
+    // The cut never looks into a value.
+    let second = Entry::from(list[1]).value;
+    p[second.place] = 4;
+    assert_eq!(packet_cut(&p, &mut list), Ok(whole));
+    let price = |k: usize, image: &mut [u8]| {
+        let made = packet_parse_span(&p, Entry::from(list[k]).value, image)?.made;
+        Ok(cents(&image[..made], &p, 0))
+    };
+    assert_eq!(price(0, &mut image), Ok(Some(127.0)));
+    assert_eq!(price(1, &mut image), Err(Refusal::Damaged));
+    assert_eq!(image, [0; 300]);
+    assert_eq!(price(2, &mut image), Ok(Some(83.0)));
+    // A list that is too short; a packet that its lengths do not cut; parts that are no value, or none of the packet.
+    let mut short = [[0xA5; 8]; 2];
+    assert_eq!(packet_cut(&p, &mut short), Err(Refusal::NoRoom));
+    assert_eq!(short, [[0; 8]; 2]);
+    assert_eq!(packet_cut(&p[..p.len() - 1], &mut list), Err(Refusal::NotWhole));
+    assert_eq!(list, [[0; 8]; 4]);
+    let third = packet_nth(&p, 2).unwrap().value;
+    assert_eq!(packet_parse_span(&p, Text { length: third.length - 1, ..third }, &mut image), Err(Refusal::Damaged));
+    assert_eq!(packet_parse_span(&p, Text { length: third.length + 1, ..third }, &mut image), Err(Refusal::NoEntry));
+    assert_eq!(packet_parse_span(&p, Text { place: usize::MAX, length: 2 }, &mut image), Err(Refusal::NoEntry));
+    assert_eq!(packet_parse_span(&p, third, &mut image[..4]), Err(Refusal::NoRoom));
+}
+
+#[test]
 fn lengths_as_asked() {
     let p = packet();
     let mut image = [0; 300];

@@ -1,0 +1,107 @@
+-- `parse_span` meets its contract: the value reader on the bytes of the span, its step judged.
+use Prim.Native.Nat.{_+_, _≤_}
+use mathlib.Core.Path.{sym, ap, _∙_}
+use native.Mathlib.Nat.{add-sub-cancel-left}
+use native.Mathlib.Omega.{arith}
+use lib.ListN.{length, length-take, length-drop}
+use denote.Ref.{now}
+use borrow.Author.Tests.{leb-true}
+use Rattle.wire.specs.Limit.{bytes}
+use Rattle.image.specs.declared.reading.Step.{Step}
+use Rattle.image.specs.Whole.{finished}
+use Rattle.packet.specs.Head.{entry}
+use Rattle.packet.proofs.Laws.{entry-read, span-read, span-over, span-out}
+use borrow.Author.Needs.{needs}
+use Rattle.packet.proofs.entry.parse_span.Statement.{statement}
+use Rattle.packet.proofs.entry.parse_span.Tie as tie
+
+finish-requires : tie.Need-finish-requires
+finish-requires c κs = search needs
+
+same-length : tie.Need-same-length
+same-length c = search needs
+
+returns : tie.Need-returns
+returns c =
+    let a = c .before .before .before .before .before .before .before .args in
+    let e = span-over (now (a .packet)) (a .place) (a .size) (length (now (a .image))) (omega arith) in
+    (rw e (c .before .before .finish .ensures .0), rw e (c .before .before .finish .ensures .1))
+
+inside-requires : tie.Need-inside-requires
+inside-requires c κs = search needs
+
+-- the span is inside the packet
+fits : (c : tie.Then2) → let a = c .before .before .before .before .before .args in a .place + a .size ≤ length (now (a .packet))
+fits c = leb-true _ _ (sym (c .before .inside .ensures) ∙ c .if2 .taken)
+
+add-to : tie.Need-add-to
+add-to c = let h = fits c in omega arith
+
+sub-part : tie.Need-sub-part
+sub-part c = search needs
+
+part-part-start : tie.Need-part-part-start
+part-part-start c = search needs
+
+part-part-end : tie.Need-part-part-end
+part-part-end c = let h = fits c in omega arith
+
+parse-value-requires : tie.Need-parse-value-requires
+parse-value-requires c κs = search needs
+
+judged-requires : tie.Need-judged-requires
+judged-requires c κs = let h = fits (c .before .before .before .before .before .before) in simp (length-take, length-drop) (omega arith)
+
+finish-requires-2 : tie.Need-finish-requires-2
+finish-requires-2 c κs = search needs
+
+finish-requires-3 : tie.Need-finish-requires-3
+finish-requires-3 c κs = search needs
+
+same-length-2 : tie.Need-same-length-2
+same-length-2 c = search needs
+
+returns-2 : tie.Need-returns-2
+returns-2 c =
+    let a = c .before .before .before .before .before .before .before .before .before .before .before .before .before .before .before .args in
+    let s = now (a .packet) in
+    let e = entry 0 0 0 0 0 0 (a .place) (a .size) in
+    let h = fits (c .before .before .before .before .before .before .before .before .before .before) in
+    let v = c .before .before .before .before .before .before .before .parse-value in
+    let l : length s ≤ bytes = omega arith in
+    let j = rw add-sub-cancel-left at (c .before .before .before .judged .ensures) in
+    let w =
+    span-read s e (length (now (a .image))) l h
+    ∙ sym (ap (λ (y : Step). finished y (v .last .0)) j ∙ entry-read s (now (a .image)) (v .last .0) e (v .result) l h (rw add-sub-cancel-left at (v .ensures .0)))
+    in
+    (rw w (c .before .before .finish2 .ensures .0), rw (w, sym (v .kept .0)) (c .before .before .finish2 .ensures .1))
+
+same-length-3 : tie.Need-same-length-3
+same-length-3 c = search needs
+
+returns-3 : tie.Need-returns-3
+returns-3 c =
+    let a = c .before .before .before .before .before .before .before .before .before .args in
+    let e = span-out (now (a .packet)) (a .place) (a .size) (length (now (a .image))) (omega arith) (sym (c .before .before .before .before .before .inside .ensures) ∙ c .before .before .before .before .if2 .left) in
+    (rw e (c .before .before .finish3 .ensures .0), rw e (c .before .before .finish3 .ensures .1))
+
+pub parse-span-spec : {M : Type 1} → statement M
+parse-span-spec =
+    tie.close
+    (tie.spec
+    finish-requires
+    same-length
+    returns
+    inside-requires
+    add-to
+    sub-part
+    part-part-start
+    part-part-end
+    parse-value-requires
+    judged-requires
+    finish-requires-2
+    finish-requires-3
+    same-length-2
+    returns-2
+    same-length-3
+    returns-3)
