@@ -1,14 +1,12 @@
--- Made by lend.py of the code of `packet::entry::clear`: what Rattle makes of it over arrays, said of `Entry`.
+-- Made by tools/lend of the code of `packet::entry::clear`: what the kit makes of it over arrays, said of `Entry`.
 use Rattle.packet.proofs.EntryKind
 use borrow.Fn.Kinds
 use borrow.Kind.MutSlice
-use borrow.Table.Referent
-use denote.Array
 use mathlib.Core.List
 use mir.Syntax
 
 abbrev pub ps : List.List (Kinds.PK 1)
-ps = List._∷_ (MutSlice.pMutS EntryKind.R 0 tt) (List._∷_ (Kinds.pNum Syntax.w64) List.[])
+ps = List._∷_ (MutSlice.pMutS EntryKind.row 0 tt) (List._∷_ (Kinds.pNum Syntax.w64) List.[])
 
 abbrev pub r : Kinds.RK 1
 r = Kinds.rUnit

@@ -1,6 +1,6 @@
--- Made by lend.py of the code of `packet::entry::cut`: what Rattle makes of it over arrays, said of `Entry`.
-use Rattle.packet.proofs.entry.cut
+-- Made by tools/lend of the code of `packet::entry::cut`: what the kit makes of it over arrays, said of `Entry`.
 use Rattle.packet.proofs.EntryCutKinds as Kinds
+use Rattle.packet.proofs.entry.cut
 use base.Logic
 use borrow.Fn.Kinds as Kinds'
 use borrow.Fn.Learn
@@ -43,36 +43,24 @@ module _ (κs : Lifetimes.Lfts 2) where
   pre-read = λ a g. Read.all-models (requires a g) (λ w. Read.r-top) (λ w. Path'.refl) (λ w. Path'.refl) λ w. Path'.refl
 
   abbrev pub ensures-1·read : (a : World.ArgsD cut.signature κs) → (g : Ghost) → (r : World.ResD cut.signature κs) → (s : Clauses.AtExit (Kinds'.endedOf 2
-      Kinds.ps Kinds.r) κs) → Read.Read (Base a) (Owned r s) λ w. cut.ensures-1 (w .𝓤) (w .H) κs (w .𝓖 .A) (w .𝓜 .mem) (w .𝓡 .run) (a .0) (a .1 .0) record {
-        entry = a .0;
-        exit = s .0;
-      } record { entry = a .1 .0; exit = s .1 .0 } r
-  ensures-1·read = λ a g r s. Read.all-models (λ w. cut.ensures-1 (w .𝓤) (w .H) κs (w .𝓖 .A) (w .𝓜 .mem) (w .𝓡 .run) (a .0) (a .1 .0) record {
-    entry = a .0;
-    exit = s .0;
-  } record { entry = a .1 .0; exit = s .1 .0 } r) (λ w. Read.r-last _) (λ w. Path'.refl) (λ w. Path'.refl) λ w. Path'.refl
+      Kinds.ps Kinds.r) κs) → Read.Read (Base a) (Owned r s) λ w. cut.ensures-1 (w .𝓤) (w .H) κs (w .𝓖 .A) (w .𝓜 .mem) (w .𝓡 .run) (a .0) (a .1 .0)
+      record { entry = a .0; exit = s .0 } record { entry = a .1 .0; exit = s .1 .0 } r
+  ensures-1·read = λ a g r s. Read.all-models (λ w. cut.ensures-1 (w .𝓤) (w .H) κs (w .𝓖 .A) (w .𝓜 .mem) (w .𝓡 .run) (a .0) (a .1 .0)
+      record { entry = a .0; exit = s .0 } record { entry = a .1 .0; exit = s .1 .0 } r) (λ w. Read.r-last _) (λ w. Path'.refl) (λ w. Path'.refl) λ w.
+      Path'.refl
 
   abbrev pub ensures-2·read : (a : World.ArgsD cut.signature κs) → (g : Ghost) → (r : World.ResD cut.signature κs) → (s : Clauses.AtExit (Kinds'.endedOf 2
-      Kinds.ps Kinds.r) κs) → Read.Read (Base a) (Owned r s) λ w. cut.ensures-2 (w .𝓤) (w .H) κs (w .𝓖 .A) (w .𝓜 .mem) (w .𝓡 .run) (a .0) (a .1 .0) record {
-        entry = a .0;
-        exit = s .0;
-      } record { entry = a .1 .0; exit = s .1 .0 } r
-  ensures-2·read = λ a g r s. Read.all-models (λ w. cut.ensures-2 (w .𝓤) (w .H) κs (w .𝓖 .A) (w .𝓜 .mem) (w .𝓡 .run) (a .0) (a .1 .0) record {
-    entry = a .0;
-    exit = s .0;
-  } record { entry = a .1 .0; exit = s .1 .0 } r) (λ w. Read.r-last _) (λ w. Path'.refl) (λ w. Path'.refl) λ w. Path'.refl
+      Kinds.ps Kinds.r) κs) → Read.Read (Base a) (Owned r s) λ w. cut.ensures-2 (w .𝓤) (w .H) κs (w .𝓖 .A) (w .𝓜 .mem) (w .𝓡 .run) (a .0) (a .1 .0)
+      record { entry = a .0; exit = s .0 } record { entry = a .1 .0; exit = s .1 .0 } r
+  ensures-2·read = λ a g r s. Read.all-models (λ w. cut.ensures-2 (w .𝓤) (w .H) κs (w .𝓖 .A) (w .𝓜 .mem) (w .𝓡 .run) (a .0) (a .1 .0)
+      record { entry = a .0; exit = s .0 } record { entry = a .1 .0; exit = s .1 .0 } r) (λ w. Read.r-last _) (λ w. Path'.refl) (λ w. Path'.refl) λ w.
+      Path'.refl
 
   abbrev pub post-read : (a : World.ArgsD cut.signature κs) → (g : Ghost) → (r : World.ResD cut.signature κs) → (s : Clauses.AtExit (Kinds'.endedOf 2 Kinds.ps
       Kinds.r) κs) → Read.Read (Base a) (Owned r s) (ensures a g r s)
-  post-read = λ a g r s. Read.read-join (λ w. cut.ensures-1 (w .𝓤) (w .H) κs (w .𝓖 .A) (w .𝓜 .mem) (w .𝓡 .run) (a .0) (a .1 .0) record {
-    entry = a .0;
-    exit = s
-        .0;
-  } record { entry = a .1 .0; exit = s .1 .0 } r) (λ w. cut.ensures-2 (w .𝓤) (w .H) κs (w .𝓖 .A) (w .𝓜 .mem) (w .𝓡 .run) (a .0) (a .1 .0) record {
-    entry
-        = a .0;
-    exit = s .0;
-  } record { entry = a .1 .0; exit = s .1 .0 } r) (ensures-1·read a g r s) (ensures-2·read a g r s)
+  post-read = λ a g r s. Read.read-join (λ w. cut.ensures-1 (w .𝓤) (w .H) κs (w .𝓖 .A) (w .𝓜 .mem) (w .𝓡 .run) (a .0) (a .1 .0)
+      record { entry = a .0; exit = s .0 } record { entry = a .1 .0; exit = s .1 .0 } r) (λ w. cut.ensures-2 (w .𝓤) (w .H) κs (w .𝓖 .A) (w .𝓜 .mem) (w .𝓡 .run)
+      (a .0) (a .1 .0) record { entry = a .0; exit = s .0 } record { entry = a .1 .0; exit = s .1 .0 } r) (ensures-1·read a g r s) (ensures-2·read a g r s)
 
 abbrev pub Pre : Kinds'.In 2 Kinds.ps
 Pre = Written.Pre 2 Kinds.ps Kinds.r Ghost requires ensures pre-read Pinned Owned post-read tt

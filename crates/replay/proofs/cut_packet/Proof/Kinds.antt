@@ -1,4 +1,4 @@
--- Made by lend.py of the code of `replay::cut_packet`: what Rattle makes of it over arrays, said of `Entry`.
+-- Made by tools/lend of the code of `replay::cut_packet`: what the kit makes of it over arrays, said of `Entry`.
 use borrow.Fn.Kinds
 use borrow.Kind.ShrSlice
 use borrow.Table.Referent

@@ -1,6 +1,6 @@
--- Made by lend.py of the code of `replay::cut_packet`: what Rattle makes of it over arrays, said of `Entry`.
-use Rattle.packet.proofs.EntryKind
+-- Made by tools/lend of the code of `replay::cut_packet`: what the kit makes of it over arrays, said of `Entry`.
 use Prim.Native.Nat
+use Rattle.packet.proofs.EntryKind
 use Rattle.packet.proofs.entry.Cutting
 use Rattle.packet.proofs.entry.Cutting.Laws
 use borrow.Author.Called
@@ -12,7 +12,6 @@ use borrow.Fn.Frame
 use borrow.Fn.Function
 use borrow.Fn.Kinds
 use borrow.Fn.Plain
-use borrow.Kind.Array
 use borrow.Kind.MutSlice
 use borrow.Kind.Num
 use borrow.Kind.ShrSlice
@@ -25,7 +24,6 @@ use borrow.Rule.Array.Move
 use borrow.Rule.Array.Repeat
 use borrow.Rule.Array.Rows
 use borrow.Rule.Array.Share
-use borrow.Rule.Array.Whole
 use borrow.Rule.AtSlots
 use borrow.Rule.DerefMove
 use borrow.Rule.Lifetime
@@ -65,18 +63,18 @@ use mir.Val
 use prog.Wp
 use types.Kit
 
-abbrev ty-0 : Syntax.Ty
-ty-0 = Syntax.tyStruct (List._∷_ 112 (List._∷_ 97 (List._∷_ 99 (List._∷_ 107 (List._∷_ 101 (List._∷_ 116 (List._∷_ 58 (List._∷_ 58 (List._∷_ 101 (List._∷_ 110
-    (List._∷_ 116 (List._∷_ 114 (List._∷_ 121 (List._∷_ 58 (List._∷_ 58 (List._∷_ 67 (List._∷_ 117 (List._∷_ 116 (List._∷_ 116 (List._∷_ 105 (List._∷_ 110
-    (List._∷_ 103 List.[])))))))))))))))))))))) (Syntax.tcons (Syntax.tyInt Syntax.w8) (Syntax.tcons (Syntax.tyInt Syntax.w64) (Syntax.tcons (Syntax.tyInt
-    Syntax.w64) Syntax.tnil)))
+abbrev type-Cutting : Syntax.Ty
+type-Cutting = Syntax.tyStruct (List._∷_ 112 (List._∷_ 97 (List._∷_ 99 (List._∷_ 107 (List._∷_ 101 (List._∷_ 116 (List._∷_ 58 (List._∷_ 58 (List._∷_ 101
+    (List._∷_ 110 (List._∷_ 116 (List._∷_ 114 (List._∷_ 121 (List._∷_ 58 (List._∷_ 58 (List._∷_ 67 (List._∷_ 117 (List._∷_ 116 (List._∷_ 116 (List._∷_ 105
+    (List._∷_ 110 (List._∷_ 103 List.[])))))))))))))))))))))) (Syntax.tcons (Syntax.tyInt Syntax.w8) (Syntax.tcons (Syntax.tyInt Syntax.w64) (Syntax.tcons
+    (Syntax.tyInt Syntax.w64) Syntax.tnil)))
 
-abbrev ty-1 : Syntax.Ty
-ty-1 = Syntax.tyStruct (List._∷_ 38 (List._∷_ 91 (List._∷_ 93 List.[]))) (Syntax.tcons (Syntax.tyRef Syntax.erased Syntax.mut EntryKind.elem) (Syntax.tcons
-    (Syntax.tyInt Syntax.w64) Syntax.tnil))
+abbrev type-slice : Syntax.Ty
+type-slice = Syntax.tyStruct (List._∷_ 38 (List._∷_ 91 (List._∷_ 93 List.[]))) (Syntax.tcons (Syntax.tyRef Syntax.erased Syntax.mut EntryKind.pointee)
+    (Syntax.tcons (Syntax.tyInt Syntax.w64) Syntax.tnil))
 
-abbrev ty-2 : Syntax.Ty
-ty-2 = Syntax.tyStruct (List._∷_ 38 (List._∷_ 91 (List._∷_ 93 List.[]))) (Syntax.tcons (Syntax.tyRef Syntax.erased Syntax.imm (Syntax.tyInt Syntax.w8))
+abbrev type-slice-2 : Syntax.Ty
+type-slice-2 = Syntax.tyStruct (List._∷_ 38 (List._∷_ 91 (List._∷_ 93 List.[]))) (Syntax.tcons (Syntax.tyRef Syntax.erased Syntax.imm (Syntax.tyInt Syntax.w8))
     (Syntax.tcons (Syntax.tyInt Syntax.w64) Syntax.tnil))
 
 abbrev pub ps : List.List (Kinds.PK 1)
@@ -86,11 +84,11 @@ abbrev pub r : Kinds.RK 1
 r = Unit'.rUnit
 
 abbrev pub xs : List.List Syntax.Ty
-xs = List._∷_ EntryKind.spelled (List._∷_ (Syntax.tyArray EntryKind.spelled 4096) (List._∷_ ty-0 (List._∷_ (Syntax.tyInt Syntax.w64) (List._∷_ EntryKind.spelled
-    (List._∷_ (Syntax.tyArray (Syntax.tyInt Syntax.w8) 1) (List._∷_ (Syntax.tyRef Syntax.erased Syntax.mut (Syntax.tyArray EntryKind.elem 4096)) (List._∷_ ty-1
-    (List._∷_ Syntax.tyUnit (List._∷_ Syntax.tyBool (List._∷_ (Syntax.tyInt Syntax.w64) (List._∷_ Syntax.tyPtr (List._∷_ Syntax.tyPtr (List._∷_
-    EntryKind.spelled (List._∷_ Syntax.tyUnit (List._∷_ (Syntax.tyRef Syntax.erased Syntax.imm (Syntax.tyArray (Syntax.tyInt Syntax.w8) 1)) (List._∷_ ty-2
-    List.[]))))))))))))))))
+xs = List._∷_ EntryKind.by-value (List._∷_ (Syntax.tyArray EntryKind.by-value 4096) (List._∷_ type-Cutting (List._∷_ (Syntax.tyInt Syntax.w64) (List._∷_
+    EntryKind.by-value (List._∷_ (Syntax.tyArray (Syntax.tyInt Syntax.w8) 1) (List._∷_ (Syntax.tyRef Syntax.erased Syntax.mut (Syntax.tyArray EntryKind.pointee
+    4096)) (List._∷_ type-slice (List._∷_ Syntax.tyUnit (List._∷_ Syntax.tyBool (List._∷_ (Syntax.tyInt Syntax.w64) (List._∷_ Syntax.tyPtr (List._∷_
+    Syntax.tyPtr (List._∷_ EntryKind.by-value (List._∷_ Syntax.tyUnit (List._∷_ (Syntax.tyRef Syntax.erased Syntax.imm (Syntax.tyArray (Syntax.tyInt Syntax.w8)
+    1)) (List._∷_ type-slice-2 List.[]))))))))))))))))
 
 abbrev pub m : Nat.ℕ
 m = 2
@@ -99,30 +97,27 @@ abbrev pub ps·0 : List.List (Kinds.PK 0)
 ps·0 = List.[]
 
 abbrev pub r·0 : Kinds.RK 0
-r·0 = EntryKind.r
+r·0 = EntryKind.returned
 
 abbrev pub ps·1 : List.List (Kinds.PK 2)
-ps·1 = List._∷_ (ShrSlice.pShrS (Referent.rtF (Referent.fInt Syntax.w8)) 0 tt) (List._∷_ (MutSlice.pMutS EntryKind.R 1 tt) List.[])
+ps·1 = List._∷_ (ShrSlice.pShrS (Referent.rtF (Referent.fInt Syntax.w8)) 0 tt) (List._∷_ (MutSlice.pMutS EntryKind.row 1 tt) List.[])
 
 abbrev pub r·1 : Kinds.RK 2
 r·1 = Value.rVal record {
   ty = Declared.row Cutting.the-type;
   one = Path'.refl;
   val = Laws'.val Cutting.the-type Laws.the-laws;
-  tells = Laws'.tells
-      Cutting.the-type Laws.the-laws;
+  tells = Laws'.tells Cutting.the-type Laws.the-laws;
   still = Laws'.still Cutting.the-type Laws.the-copy Exit.yes;
   row = Rows'.whole (Declared.row Cutting.the-type);
   rd = λ x. x;
   mk = λ x. x;
 } λ M 𝓤 H A W. record {
   copies = Laws'.copy Cutting.the-type Laws.the-copy 𝓤 H A W;
-  lawful = Laws'.lawful Cutting.the-type Laws.the-laws 𝓤 H A
-      W;
+  lawful = Laws'.lawful Cutting.the-type Laws.the-laws 𝓤 H A W;
   makes = Laws'.makes Cutting.the-type Laws.the-plain 𝓤 H A;
   in-mem = Local.mem-whole 𝓤 H A W (Declared.row Cutting.the-type);
-  of-mem = Local.whole-mem 𝓤 H
-      A W (Declared.row Cutting.the-type);
+  of-mem = Local.whole-mem 𝓤 H A W (Declared.row Cutting.the-type);
 }
 
 abbrev pub ps·2 : List.List (Kinds.PK 0)
@@ -130,27 +125,24 @@ ps·2 = List._∷_ (Value.pVal record {
   ty = Declared.row Cutting.the-type;
   one = Path'.refl;
   val = Laws'.val Cutting.the-type Laws.the-laws;
-  tells = Laws'.tells
-      Cutting.the-type Laws.the-laws;
+  tells = Laws'.tells Cutting.the-type Laws.the-laws;
   still = Laws'.still Cutting.the-type Laws.the-copy Exit.yes;
   row = Rows'.whole (Declared.row Cutting.the-type);
   rd = λ x. x;
   mk = λ x. x;
 } λ M 𝓤 H A W. record {
   copies = Laws'.copy Cutting.the-type Laws.the-copy 𝓤 H A W;
-  lawful = Laws'.lawful Cutting.the-type Laws.the-laws 𝓤 H A
-      W;
+  lawful = Laws'.lawful Cutting.the-type Laws.the-laws 𝓤 H A W;
   makes = Laws'.makes Cutting.the-type Laws.the-plain 𝓤 H A;
   in-mem = Local.mem-whole 𝓤 H A W (Declared.row Cutting.the-type);
-  of-mem = Local.whole-mem 𝓤 H
-      A W (Declared.row Cutting.the-type);
+  of-mem = Local.whole-mem 𝓤 H A W (Declared.row Cutting.the-type);
 }) List.[]
 
 abbrev pub r·2 : Kinds.RK 0
 r·2 = Unit'.rUnit
 
 abbrev pub ps·3 : List.List (Kinds.PK 0)
-ps·3 = List._∷_ EntryKind.p List.[]
+ps·3 = List._∷_ EntryKind.passed List.[]
 
 abbrev pub r·3 : Kinds.RK 0
 r·3 = Unit'.rUnit
@@ -216,7 +208,7 @@ abbrev b14 : Syntax.Body
 b14 = Syntax.assign (Syntax.place 15 List.[]) (Syntax.op2 Syntax.offset (Syntax.copy (Syntax.place 14 List.[])) (Syntax.copy (Syntax.place 13 List.[])))
 
 abbrev b15 : Syntax.Body
-b15 = Syntax.assign (Syntax.place 16 List.[]) (Syntax.rvOpd (Syntax.copy (Syntax.place 15 (List._∷_ (Syntax.deref EntryKind.spelled) List.[]))))
+b15 = Syntax.assign (Syntax.place 16 List.[]) (Syntax.rvOpd (Syntax.copy (Syntax.place 15 (List._∷_ (Syntax.deref EntryKind.by-value) List.[]))))
 
 abbrev b16 : Syntax.Body
 b16 = Syntax.assign (Syntax.place 7 List.[]) (Syntax.rvOpd (Syntax.copy (Syntax.place 16 List.[])))
@@ -319,701 +311,326 @@ Claims = Kinds.In 0 ps·0 × Kinds.Out 0 ps·0 r·0 × Kinds.In 2 ps·1 × Kinds
     0 ps·3 r·3 × Kinds.In 1 ps·4 × Kinds.Out 1 ps·4 r·4
 
 abbrev pub t0 : List.List Row.Entry
-t0 = List._∷_ (0, Rows'.any-gone Syntax.tyUnit) (List._∷_ (
-  1,
-  Rows'.sslice (Referent.rtF (Referent.fInt Syntax.w8)) (Syntax.tyRef (Syntax.named 0) Syntax.imm
-      (Syntax.tyInt Syntax.w8)) 0,
-) (List._∷_ (2, Rows'.sc-here (Row.sInt Syntax.w64)) (List._∷_ (3, Rows'.any-gone EntryKind.spelled) (List._∷_ (
-  4,
-  Rows'.any-gone
-      (Syntax.tyArray EntryKind.spelled 4096),
-) (List._∷_ (5, Rows'.any-gone ty-0) (List._∷_ (6, Rows'.any-gone (Syntax.tyInt Syntax.w64)) (List._∷_ (
-  7,
-  Rows'.any-gone EntryKind.spelled,
-) (List._∷_ (8, Rows'.any-gone (Syntax.tyArray (Syntax.tyInt Syntax.w8) 1)) (List._∷_ (
-  9,
-  Rows'.any-gone (Syntax.tyRef
-      Syntax.erased Syntax.mut (Syntax.tyArray EntryKind.elem 4096)),
-) (List._∷_ (10, Rows'.any-gone ty-1) (List._∷_ (11, Rows'.any-gone Syntax.tyUnit) (List._∷_
-    (12, Rows'.any-gone Syntax.tyBool) (List._∷_ (13, Rows'.any-gone (Syntax.tyInt Syntax.w64)) (List._∷_ (14, Rows'.any-gone Syntax.tyPtr) (List._∷_ (
-      15,
-      Rows'.any-gone Syntax.tyPtr,
-    ) List.[])))))))))))))))
+t0 = List._∷_ (0, Rows'.any-gone Syntax.tyUnit) (List._∷_
+    (1, Rows'.sslice (Referent.rtF (Referent.fInt Syntax.w8)) (Syntax.tyRef (Syntax.named 0) Syntax.imm (Syntax.tyInt Syntax.w8)) 0) (List._∷_
+    (2, Rows'.sc-here (Row.sInt Syntax.w64)) (List._∷_ (3, Rows'.any-gone EntryKind.by-value) (List._∷_
+    (4, Rows'.any-gone (Syntax.tyArray EntryKind.by-value 4096)) (List._∷_ (5, Rows'.any-gone type-Cutting) (List._∷_
+    (6, Rows'.any-gone (Syntax.tyInt Syntax.w64)) (List._∷_ (7, Rows'.any-gone EntryKind.by-value) (List._∷_
+    (8, Rows'.any-gone (Syntax.tyArray (Syntax.tyInt Syntax.w8) 1)) (List._∷_
+    (9, Rows'.any-gone (Syntax.tyRef Syntax.erased Syntax.mut (Syntax.tyArray EntryKind.pointee 4096))) (List._∷_ (10, Rows'.any-gone type-slice) (List._∷_
+    (11, Rows'.any-gone Syntax.tyUnit) (List._∷_ (12, Rows'.any-gone Syntax.tyBool) (List._∷_ (13, Rows'.any-gone (Syntax.tyInt Syntax.w64)) (List._∷_
+    (14, Rows'.any-gone Syntax.tyPtr) (List._∷_ (15, Rows'.any-gone Syntax.tyPtr) List.[])))))))))))))))
 
 abbrev pub t1 : List.List Row.Entry
-t1 = List._∷_ (16, Rows'.any-gone EntryKind.spelled) (List._∷_ (17, Rows'.any-gone Syntax.tyUnit) (List._∷_ (
-  18,
-  Rows'.any-gone (Syntax.tyRef Syntax.erased
-      Syntax.imm (Syntax.tyArray (Syntax.tyInt Syntax.w8) 1)),
-) (List._∷_ (19, Rows'.any-gone ty-2) List.[])))
+t1 = List._∷_ (16, Rows'.any-gone EntryKind.by-value) (List._∷_ (17, Rows'.any-gone Syntax.tyUnit) (List._∷_
+    (18, Rows'.any-gone (Syntax.tyRef Syntax.erased Syntax.imm (Syntax.tyArray (Syntax.tyInt Syntax.w8) 1))) (List._∷_ (19, Rows'.any-gone type-slice-2)
+    List.[])))
 
 abbrev pub t2 : List.List Row.Entry
-t2 = List._∷_ (0, Rows'.sc-here Row.sUnit) (List._∷_ (
-  1,
-  Rows'.sslice (Referent.rtF (Referent.fInt Syntax.w8)) (Syntax.tyRef (Syntax.named 0) Syntax.imm
-      (Syntax.tyInt Syntax.w8)) 0,
-) (List._∷_ (2, Rows'.any-gone (Syntax.tyInt Syntax.w64)) (List._∷_ (3, Rows'.any-gone EntryKind.spelled) (List._∷_ (
-  4,
-  Rows'.any-gone (Syntax.tyArray EntryKind.spelled 4096),
-) (List._∷_ (5, Rows'.any-gone ty-0) (List._∷_ (6, Rows'.any-gone (Syntax.tyInt Syntax.w64)) (List._∷_
-    (7, Rows'.any-gone EntryKind.spelled) (List._∷_ (8, Rows'.any-gone (Syntax.tyArray (Syntax.tyInt Syntax.w8) 1)) (List._∷_ (
-      9,
-      Rows'.any-gone (Syntax.tyRef
-          Syntax.erased Syntax.mut (Syntax.tyArray EntryKind.elem 4096)),
-    ) (List._∷_ (10, Rows'.any-gone ty-1) (List._∷_ (11, Rows'.any-gone Syntax.tyUnit) (List._∷_
-    (12, Rows'.any-gone Syntax.tyBool) (List._∷_ (13, Rows'.any-gone (Syntax.tyInt Syntax.w64)) (List._∷_ (14, Rows'.any-gone Syntax.tyPtr) (List._∷_ (
-      15,
-      Rows'.any-gone Syntax.tyPtr,
-    ) List.[])))))))))))))))
+t2 = List._∷_ (0, Rows'.sc-here Row.sUnit) (List._∷_
+    (1, Rows'.sslice (Referent.rtF (Referent.fInt Syntax.w8)) (Syntax.tyRef (Syntax.named 0) Syntax.imm (Syntax.tyInt Syntax.w8)) 0) (List._∷_
+    (2, Rows'.any-gone (Syntax.tyInt Syntax.w64)) (List._∷_ (3, Rows'.any-gone EntryKind.by-value) (List._∷_
+    (4, Rows'.any-gone (Syntax.tyArray EntryKind.by-value 4096)) (List._∷_ (5, Rows'.any-gone type-Cutting) (List._∷_
+    (6, Rows'.any-gone (Syntax.tyInt Syntax.w64)) (List._∷_ (7, Rows'.any-gone EntryKind.by-value) (List._∷_
+    (8, Rows'.any-gone (Syntax.tyArray (Syntax.tyInt Syntax.w8) 1)) (List._∷_
+    (9, Rows'.any-gone (Syntax.tyRef Syntax.erased Syntax.mut (Syntax.tyArray EntryKind.pointee 4096))) (List._∷_ (10, Rows'.any-gone type-slice) (List._∷_
+    (11, Rows'.any-gone Syntax.tyUnit) (List._∷_ (12, Rows'.any-gone Syntax.tyBool) (List._∷_ (13, Rows'.any-gone (Syntax.tyInt Syntax.w64)) (List._∷_
+    (14, Rows'.any-gone Syntax.tyPtr) (List._∷_ (15, Rows'.any-gone Syntax.tyPtr) List.[])))))))))))))))
 
 abbrev pub t3 : List.List Row.Entry
-t3 = List._∷_ (0, Rows'.any-gone Syntax.tyUnit) (List._∷_ (
-  1,
-  Rows'.sslice (Referent.rtF (Referent.fInt Syntax.w8)) (Syntax.tyRef (Syntax.named 0) Syntax.imm
-      (Syntax.tyInt Syntax.w8)) 0,
-) (List._∷_ (2, Rows'.sc-here (Row.sInt Syntax.w64)) (List._∷_ (3, Rows'.any-gone EntryKind.spelled) (List._∷_ (
-  4,
-  Rows'.any-gone
-      (Syntax.tyArray EntryKind.spelled 4096),
-) (List._∷_ (5, Rows'.any-gone ty-0) (List._∷_ (6, Rows'.any-gone (Syntax.tyInt Syntax.w64)) (List._∷_ (
-  7,
-  Rows'.any-gone EntryKind.spelled,
-) (List._∷_ (8, Rows'.whole (Array'.Array (Referent.rtF (Referent.fInt Syntax.w8)) 1)) (List._∷_ (
-  9,
-  Rows'.any-gone
-      (Syntax.tyRef Syntax.erased Syntax.mut (Syntax.tyArray EntryKind.elem 4096)),
-) (List._∷_ (10, Rows'.any-gone ty-1) (List._∷_ (
-  11,
-  Rows'.any-gone
-      Syntax.tyUnit,
-) (List._∷_ (12, Rows'.any-gone Syntax.tyBool) (List._∷_ (13, Rows'.any-gone (Syntax.tyInt Syntax.w64)) (List._∷_ (
-  14,
-  Rows'.any-gone
-      Syntax.tyPtr,
-) (List._∷_ (15, Rows'.any-gone Syntax.tyPtr) List.[])))))))))))))))
+t3 = List._∷_ (0, Rows'.any-gone Syntax.tyUnit) (List._∷_
+    (1, Rows'.sslice (Referent.rtF (Referent.fInt Syntax.w8)) (Syntax.tyRef (Syntax.named 0) Syntax.imm (Syntax.tyInt Syntax.w8)) 0) (List._∷_
+    (2, Rows'.sc-here (Row.sInt Syntax.w64)) (List._∷_ (3, Rows'.any-gone EntryKind.by-value) (List._∷_
+    (4, Rows'.any-gone (Syntax.tyArray EntryKind.by-value 4096)) (List._∷_ (5, Rows'.any-gone type-Cutting) (List._∷_
+    (6, Rows'.any-gone (Syntax.tyInt Syntax.w64)) (List._∷_ (7, Rows'.any-gone EntryKind.by-value) (List._∷_
+    (8, Rows'.whole (Array'.Array (Referent.rtF (Referent.fInt Syntax.w8)) 1)) (List._∷_
+    (9, Rows'.any-gone (Syntax.tyRef Syntax.erased Syntax.mut (Syntax.tyArray EntryKind.pointee 4096))) (List._∷_ (10, Rows'.any-gone type-slice) (List._∷_
+    (11, Rows'.any-gone Syntax.tyUnit) (List._∷_ (12, Rows'.any-gone Syntax.tyBool) (List._∷_ (13, Rows'.any-gone (Syntax.tyInt Syntax.w64)) (List._∷_
+    (14, Rows'.any-gone Syntax.tyPtr) (List._∷_ (15, Rows'.any-gone Syntax.tyPtr) List.[])))))))))))))))
 
 abbrev pub t4 : List.List Row.Entry
-t4 = List._∷_ (0, Rows'.any-gone Syntax.tyUnit) (List._∷_ (
-  1,
-  Rows'.sslice (Referent.rtF (Referent.fInt Syntax.w8)) (Syntax.tyRef (Syntax.named 0) Syntax.imm
-      (Syntax.tyInt Syntax.w8)) 0,
-) (List._∷_ (2, Rows'.sc-here (Row.sInt Syntax.w64)) (List._∷_ (3, Rows'.any-gone EntryKind.spelled) (List._∷_ (
-  4,
-  Rows'.any-gone
-      (Syntax.tyArray EntryKind.spelled 4096),
-) (List._∷_ (5, Rows'.any-gone ty-0) (List._∷_ (6, Rows'.any-gone (Syntax.tyInt Syntax.w64)) (List._∷_ (
-  7,
-  Rows'.any-gone EntryKind.spelled,
-) (List._∷_ (8, Rows.arrF (Referent.rtF (Referent.fInt Syntax.w8)) 1 0) (List._∷_ (
-  9,
-  Rows'.any-gone (Syntax.tyRef
-      Syntax.erased Syntax.mut (Syntax.tyArray EntryKind.elem 4096)),
-) (List._∷_ (10, Rows'.any-gone ty-1) (List._∷_ (11, Rows'.any-gone Syntax.tyUnit) (List._∷_
-    (12, Rows'.any-gone Syntax.tyBool) (List._∷_ (13, Rows'.any-gone (Syntax.tyInt Syntax.w64)) (List._∷_ (14, Rows'.any-gone Syntax.tyPtr) (List._∷_ (
-      15,
-      Rows'.any-gone Syntax.tyPtr,
-    ) List.[])))))))))))))))
+t4 = List._∷_ (0, Rows'.any-gone Syntax.tyUnit) (List._∷_
+    (1, Rows'.sslice (Referent.rtF (Referent.fInt Syntax.w8)) (Syntax.tyRef (Syntax.named 0) Syntax.imm (Syntax.tyInt Syntax.w8)) 0) (List._∷_
+    (2, Rows'.sc-here (Row.sInt Syntax.w64)) (List._∷_ (3, Rows'.any-gone EntryKind.by-value) (List._∷_
+    (4, Rows'.any-gone (Syntax.tyArray EntryKind.by-value 4096)) (List._∷_ (5, Rows'.any-gone type-Cutting) (List._∷_
+    (6, Rows'.any-gone (Syntax.tyInt Syntax.w64)) (List._∷_ (7, Rows'.any-gone EntryKind.by-value) (List._∷_
+    (8, Rows.arrF (Referent.rtF (Referent.fInt Syntax.w8)) 1 0) (List._∷_
+    (9, Rows'.any-gone (Syntax.tyRef Syntax.erased Syntax.mut (Syntax.tyArray EntryKind.pointee 4096))) (List._∷_ (10, Rows'.any-gone type-slice) (List._∷_
+    (11, Rows'.any-gone Syntax.tyUnit) (List._∷_ (12, Rows'.any-gone Syntax.tyBool) (List._∷_ (13, Rows'.any-gone (Syntax.tyInt Syntax.w64)) (List._∷_
+    (14, Rows'.any-gone Syntax.tyPtr) (List._∷_ (15, Rows'.any-gone Syntax.tyPtr) List.[])))))))))))))))
 
 abbrev pub t5 : List.List Row.Entry
-t5 = List._∷_ (0, Rows'.any-gone Syntax.tyUnit) (List._∷_ (
-  1,
-  Rows'.sslice (Referent.rtF (Referent.fInt Syntax.w8)) (Syntax.tyRef (Syntax.named 0) Syntax.imm
-      (Syntax.tyInt Syntax.w8)) 0,
-) (List._∷_ (2, Rows'.sc-here (Row.sInt Syntax.w64)) (List._∷_ (3, EntryKind.whole) (List._∷_ (
-  4,
-  Rows'.any-gone (Syntax.tyArray
-      EntryKind.spelled 4096),
-) (List._∷_ (5, Rows'.any-gone ty-0) (List._∷_ (6, Rows'.any-gone (Syntax.tyInt Syntax.w64)) (List._∷_ (
-  7,
-  Rows'.any-gone
-      EntryKind.spelled,
-) (List._∷_ (8, Rows.arrF (Referent.rtF (Referent.fInt Syntax.w8)) 1 0) (List._∷_ (
-  9,
-  Rows'.any-gone (Syntax.tyRef Syntax.erased Syntax.mut
-      (Syntax.tyArray EntryKind.elem 4096)),
-) (List._∷_ (10, Rows'.any-gone ty-1) (List._∷_ (11, Rows'.any-gone Syntax.tyUnit) (List._∷_ (
-  12,
-  Rows'.any-gone
-      Syntax.tyBool,
-) (List._∷_ (13, Rows'.any-gone (Syntax.tyInt Syntax.w64)) (List._∷_ (14, Rows'.any-gone Syntax.tyPtr) (List._∷_ (
-  15,
-  Rows'.any-gone
-      Syntax.tyPtr,
-) List.[])))))))))))))))
+t5 = List._∷_ (0, Rows'.any-gone Syntax.tyUnit) (List._∷_
+    (1, Rows'.sslice (Referent.rtF (Referent.fInt Syntax.w8)) (Syntax.tyRef (Syntax.named 0) Syntax.imm (Syntax.tyInt Syntax.w8)) 0) (List._∷_
+    (2, Rows'.sc-here (Row.sInt Syntax.w64)) (List._∷_ (3, EntryKind.local) (List._∷_ (4, Rows'.any-gone (Syntax.tyArray EntryKind.by-value 4096)) (List._∷_
+    (5, Rows'.any-gone type-Cutting) (List._∷_ (6, Rows'.any-gone (Syntax.tyInt Syntax.w64)) (List._∷_ (7, Rows'.any-gone EntryKind.by-value) (List._∷_
+    (8, Rows.arrF (Referent.rtF (Referent.fInt Syntax.w8)) 1 0) (List._∷_
+    (9, Rows'.any-gone (Syntax.tyRef Syntax.erased Syntax.mut (Syntax.tyArray EntryKind.pointee 4096))) (List._∷_ (10, Rows'.any-gone type-slice) (List._∷_
+    (11, Rows'.any-gone Syntax.tyUnit) (List._∷_ (12, Rows'.any-gone Syntax.tyBool) (List._∷_ (13, Rows'.any-gone (Syntax.tyInt Syntax.w64)) (List._∷_
+    (14, Rows'.any-gone Syntax.tyPtr) (List._∷_ (15, Rows'.any-gone Syntax.tyPtr) List.[])))))))))))))))
 
 abbrev pub t6 : List.List Row.Entry
-t6 = List._∷_ (0, Rows'.any-gone Syntax.tyUnit) (List._∷_ (
-  1,
-  Rows'.sslice (Referent.rtF (Referent.fInt Syntax.w8)) (Syntax.tyRef (Syntax.named 0) Syntax.imm
-      (Syntax.tyInt Syntax.w8)) 0,
-) (List._∷_ (2, Rows'.sc-here (Row.sInt Syntax.w64)) (List._∷_ (3, EntryKind.whole) (List._∷_ (
-  4,
-  Rows'.whole (Array'.Array
-      EntryKind.R 4096),
-) (List._∷_ (5, Rows'.any-gone ty-0) (List._∷_ (6, Rows'.any-gone (Syntax.tyInt Syntax.w64)) (List._∷_ (
-  7,
-  Rows'.any-gone
-      EntryKind.spelled,
-) (List._∷_ (8, Rows.arrF (Referent.rtF (Referent.fInt Syntax.w8)) 1 0) (List._∷_ (
-  9,
-  Rows'.any-gone (Syntax.tyRef Syntax.erased Syntax.mut
-      (Syntax.tyArray EntryKind.elem 4096)),
-) (List._∷_ (10, Rows'.any-gone ty-1) (List._∷_ (11, Rows'.any-gone Syntax.tyUnit) (List._∷_ (
-  12,
-  Rows'.any-gone
-      Syntax.tyBool,
-) (List._∷_ (13, Rows'.any-gone (Syntax.tyInt Syntax.w64)) (List._∷_ (14, Rows'.any-gone Syntax.tyPtr) (List._∷_ (
-  15,
-  Rows'.any-gone
-      Syntax.tyPtr,
-) List.[])))))))))))))))
+t6 = List._∷_ (0, Rows'.any-gone Syntax.tyUnit) (List._∷_
+    (1, Rows'.sslice (Referent.rtF (Referent.fInt Syntax.w8)) (Syntax.tyRef (Syntax.named 0) Syntax.imm (Syntax.tyInt Syntax.w8)) 0) (List._∷_
+    (2, Rows'.sc-here (Row.sInt Syntax.w64)) (List._∷_ (3, EntryKind.local) (List._∷_ (4, Rows'.whole (Array'.Array EntryKind.row 4096)) (List._∷_
+    (5, Rows'.any-gone type-Cutting) (List._∷_ (6, Rows'.any-gone (Syntax.tyInt Syntax.w64)) (List._∷_ (7, Rows'.any-gone EntryKind.by-value) (List._∷_
+    (8, Rows.arrF (Referent.rtF (Referent.fInt Syntax.w8)) 1 0) (List._∷_
+    (9, Rows'.any-gone (Syntax.tyRef Syntax.erased Syntax.mut (Syntax.tyArray EntryKind.pointee 4096))) (List._∷_ (10, Rows'.any-gone type-slice) (List._∷_
+    (11, Rows'.any-gone Syntax.tyUnit) (List._∷_ (12, Rows'.any-gone Syntax.tyBool) (List._∷_ (13, Rows'.any-gone (Syntax.tyInt Syntax.w64)) (List._∷_
+    (14, Rows'.any-gone Syntax.tyPtr) (List._∷_ (15, Rows'.any-gone Syntax.tyPtr) List.[])))))))))))))))
 
 abbrev pub t7 : List.List Row.Entry
-t7 = List._∷_ (0, Rows'.any-gone Syntax.tyUnit) (List._∷_ (
-  1,
-  Rows'.sslice (Referent.rtF (Referent.fInt Syntax.w8)) (Syntax.tyRef (Syntax.named 0) Syntax.imm
-      (Syntax.tyInt Syntax.w8)) 0,
-) (List._∷_ (2, Rows'.sc-here (Row.sInt Syntax.w64)) (List._∷_ (3, EntryKind.whole) (List._∷_ (4, Rows.arrF EntryKind.R 4096 0)
-    (List._∷_ (5, Rows'.any-gone ty-0) (List._∷_ (6, Rows'.any-gone (Syntax.tyInt Syntax.w64)) (List._∷_ (7, Rows'.any-gone EntryKind.spelled) (List._∷_ (
-      8,
-      Rows.arrF (Referent.rtF (Referent.fInt Syntax.w8)) 1 0,
-    ) (List._∷_ (
-      9,
-      Rows'.any-gone (Syntax.tyRef Syntax.erased Syntax.mut (Syntax.tyArray EntryKind.elem
-          4096)),
-    ) (List._∷_ (10, Rows'.any-gone ty-1) (List._∷_ (11, Rows'.any-gone Syntax.tyUnit) (List._∷_ (12, Rows'.any-gone Syntax.tyBool) (List._∷_ (
-      13,
-      Rows'.any-gone (Syntax.tyInt Syntax.w64),
-    ) (List._∷_ (14, Rows'.any-gone Syntax.tyPtr) (List._∷_ (15, Rows'.any-gone Syntax.tyPtr) List.[])))))))))))))))
+t7 = List._∷_ (0, Rows'.any-gone Syntax.tyUnit) (List._∷_
+    (1, Rows'.sslice (Referent.rtF (Referent.fInt Syntax.w8)) (Syntax.tyRef (Syntax.named 0) Syntax.imm (Syntax.tyInt Syntax.w8)) 0) (List._∷_
+    (2, Rows'.sc-here (Row.sInt Syntax.w64)) (List._∷_ (3, EntryKind.local) (List._∷_ (4, Rows.arrF EntryKind.row 4096 0) (List._∷_
+    (5, Rows'.any-gone type-Cutting) (List._∷_ (6, Rows'.any-gone (Syntax.tyInt Syntax.w64)) (List._∷_ (7, Rows'.any-gone EntryKind.by-value) (List._∷_
+    (8, Rows.arrF (Referent.rtF (Referent.fInt Syntax.w8)) 1 0) (List._∷_
+    (9, Rows'.any-gone (Syntax.tyRef Syntax.erased Syntax.mut (Syntax.tyArray EntryKind.pointee 4096))) (List._∷_ (10, Rows'.any-gone type-slice) (List._∷_
+    (11, Rows'.any-gone Syntax.tyUnit) (List._∷_ (12, Rows'.any-gone Syntax.tyBool) (List._∷_ (13, Rows'.any-gone (Syntax.tyInt Syntax.w64)) (List._∷_
+    (14, Rows'.any-gone Syntax.tyPtr) (List._∷_ (15, Rows'.any-gone Syntax.tyPtr) List.[])))))))))))))))
 
 abbrev pub t8 : List.List Row.Entry
-t8 = List._∷_ (0, Rows'.any-gone Syntax.tyUnit) (List._∷_ (
-  1,
-  Rows'.sslice (Referent.rtF (Referent.fInt Syntax.w8)) (Syntax.tyRef (Syntax.named 0) Syntax.imm
-      (Syntax.tyInt Syntax.w8)) 0,
-) (List._∷_ (2, Rows'.sc-here (Row.sInt Syntax.w64)) (List._∷_ (3, Rows'.any-gone EntryKind.spelled) (List._∷_ (
-  4,
-  Rows.arrF
-      EntryKind.R 4096 0,
-) (List._∷_ (5, Rows'.any-gone ty-0) (List._∷_ (6, Rows'.any-gone (Syntax.tyInt Syntax.w64)) (List._∷_ (
-  7,
-  Rows'.any-gone
-      EntryKind.spelled,
-) (List._∷_ (8, Rows.arrF (Referent.rtF (Referent.fInt Syntax.w8)) 1 0) (List._∷_ (
-  9,
-  Rows'.any-gone (Syntax.tyRef Syntax.erased Syntax.mut
-      (Syntax.tyArray EntryKind.elem 4096)),
-) (List._∷_ (10, Rows'.any-gone ty-1) (List._∷_ (11, Rows'.any-gone Syntax.tyUnit) (List._∷_ (
-  12,
-  Rows'.any-gone
-      Syntax.tyBool,
-) (List._∷_ (13, Rows'.any-gone (Syntax.tyInt Syntax.w64)) (List._∷_ (14, Rows'.any-gone Syntax.tyPtr) (List._∷_ (
-  15,
-  Rows'.any-gone
-      Syntax.tyPtr,
-) List.[])))))))))))))))
+t8 = List._∷_ (0, Rows'.any-gone Syntax.tyUnit) (List._∷_
+    (1, Rows'.sslice (Referent.rtF (Referent.fInt Syntax.w8)) (Syntax.tyRef (Syntax.named 0) Syntax.imm (Syntax.tyInt Syntax.w8)) 0) (List._∷_
+    (2, Rows'.sc-here (Row.sInt Syntax.w64)) (List._∷_ (3, Rows'.any-gone EntryKind.by-value) (List._∷_ (4, Rows.arrF EntryKind.row 4096 0) (List._∷_
+    (5, Rows'.any-gone type-Cutting) (List._∷_ (6, Rows'.any-gone (Syntax.tyInt Syntax.w64)) (List._∷_ (7, Rows'.any-gone EntryKind.by-value) (List._∷_
+    (8, Rows.arrF (Referent.rtF (Referent.fInt Syntax.w8)) 1 0) (List._∷_
+    (9, Rows'.any-gone (Syntax.tyRef Syntax.erased Syntax.mut (Syntax.tyArray EntryKind.pointee 4096))) (List._∷_ (10, Rows'.any-gone type-slice) (List._∷_
+    (11, Rows'.any-gone Syntax.tyUnit) (List._∷_ (12, Rows'.any-gone Syntax.tyBool) (List._∷_ (13, Rows'.any-gone (Syntax.tyInt Syntax.w64)) (List._∷_
+    (14, Rows'.any-gone Syntax.tyPtr) (List._∷_ (15, Rows'.any-gone Syntax.tyPtr) List.[])))))))))))))))
 
 abbrev pub t9 : List.List Row.Entry
-t9 = List._∷_ (0, Rows'.any-gone Syntax.tyUnit) (List._∷_ (
-  1,
-  Rows'.sslice (Referent.rtF (Referent.fInt Syntax.w8)) (Syntax.tyRef (Syntax.named 0) Syntax.imm
-      (Syntax.tyInt Syntax.w8)) 0,
-) (List._∷_ (2, Rows'.sc-here (Row.sInt Syntax.w64)) (List._∷_ (3, Rows'.any-gone EntryKind.spelled) (List._∷_ (
-  4,
-  Rows.arr-owedP
-      EntryKind.R 4096 1,
-) (List._∷_ (5, Rows'.any-gone ty-0) (List._∷_ (6, Rows'.any-gone (Syntax.tyInt Syntax.w64)) (List._∷_ (
-  7,
-  Rows'.any-gone
-      EntryKind.spelled,
-) (List._∷_ (8, Rows.arrF (Referent.rtF (Referent.fInt Syntax.w8)) 1 0) (List._∷_ (
-  9,
-  Relend.msptr EntryKind.R (Syntax.tyRef Syntax.erased
-      Syntax.mut (Syntax.tyArray EntryKind.elem 4096)) 1,
-) (List._∷_ (10, Rows'.any-gone ty-1) (List._∷_ (11, Rows'.any-gone Syntax.tyUnit) (List._∷_ (
-  12,
-  Rows'.any-gone Syntax.tyBool,
-) (List._∷_ (13, Rows'.any-gone (Syntax.tyInt Syntax.w64)) (List._∷_ (14, Rows'.any-gone Syntax.tyPtr) (List._∷_ (
-  15,
-  Rows'.any-gone Syntax.tyPtr,
-) List.[])))))))))))))))
+t9 = List._∷_ (0, Rows'.any-gone Syntax.tyUnit) (List._∷_
+    (1, Rows'.sslice (Referent.rtF (Referent.fInt Syntax.w8)) (Syntax.tyRef (Syntax.named 0) Syntax.imm (Syntax.tyInt Syntax.w8)) 0) (List._∷_
+    (2, Rows'.sc-here (Row.sInt Syntax.w64)) (List._∷_ (3, Rows'.any-gone EntryKind.by-value) (List._∷_ (4, Rows.arr-owedP EntryKind.row 4096 1) (List._∷_
+    (5, Rows'.any-gone type-Cutting) (List._∷_ (6, Rows'.any-gone (Syntax.tyInt Syntax.w64)) (List._∷_ (7, Rows'.any-gone EntryKind.by-value) (List._∷_
+    (8, Rows.arrF (Referent.rtF (Referent.fInt Syntax.w8)) 1 0) (List._∷_
+    (9, Relend.msptr EntryKind.row (Syntax.tyRef Syntax.erased Syntax.mut (Syntax.tyArray EntryKind.pointee 4096)) 1) (List._∷_ (10, Rows'.any-gone type-slice)
+    (List._∷_ (11, Rows'.any-gone Syntax.tyUnit) (List._∷_ (12, Rows'.any-gone Syntax.tyBool) (List._∷_ (13, Rows'.any-gone (Syntax.tyInt Syntax.w64)) (List._∷_
+    (14, Rows'.any-gone Syntax.tyPtr) (List._∷_ (15, Rows'.any-gone Syntax.tyPtr) List.[])))))))))))))))
 
 abbrev pub t10 : List.List Row.Entry
-t10 = List._∷_ (0, Rows'.any-gone Syntax.tyUnit) (List._∷_ (
-  1,
-  Rows'.sslice (Referent.rtF (Referent.fInt Syntax.w8)) (Syntax.tyRef (Syntax.named 0) Syntax.imm
-      (Syntax.tyInt Syntax.w8)) 0,
-) (List._∷_ (2, Rows'.sc-here (Row.sInt Syntax.w64)) (List._∷_ (3, Rows'.any-gone EntryKind.spelled) (List._∷_ (
-  4,
-  Rows.arr-owedP
-      EntryKind.R 4096 1,
-) (List._∷_ (5, Rows'.any-gone ty-0) (List._∷_ (6, Rows'.any-gone (Syntax.tyInt Syntax.w64)) (List._∷_ (
-  7,
-  Rows'.any-gone
-      EntryKind.spelled,
-) (List._∷_ (8, Rows.arrF (Referent.rtF (Referent.fInt Syntax.w8)) 1 0) (List._∷_ (
-  9,
-  Rows'.any-gone (Syntax.tyRef Syntax.erased Syntax.mut
-      (Syntax.tyArray EntryKind.elem 4096)),
-) (List._∷_ (10, Mut.mslice EntryKind.R (Syntax.tyRef Syntax.erased Syntax.mut EntryKind.elem) 1) (List._∷_ (
-  11,
-  Rows'.any-gone Syntax.tyUnit,
-) (List._∷_ (12, Rows'.any-gone Syntax.tyBool) (List._∷_ (13, Rows'.any-gone (Syntax.tyInt Syntax.w64)) (List._∷_ (
-  14,
-  Rows'.any-gone Syntax.tyPtr,
-) (List._∷_ (15, Rows'.any-gone Syntax.tyPtr) List.[])))))))))))))))
+t10 = List._∷_ (0, Rows'.any-gone Syntax.tyUnit) (List._∷_
+    (1, Rows'.sslice (Referent.rtF (Referent.fInt Syntax.w8)) (Syntax.tyRef (Syntax.named 0) Syntax.imm (Syntax.tyInt Syntax.w8)) 0) (List._∷_
+    (2, Rows'.sc-here (Row.sInt Syntax.w64)) (List._∷_ (3, Rows'.any-gone EntryKind.by-value) (List._∷_ (4, Rows.arr-owedP EntryKind.row 4096 1) (List._∷_
+    (5, Rows'.any-gone type-Cutting) (List._∷_ (6, Rows'.any-gone (Syntax.tyInt Syntax.w64)) (List._∷_ (7, Rows'.any-gone EntryKind.by-value) (List._∷_
+    (8, Rows.arrF (Referent.rtF (Referent.fInt Syntax.w8)) 1 0) (List._∷_
+    (9, Rows'.any-gone (Syntax.tyRef Syntax.erased Syntax.mut (Syntax.tyArray EntryKind.pointee 4096))) (List._∷_
+    (10, Mut.mslice EntryKind.row (Syntax.tyRef Syntax.erased Syntax.mut EntryKind.pointee) 1) (List._∷_ (11, Rows'.any-gone Syntax.tyUnit) (List._∷_
+    (12, Rows'.any-gone Syntax.tyBool) (List._∷_ (13, Rows'.any-gone (Syntax.tyInt Syntax.w64)) (List._∷_ (14, Rows'.any-gone Syntax.tyPtr) (List._∷_
+    (15, Rows'.any-gone Syntax.tyPtr) List.[])))))))))))))))
 
 abbrev pub t11 : List.List Row.Entry
-t11 = List._∷_ (0, Rows'.any-gone Syntax.tyUnit) (List._∷_ (
-  1,
-  Rows'.sslice (Referent.rtF (Referent.fInt Syntax.w8)) (Syntax.tyRef (Syntax.named 0) Syntax.imm
-      (Syntax.tyInt Syntax.w8)) 0,
-) (List._∷_ (2, Rows'.sc-here (Row.sInt Syntax.w64)) (List._∷_ (3, Rows'.any-gone EntryKind.spelled) (List._∷_ (
-  4,
-  Rows.arr-owedP
-      EntryKind.R 4096 1,
-) (List._∷_ (5, Rows'.whole (Declared.row Cutting.the-type)) (List._∷_ (6, Rows'.any-gone (Syntax.tyInt Syntax.w64)) (List._∷_ (
-  7,
-  Rows'.any-gone EntryKind.spelled,
-) (List._∷_ (8, Rows.arrF (Referent.rtF (Referent.fInt Syntax.w8)) 1 0) (List._∷_ (
-  9,
-  Rows'.any-gone (Syntax.tyRef
-      Syntax.erased Syntax.mut (Syntax.tyArray EntryKind.elem 4096)),
-) (List._∷_ (
-  10,
-  Mut.msleft EntryKind.R (Syntax.tyRef Syntax.erased Syntax.mut
-      EntryKind.elem),
-) (List._∷_ (11, Rows'.any-gone Syntax.tyUnit) (List._∷_ (12, Rows'.any-gone Syntax.tyBool) (List._∷_ (
-  13,
-  Rows'.any-gone (Syntax.tyInt
-      Syntax.w64),
-) (List._∷_ (14, Rows'.any-gone Syntax.tyPtr) (List._∷_ (15, Rows'.any-gone Syntax.tyPtr) List.[])))))))))))))))
+t11 = List._∷_ (0, Rows'.any-gone Syntax.tyUnit) (List._∷_
+    (1, Rows'.sslice (Referent.rtF (Referent.fInt Syntax.w8)) (Syntax.tyRef (Syntax.named 0) Syntax.imm (Syntax.tyInt Syntax.w8)) 0) (List._∷_
+    (2, Rows'.sc-here (Row.sInt Syntax.w64)) (List._∷_ (3, Rows'.any-gone EntryKind.by-value) (List._∷_ (4, Rows.arr-owedP EntryKind.row 4096 1) (List._∷_
+    (5, Rows'.whole (Declared.row Cutting.the-type)) (List._∷_ (6, Rows'.any-gone (Syntax.tyInt Syntax.w64)) (List._∷_ (7, Rows'.any-gone EntryKind.by-value)
+    (List._∷_ (8, Rows.arrF (Referent.rtF (Referent.fInt Syntax.w8)) 1 0) (List._∷_
+    (9, Rows'.any-gone (Syntax.tyRef Syntax.erased Syntax.mut (Syntax.tyArray EntryKind.pointee 4096))) (List._∷_
+    (10, Mut.msleft EntryKind.row (Syntax.tyRef Syntax.erased Syntax.mut EntryKind.pointee)) (List._∷_ (11, Rows'.any-gone Syntax.tyUnit) (List._∷_
+    (12, Rows'.any-gone Syntax.tyBool) (List._∷_ (13, Rows'.any-gone (Syntax.tyInt Syntax.w64)) (List._∷_ (14, Rows'.any-gone Syntax.tyPtr) (List._∷_
+    (15, Rows'.any-gone Syntax.tyPtr) List.[])))))))))))))))
 
 abbrev pub t12 : List.List Row.Entry
-t12 = List._∷_ (0, Rows'.any-gone Syntax.tyUnit) (List._∷_ (
-  1,
-  Rows'.sslice (Referent.rtF (Referent.fInt Syntax.w8)) (Syntax.tyRef (Syntax.named 0) Syntax.imm
-      (Syntax.tyInt Syntax.w8)) 0,
-) (List._∷_ (2, Rows'.sc-here (Row.sInt Syntax.w64)) (List._∷_ (3, Rows'.any-gone EntryKind.spelled) (List._∷_ (
-  4,
-  Rows.arrF
-      EntryKind.R 4096 0,
-) (List._∷_ (5, Rows'.whole (Declared.row Cutting.the-type)) (List._∷_ (6, Rows'.any-gone (Syntax.tyInt Syntax.w64)) (List._∷_ (
-  7,
-  Rows'.any-gone EntryKind.spelled,
-) (List._∷_ (8, Rows.arrF (Referent.rtF (Referent.fInt Syntax.w8)) 1 0) (List._∷_ (
-  9,
-  Rows'.any-gone (Syntax.tyRef
-      Syntax.erased Syntax.mut (Syntax.tyArray EntryKind.elem 4096)),
-) (List._∷_ (10, Rows'.any-gone ty-1) (List._∷_ (11, Rows'.any-gone Syntax.tyUnit) (List._∷_
-    (12, Rows'.any-gone Syntax.tyBool) (List._∷_ (13, Rows'.any-gone (Syntax.tyInt Syntax.w64)) (List._∷_ (14, Rows'.any-gone Syntax.tyPtr) (List._∷_ (
-      15,
-      Rows'.any-gone Syntax.tyPtr,
-    ) List.[])))))))))))))))
+t12 = List._∷_ (0, Rows'.any-gone Syntax.tyUnit) (List._∷_
+    (1, Rows'.sslice (Referent.rtF (Referent.fInt Syntax.w8)) (Syntax.tyRef (Syntax.named 0) Syntax.imm (Syntax.tyInt Syntax.w8)) 0) (List._∷_
+    (2, Rows'.sc-here (Row.sInt Syntax.w64)) (List._∷_ (3, Rows'.any-gone EntryKind.by-value) (List._∷_ (4, Rows.arrF EntryKind.row 4096 0) (List._∷_
+    (5, Rows'.whole (Declared.row Cutting.the-type)) (List._∷_ (6, Rows'.any-gone (Syntax.tyInt Syntax.w64)) (List._∷_ (7, Rows'.any-gone EntryKind.by-value)
+    (List._∷_ (8, Rows.arrF (Referent.rtF (Referent.fInt Syntax.w8)) 1 0) (List._∷_
+    (9, Rows'.any-gone (Syntax.tyRef Syntax.erased Syntax.mut (Syntax.tyArray EntryKind.pointee 4096))) (List._∷_ (10, Rows'.any-gone type-slice) (List._∷_
+    (11, Rows'.any-gone Syntax.tyUnit) (List._∷_ (12, Rows'.any-gone Syntax.tyBool) (List._∷_ (13, Rows'.any-gone (Syntax.tyInt Syntax.w64)) (List._∷_
+    (14, Rows'.any-gone Syntax.tyPtr) (List._∷_ (15, Rows'.any-gone Syntax.tyPtr) List.[])))))))))))))))
 
 abbrev pub t13 : List.List Row.Entry
-t13 = List._∷_ (0, Rows'.any-gone Syntax.tyUnit) (List._∷_ (
-  1,
-  Rows'.sslice (Referent.rtF (Referent.fInt Syntax.w8)) (Syntax.tyRef (Syntax.named 0) Syntax.imm
-      (Syntax.tyInt Syntax.w8)) 0,
-) (List._∷_ (2, Rows'.sc-here (Row.sInt Syntax.w64)) (List._∷_ (3, Rows'.any-gone EntryKind.spelled) (List._∷_ (
-  4,
-  Rows.arrF
-      EntryKind.R 4096 0,
-) (List._∷_ (5, Rows'.whole (Declared.row Cutting.the-type)) (List._∷_ (6, Rows'.any-gone (Syntax.tyInt Syntax.w64)) (List._∷_ (
-  7,
-  Rows'.any-gone EntryKind.spelled,
-) (List._∷_ (8, Rows.arrF (Referent.rtF (Referent.fInt Syntax.w8)) 1 0) (List._∷_ (
-  9,
-  Rows'.any-gone (Syntax.tyRef
-      Syntax.erased Syntax.mut (Syntax.tyArray EntryKind.elem 4096)),
-) (List._∷_ (10, Rows'.any-gone ty-1) (List._∷_ (11, Rows'.sc-here Row.sUnit) (List._∷_ (
-  12,
-  Rows'.any-gone Syntax.tyBool,
-) (List._∷_ (13, Rows'.any-gone (Syntax.tyInt Syntax.w64)) (List._∷_ (14, Rows'.any-gone Syntax.tyPtr) (List._∷_ (
-  15,
-  Rows'.any-gone Syntax.tyPtr,
-) List.[])))))))))))))))
+t13 = List._∷_ (0, Rows'.any-gone Syntax.tyUnit) (List._∷_
+    (1, Rows'.sslice (Referent.rtF (Referent.fInt Syntax.w8)) (Syntax.tyRef (Syntax.named 0) Syntax.imm (Syntax.tyInt Syntax.w8)) 0) (List._∷_
+    (2, Rows'.sc-here (Row.sInt Syntax.w64)) (List._∷_ (3, Rows'.any-gone EntryKind.by-value) (List._∷_ (4, Rows.arrF EntryKind.row 4096 0) (List._∷_
+    (5, Rows'.whole (Declared.row Cutting.the-type)) (List._∷_ (6, Rows'.any-gone (Syntax.tyInt Syntax.w64)) (List._∷_ (7, Rows'.any-gone EntryKind.by-value)
+    (List._∷_ (8, Rows.arrF (Referent.rtF (Referent.fInt Syntax.w8)) 1 0) (List._∷_
+    (9, Rows'.any-gone (Syntax.tyRef Syntax.erased Syntax.mut (Syntax.tyArray EntryKind.pointee 4096))) (List._∷_ (10, Rows'.any-gone type-slice) (List._∷_
+    (11, Rows'.sc-here Row.sUnit) (List._∷_ (12, Rows'.any-gone Syntax.tyBool) (List._∷_ (13, Rows'.any-gone (Syntax.tyInt Syntax.w64)) (List._∷_
+    (14, Rows'.any-gone Syntax.tyPtr) (List._∷_ (15, Rows'.any-gone Syntax.tyPtr) List.[])))))))))))))))
 
 abbrev pub t14 : List.List Row.Entry
-t14 = List._∷_ (0, Rows'.any-gone Syntax.tyUnit) (List._∷_ (
-  1,
-  Rows'.sslice (Referent.rtF (Referent.fInt Syntax.w8)) (Syntax.tyRef (Syntax.named 0) Syntax.imm
-      (Syntax.tyInt Syntax.w8)) 0,
-) (List._∷_ (2, Rows'.sc-here (Row.sInt Syntax.w64)) (List._∷_ (3, Rows'.any-gone EntryKind.spelled) (List._∷_ (
-  4,
-  Rows.arrF
-      EntryKind.R 4096 0,
-) (List._∷_ (5, Rows'.any-gone ty-0) (List._∷_ (6, Rows'.any-gone (Syntax.tyInt Syntax.w64)) (List._∷_ (
-  7,
-  Rows'.any-gone
-      EntryKind.spelled,
-) (List._∷_ (8, Rows.arrF (Referent.rtF (Referent.fInt Syntax.w8)) 1 0) (List._∷_ (
-  9,
-  Rows'.any-gone (Syntax.tyRef Syntax.erased Syntax.mut
-      (Syntax.tyArray EntryKind.elem 4096)),
-) (List._∷_ (10, Rows'.any-gone ty-1) (List._∷_ (11, Rows'.sc-here Row.sUnit) (List._∷_ (
-  12,
-  Rows'.any-gone
-      Syntax.tyBool,
-) (List._∷_ (13, Rows'.any-gone (Syntax.tyInt Syntax.w64)) (List._∷_ (14, Rows'.any-gone Syntax.tyPtr) (List._∷_ (
-  15,
-  Rows'.any-gone
-      Syntax.tyPtr,
-) List.[])))))))))))))))
+t14 = List._∷_ (0, Rows'.any-gone Syntax.tyUnit) (List._∷_
+    (1, Rows'.sslice (Referent.rtF (Referent.fInt Syntax.w8)) (Syntax.tyRef (Syntax.named 0) Syntax.imm (Syntax.tyInt Syntax.w8)) 0) (List._∷_
+    (2, Rows'.sc-here (Row.sInt Syntax.w64)) (List._∷_ (3, Rows'.any-gone EntryKind.by-value) (List._∷_ (4, Rows.arrF EntryKind.row 4096 0) (List._∷_
+    (5, Rows'.any-gone type-Cutting) (List._∷_ (6, Rows'.any-gone (Syntax.tyInt Syntax.w64)) (List._∷_ (7, Rows'.any-gone EntryKind.by-value) (List._∷_
+    (8, Rows.arrF (Referent.rtF (Referent.fInt Syntax.w8)) 1 0) (List._∷_
+    (9, Rows'.any-gone (Syntax.tyRef Syntax.erased Syntax.mut (Syntax.tyArray EntryKind.pointee 4096))) (List._∷_ (10, Rows'.any-gone type-slice) (List._∷_
+    (11, Rows'.sc-here Row.sUnit) (List._∷_ (12, Rows'.any-gone Syntax.tyBool) (List._∷_ (13, Rows'.any-gone (Syntax.tyInt Syntax.w64)) (List._∷_
+    (14, Rows'.any-gone Syntax.tyPtr) (List._∷_ (15, Rows'.any-gone Syntax.tyPtr) List.[])))))))))))))))
 
 abbrev pub t15 : List.List Row.Entry
-t15 = List._∷_ (0, Rows'.any-gone Syntax.tyUnit) (List._∷_ (
-  1,
-  Rows'.sslice (Referent.rtF (Referent.fInt Syntax.w8)) (Syntax.tyRef (Syntax.named 0) Syntax.imm
-      (Syntax.tyInt Syntax.w8)) 0,
-) (List._∷_ (2, Rows'.sc-here (Row.sInt Syntax.w64)) (List._∷_ (3, Rows'.any-gone EntryKind.spelled) (List._∷_ (
-  4,
-  Rows.arrF
-      EntryKind.R 4096 0,
-) (List._∷_ (5, Rows'.any-gone ty-0) (List._∷_ (6, Rows'.sc-here (Row.sInt Syntax.w64)) (List._∷_ (7, Rows'.any-gone EntryKind.spelled)
-    (List._∷_ (8, Rows.arrF (Referent.rtF (Referent.fInt Syntax.w8)) 1 0) (List._∷_ (
-      9,
-      Rows'.any-gone (Syntax.tyRef Syntax.erased Syntax.mut (Syntax.tyArray
-          EntryKind.elem 4096)),
-    ) (List._∷_ (10, Rows'.any-gone ty-1) (List._∷_ (11, Rows'.any-gone Syntax.tyUnit) (List._∷_ (12, Rows'.any-gone Syntax.tyBool)
-    (List._∷_ (13, Rows'.any-gone (Syntax.tyInt Syntax.w64)) (List._∷_ (14, Rows'.any-gone Syntax.tyPtr) (List._∷_ (15, Rows'.any-gone Syntax.tyPtr)
-    List.[])))))))))))))))
+t15 = List._∷_ (0, Rows'.any-gone Syntax.tyUnit) (List._∷_
+    (1, Rows'.sslice (Referent.rtF (Referent.fInt Syntax.w8)) (Syntax.tyRef (Syntax.named 0) Syntax.imm (Syntax.tyInt Syntax.w8)) 0) (List._∷_
+    (2, Rows'.sc-here (Row.sInt Syntax.w64)) (List._∷_ (3, Rows'.any-gone EntryKind.by-value) (List._∷_ (4, Rows.arrF EntryKind.row 4096 0) (List._∷_
+    (5, Rows'.any-gone type-Cutting) (List._∷_ (6, Rows'.sc-here (Row.sInt Syntax.w64)) (List._∷_ (7, Rows'.any-gone EntryKind.by-value) (List._∷_
+    (8, Rows.arrF (Referent.rtF (Referent.fInt Syntax.w8)) 1 0) (List._∷_
+    (9, Rows'.any-gone (Syntax.tyRef Syntax.erased Syntax.mut (Syntax.tyArray EntryKind.pointee 4096))) (List._∷_ (10, Rows'.any-gone type-slice) (List._∷_
+    (11, Rows'.any-gone Syntax.tyUnit) (List._∷_ (12, Rows'.any-gone Syntax.tyBool) (List._∷_ (13, Rows'.any-gone (Syntax.tyInt Syntax.w64)) (List._∷_
+    (14, Rows'.any-gone Syntax.tyPtr) (List._∷_ (15, Rows'.any-gone Syntax.tyPtr) List.[])))))))))))))))
 
 abbrev pub t16 : List.List Row.Entry
-t16 = List._∷_ (0, Rows'.any-gone Syntax.tyUnit) (List._∷_ (
-  1,
-  Rows'.sslice (Referent.rtF (Referent.fInt Syntax.w8)) (Syntax.tyRef (Syntax.named 0) Syntax.imm
-      (Syntax.tyInt Syntax.w8)) 0,
-) (List._∷_ (2, Rows'.sc-here (Row.sInt Syntax.w64)) (List._∷_ (3, Rows'.any-gone EntryKind.spelled) (List._∷_ (
-  4,
-  Rows'.any-gone
-      (Syntax.tyArray EntryKind.spelled 4096),
-) (List._∷_ (5, Rows'.any-gone ty-0) (List._∷_ (6, Rows'.sc-here (Row.sInt Syntax.w64)) (List._∷_ (
-  7,
-  Rows'.any-gone
-      EntryKind.spelled,
-) (List._∷_ (8, Rows.arrF (Referent.rtF (Referent.fInt Syntax.w8)) 1 0) (List._∷_ (
-  9,
-  Rows'.any-gone (Syntax.tyRef Syntax.erased Syntax.mut
-      (Syntax.tyArray EntryKind.elem 4096)),
-) (List._∷_ (10, Rows'.any-gone ty-1) (List._∷_ (11, Rows'.any-gone Syntax.tyUnit) (List._∷_ (
-  12,
-  Rows'.any-gone
-      Syntax.tyBool,
-) (List._∷_ (13, Rows'.any-gone (Syntax.tyInt Syntax.w64)) (List._∷_ (14, Rows'.any-gone Syntax.tyPtr) (List._∷_ (
-  15,
-  Rows'.any-gone
-      Syntax.tyPtr,
-) List.[])))))))))))))))
+t16 = List._∷_ (0, Rows'.any-gone Syntax.tyUnit) (List._∷_
+    (1, Rows'.sslice (Referent.rtF (Referent.fInt Syntax.w8)) (Syntax.tyRef (Syntax.named 0) Syntax.imm (Syntax.tyInt Syntax.w8)) 0) (List._∷_
+    (2, Rows'.sc-here (Row.sInt Syntax.w64)) (List._∷_ (3, Rows'.any-gone EntryKind.by-value) (List._∷_
+    (4, Rows'.any-gone (Syntax.tyArray EntryKind.by-value 4096)) (List._∷_ (5, Rows'.any-gone type-Cutting) (List._∷_ (6, Rows'.sc-here (Row.sInt Syntax.w64))
+    (List._∷_ (7, Rows'.any-gone EntryKind.by-value) (List._∷_ (8, Rows.arrF (Referent.rtF (Referent.fInt Syntax.w8)) 1 0) (List._∷_
+    (9, Rows'.any-gone (Syntax.tyRef Syntax.erased Syntax.mut (Syntax.tyArray EntryKind.pointee 4096))) (List._∷_ (10, Rows'.any-gone type-slice) (List._∷_
+    (11, Rows'.any-gone Syntax.tyUnit) (List._∷_ (12, Rows'.any-gone Syntax.tyBool) (List._∷_ (13, Rows'.any-gone (Syntax.tyInt Syntax.w64)) (List._∷_
+    (14, Rows'.any-gone Syntax.tyPtr) (List._∷_ (15, Rows'.any-gone Syntax.tyPtr) List.[])))))))))))))))
 
 abbrev pub t17 : List.List Row.Entry
-t17 = List._∷_ (0, Rows'.any-gone Syntax.tyUnit) (List._∷_ (
-  1,
-  Rows'.sslice (Referent.rtF (Referent.fInt Syntax.w8)) (Syntax.tyRef (Syntax.named 0) Syntax.imm
-      (Syntax.tyInt Syntax.w8)) 0,
-) (List._∷_ (2, Rows'.sc-here (Row.sInt Syntax.w64)) (List._∷_ (3, Rows'.any-gone EntryKind.spelled) (List._∷_ (
-  4,
-  Rows.arrF
-      EntryKind.R 4096 0,
-) (List._∷_ (5, Rows'.any-gone ty-0) (List._∷_ (6, Rows'.sc-here (Row.sInt Syntax.w64)) (List._∷_ (7, Rows'.any-gone EntryKind.spelled)
-    (List._∷_ (8, Rows.arrF (Referent.rtF (Referent.fInt Syntax.w8)) 1 0) (List._∷_ (
-      9,
-      Rows'.any-gone (Syntax.tyRef Syntax.erased Syntax.mut (Syntax.tyArray
-          EntryKind.elem 4096)),
-    ) (List._∷_ (10, Rows'.any-gone ty-1) (List._∷_ (11, Rows'.any-gone Syntax.tyUnit) (List._∷_ (12, Rows'.sc-here Row.sBool) (List._∷_
-    (13, Rows'.any-gone (Syntax.tyInt Syntax.w64)) (List._∷_ (14, Rows'.any-gone Syntax.tyPtr) (List._∷_ (15, Rows'.any-gone Syntax.tyPtr)
-    List.[])))))))))))))))
+t17 = List._∷_ (0, Rows'.any-gone Syntax.tyUnit) (List._∷_
+    (1, Rows'.sslice (Referent.rtF (Referent.fInt Syntax.w8)) (Syntax.tyRef (Syntax.named 0) Syntax.imm (Syntax.tyInt Syntax.w8)) 0) (List._∷_
+    (2, Rows'.sc-here (Row.sInt Syntax.w64)) (List._∷_ (3, Rows'.any-gone EntryKind.by-value) (List._∷_ (4, Rows.arrF EntryKind.row 4096 0) (List._∷_
+    (5, Rows'.any-gone type-Cutting) (List._∷_ (6, Rows'.sc-here (Row.sInt Syntax.w64)) (List._∷_ (7, Rows'.any-gone EntryKind.by-value) (List._∷_
+    (8, Rows.arrF (Referent.rtF (Referent.fInt Syntax.w8)) 1 0) (List._∷_
+    (9, Rows'.any-gone (Syntax.tyRef Syntax.erased Syntax.mut (Syntax.tyArray EntryKind.pointee 4096))) (List._∷_ (10, Rows'.any-gone type-slice) (List._∷_
+    (11, Rows'.any-gone Syntax.tyUnit) (List._∷_ (12, Rows'.sc-here Row.sBool) (List._∷_ (13, Rows'.any-gone (Syntax.tyInt Syntax.w64)) (List._∷_
+    (14, Rows'.any-gone Syntax.tyPtr) (List._∷_ (15, Rows'.any-gone Syntax.tyPtr) List.[])))))))))))))))
 
 abbrev pub t18 : List.List Row.Entry
-t18 = List._∷_ (0, Rows'.any-gone Syntax.tyUnit) (List._∷_ (
-  1,
-  Rows'.sslice (Referent.rtF (Referent.fInt Syntax.w8)) (Syntax.tyRef (Syntax.named 0) Syntax.imm
-      (Syntax.tyInt Syntax.w8)) 0,
-) (List._∷_ (2, Rows'.sc-here (Row.sInt Syntax.w64)) (List._∷_ (3, Rows'.any-gone EntryKind.spelled) (List._∷_ (
-  4,
-  Rows'.any-gone
-      (Syntax.tyArray EntryKind.spelled 4096),
-) (List._∷_ (5, Rows'.any-gone ty-0) (List._∷_ (6, Rows'.sc-here (Row.sInt Syntax.w64)) (List._∷_ (
-  7,
-  Rows'.any-gone
-      EntryKind.spelled,
-) (List._∷_ (8, Rows.arrF (Referent.rtF (Referent.fInt Syntax.w8)) 1 0) (List._∷_ (
-  9,
-  Rows'.any-gone (Syntax.tyRef Syntax.erased Syntax.mut
-      (Syntax.tyArray EntryKind.elem 4096)),
-) (List._∷_ (10, Rows'.any-gone ty-1) (List._∷_ (11, Rows'.any-gone Syntax.tyUnit) (List._∷_ (
-  12,
-  Rows'.sc-here
-      Row.sBool,
-) (List._∷_ (13, Rows'.any-gone (Syntax.tyInt Syntax.w64)) (List._∷_ (14, Rows'.any-gone Syntax.tyPtr) (List._∷_ (15, Rows'.any-gone Syntax.tyPtr)
-    List.[])))))))))))))))
+t18 = List._∷_ (0, Rows'.any-gone Syntax.tyUnit) (List._∷_
+    (1, Rows'.sslice (Referent.rtF (Referent.fInt Syntax.w8)) (Syntax.tyRef (Syntax.named 0) Syntax.imm (Syntax.tyInt Syntax.w8)) 0) (List._∷_
+    (2, Rows'.sc-here (Row.sInt Syntax.w64)) (List._∷_ (3, Rows'.any-gone EntryKind.by-value) (List._∷_
+    (4, Rows'.any-gone (Syntax.tyArray EntryKind.by-value 4096)) (List._∷_ (5, Rows'.any-gone type-Cutting) (List._∷_ (6, Rows'.sc-here (Row.sInt Syntax.w64))
+    (List._∷_ (7, Rows'.any-gone EntryKind.by-value) (List._∷_ (8, Rows.arrF (Referent.rtF (Referent.fInt Syntax.w8)) 1 0) (List._∷_
+    (9, Rows'.any-gone (Syntax.tyRef Syntax.erased Syntax.mut (Syntax.tyArray EntryKind.pointee 4096))) (List._∷_ (10, Rows'.any-gone type-slice) (List._∷_
+    (11, Rows'.any-gone Syntax.tyUnit) (List._∷_ (12, Rows'.sc-here Row.sBool) (List._∷_ (13, Rows'.any-gone (Syntax.tyInt Syntax.w64)) (List._∷_
+    (14, Rows'.any-gone Syntax.tyPtr) (List._∷_ (15, Rows'.any-gone Syntax.tyPtr) List.[])))))))))))))))
 
 abbrev pub t19 : List.List Row.Entry
-t19 = List._∷_ (0, Rows'.any-gone Syntax.tyUnit) (List._∷_ (
-  1,
-  Rows'.sslice (Referent.rtF (Referent.fInt Syntax.w8)) (Syntax.tyRef (Syntax.named 0) Syntax.imm
-      (Syntax.tyInt Syntax.w8)) 0,
-) (List._∷_ (2, Rows'.sc-here (Row.sInt Syntax.w64)) (List._∷_ (3, Rows'.any-gone EntryKind.spelled) (List._∷_ (
-  4,
-  Rows.arrF
-      EntryKind.R 4096 0,
-) (List._∷_ (5, Rows'.any-gone ty-0) (List._∷_ (6, Rows'.sc-here (Row.sInt Syntax.w64)) (List._∷_ (7, Rows'.any-gone EntryKind.spelled)
-    (List._∷_ (8, Rows.arrF (Referent.rtF (Referent.fInt Syntax.w8)) 1 0) (List._∷_ (
-      9,
-      Rows'.any-gone (Syntax.tyRef Syntax.erased Syntax.mut (Syntax.tyArray
-          EntryKind.elem 4096)),
-    ) (List._∷_ (10, Rows'.any-gone ty-1) (List._∷_ (11, Rows'.any-gone Syntax.tyUnit) (List._∷_ (12, Rows'.any-gone Syntax.tyBool)
-    (List._∷_ (13, Rows'.sc-here (Row.sInt Syntax.w64)) (List._∷_ (14, Rows'.any-gone Syntax.tyPtr) (List._∷_ (15, Rows'.any-gone Syntax.tyPtr)
-    List.[])))))))))))))))
+t19 = List._∷_ (0, Rows'.any-gone Syntax.tyUnit) (List._∷_
+    (1, Rows'.sslice (Referent.rtF (Referent.fInt Syntax.w8)) (Syntax.tyRef (Syntax.named 0) Syntax.imm (Syntax.tyInt Syntax.w8)) 0) (List._∷_
+    (2, Rows'.sc-here (Row.sInt Syntax.w64)) (List._∷_ (3, Rows'.any-gone EntryKind.by-value) (List._∷_ (4, Rows.arrF EntryKind.row 4096 0) (List._∷_
+    (5, Rows'.any-gone type-Cutting) (List._∷_ (6, Rows'.sc-here (Row.sInt Syntax.w64)) (List._∷_ (7, Rows'.any-gone EntryKind.by-value) (List._∷_
+    (8, Rows.arrF (Referent.rtF (Referent.fInt Syntax.w8)) 1 0) (List._∷_
+    (9, Rows'.any-gone (Syntax.tyRef Syntax.erased Syntax.mut (Syntax.tyArray EntryKind.pointee 4096))) (List._∷_ (10, Rows'.any-gone type-slice) (List._∷_
+    (11, Rows'.any-gone Syntax.tyUnit) (List._∷_ (12, Rows'.any-gone Syntax.tyBool) (List._∷_ (13, Rows'.sc-here (Row.sInt Syntax.w64)) (List._∷_
+    (14, Rows'.any-gone Syntax.tyPtr) (List._∷_ (15, Rows'.any-gone Syntax.tyPtr) List.[])))))))))))))))
 
 abbrev pub t20 : List.List Row.Entry
-t20 = List._∷_ (0, Rows'.any-gone Syntax.tyUnit) (List._∷_ (
-  1,
-  Rows'.sslice (Referent.rtF (Referent.fInt Syntax.w8)) (Syntax.tyRef (Syntax.named 0) Syntax.imm
-      (Syntax.tyInt Syntax.w8)) 0,
-) (List._∷_ (2, Rows'.sc-here (Row.sInt Syntax.w64)) (List._∷_ (3, Rows'.any-gone EntryKind.spelled) (List._∷_ (
-  4,
-  Rows.arrF
-      EntryKind.R 4096 0,
-) (List._∷_ (5, Rows'.any-gone ty-0) (List._∷_ (6, Rows'.sc-here (Row.sInt Syntax.w64)) (List._∷_ (7, Rows'.any-gone EntryKind.spelled)
-    (List._∷_ (8, Rows.arrF (Referent.rtF (Referent.fInt Syntax.w8)) 1 0) (List._∷_ (
-      9,
-      Rows'.any-gone (Syntax.tyRef Syntax.erased Syntax.mut (Syntax.tyArray
-          EntryKind.elem 4096)),
-    ) (List._∷_ (10, Rows'.any-gone ty-1) (List._∷_ (11, Rows'.any-gone Syntax.tyUnit) (List._∷_ (12, Rows'.any-gone Syntax.tyBool)
-    (List._∷_ (13, Rows'.sc-here (Row.sInt Syntax.w64)) (List._∷_ (14, Rows'.sc-here Row.sPtr) (List._∷_ (15, Rows'.any-gone Syntax.tyPtr)
-    List.[])))))))))))))))
+t20 = List._∷_ (0, Rows'.any-gone Syntax.tyUnit) (List._∷_
+    (1, Rows'.sslice (Referent.rtF (Referent.fInt Syntax.w8)) (Syntax.tyRef (Syntax.named 0) Syntax.imm (Syntax.tyInt Syntax.w8)) 0) (List._∷_
+    (2, Rows'.sc-here (Row.sInt Syntax.w64)) (List._∷_ (3, Rows'.any-gone EntryKind.by-value) (List._∷_ (4, Rows.arrF EntryKind.row 4096 0) (List._∷_
+    (5, Rows'.any-gone type-Cutting) (List._∷_ (6, Rows'.sc-here (Row.sInt Syntax.w64)) (List._∷_ (7, Rows'.any-gone EntryKind.by-value) (List._∷_
+    (8, Rows.arrF (Referent.rtF (Referent.fInt Syntax.w8)) 1 0) (List._∷_
+    (9, Rows'.any-gone (Syntax.tyRef Syntax.erased Syntax.mut (Syntax.tyArray EntryKind.pointee 4096))) (List._∷_ (10, Rows'.any-gone type-slice) (List._∷_
+    (11, Rows'.any-gone Syntax.tyUnit) (List._∷_ (12, Rows'.any-gone Syntax.tyBool) (List._∷_ (13, Rows'.sc-here (Row.sInt Syntax.w64)) (List._∷_
+    (14, Rows'.sc-here Row.sPtr) (List._∷_ (15, Rows'.any-gone Syntax.tyPtr) List.[])))))))))))))))
 
 abbrev pub t21 : List.List Row.Entry
-t21 = List._∷_ (0, Rows'.any-gone Syntax.tyUnit) (List._∷_ (
-  1,
-  Rows'.sslice (Referent.rtF (Referent.fInt Syntax.w8)) (Syntax.tyRef (Syntax.named 0) Syntax.imm
-      (Syntax.tyInt Syntax.w8)) 0,
-) (List._∷_ (2, Rows'.sc-here (Row.sInt Syntax.w64)) (List._∷_ (3, Rows'.any-gone EntryKind.spelled) (List._∷_ (
-  4,
-  Rows.arrF
-      EntryKind.R 4096 0,
-) (List._∷_ (5, Rows'.any-gone ty-0) (List._∷_ (6, Rows'.sc-here (Row.sInt Syntax.w64)) (List._∷_ (7, Rows'.any-gone EntryKind.spelled)
-    (List._∷_ (8, Rows.arrF (Referent.rtF (Referent.fInt Syntax.w8)) 1 0) (List._∷_ (
-      9,
-      Rows'.any-gone (Syntax.tyRef Syntax.erased Syntax.mut (Syntax.tyArray
-          EntryKind.elem 4096)),
-    ) (List._∷_ (10, Rows'.any-gone ty-1) (List._∷_ (11, Rows'.any-gone Syntax.tyUnit) (List._∷_ (12, Rows'.any-gone Syntax.tyBool)
-    (List._∷_ (13, Rows'.sc-here (Row.sInt Syntax.w64)) (List._∷_ (14, Rows'.sc-here Row.sPtr) (List._∷_ (15, Rows'.sc-here Row.sPtr) List.[])))))))))))))))
+t21 = List._∷_ (0, Rows'.any-gone Syntax.tyUnit) (List._∷_
+    (1, Rows'.sslice (Referent.rtF (Referent.fInt Syntax.w8)) (Syntax.tyRef (Syntax.named 0) Syntax.imm (Syntax.tyInt Syntax.w8)) 0) (List._∷_
+    (2, Rows'.sc-here (Row.sInt Syntax.w64)) (List._∷_ (3, Rows'.any-gone EntryKind.by-value) (List._∷_ (4, Rows.arrF EntryKind.row 4096 0) (List._∷_
+    (5, Rows'.any-gone type-Cutting) (List._∷_ (6, Rows'.sc-here (Row.sInt Syntax.w64)) (List._∷_ (7, Rows'.any-gone EntryKind.by-value) (List._∷_
+    (8, Rows.arrF (Referent.rtF (Referent.fInt Syntax.w8)) 1 0) (List._∷_
+    (9, Rows'.any-gone (Syntax.tyRef Syntax.erased Syntax.mut (Syntax.tyArray EntryKind.pointee 4096))) (List._∷_ (10, Rows'.any-gone type-slice) (List._∷_
+    (11, Rows'.any-gone Syntax.tyUnit) (List._∷_ (12, Rows'.any-gone Syntax.tyBool) (List._∷_ (13, Rows'.sc-here (Row.sInt Syntax.w64)) (List._∷_
+    (14, Rows'.sc-here Row.sPtr) (List._∷_ (15, Rows'.sc-here Row.sPtr) List.[])))))))))))))))
 
 abbrev pub t22 : List.List Row.Entry
-t22 = List._∷_ (0, Rows'.any-gone Syntax.tyUnit) (List._∷_ (
-  1,
-  Rows'.sslice (Referent.rtF (Referent.fInt Syntax.w8)) (Syntax.tyRef (Syntax.named 0) Syntax.imm
-      (Syntax.tyInt Syntax.w8)) 0,
-) (List._∷_ (2, Rows'.sc-here (Row.sInt Syntax.w64)) (List._∷_ (3, Rows'.any-gone EntryKind.spelled) (List._∷_ (
-  4,
-  Rows.arrF
-      EntryKind.R 4096 0,
-) (List._∷_ (5, Rows'.any-gone ty-0) (List._∷_ (6, Rows'.sc-here (Row.sInt Syntax.w64)) (List._∷_ (7, Rows'.any-gone EntryKind.spelled)
-    (List._∷_ (8, Rows.arrF (Referent.rtF (Referent.fInt Syntax.w8)) 1 0) (List._∷_ (
-      9,
-      Rows'.any-gone (Syntax.tyRef Syntax.erased Syntax.mut (Syntax.tyArray
-          EntryKind.elem 4096)),
-    ) (List._∷_ (10, Rows'.any-gone ty-1) (List._∷_ (11, Rows'.any-gone Syntax.tyUnit) (List._∷_ (12, Rows'.any-gone Syntax.tyBool)
-    (List._∷_ (13, Rows'.sc-here (Row.sInt Syntax.w64)) (List._∷_ (14, Rows'.any-gone Syntax.tyPtr) (List._∷_ (15, Rows'.sc-here Row.sPtr)
-    List.[])))))))))))))))
+t22 = List._∷_ (0, Rows'.any-gone Syntax.tyUnit) (List._∷_
+    (1, Rows'.sslice (Referent.rtF (Referent.fInt Syntax.w8)) (Syntax.tyRef (Syntax.named 0) Syntax.imm (Syntax.tyInt Syntax.w8)) 0) (List._∷_
+    (2, Rows'.sc-here (Row.sInt Syntax.w64)) (List._∷_ (3, Rows'.any-gone EntryKind.by-value) (List._∷_ (4, Rows.arrF EntryKind.row 4096 0) (List._∷_
+    (5, Rows'.any-gone type-Cutting) (List._∷_ (6, Rows'.sc-here (Row.sInt Syntax.w64)) (List._∷_ (7, Rows'.any-gone EntryKind.by-value) (List._∷_
+    (8, Rows.arrF (Referent.rtF (Referent.fInt Syntax.w8)) 1 0) (List._∷_
+    (9, Rows'.any-gone (Syntax.tyRef Syntax.erased Syntax.mut (Syntax.tyArray EntryKind.pointee 4096))) (List._∷_ (10, Rows'.any-gone type-slice) (List._∷_
+    (11, Rows'.any-gone Syntax.tyUnit) (List._∷_ (12, Rows'.any-gone Syntax.tyBool) (List._∷_ (13, Rows'.sc-here (Row.sInt Syntax.w64)) (List._∷_
+    (14, Rows'.any-gone Syntax.tyPtr) (List._∷_ (15, Rows'.sc-here Row.sPtr) List.[])))))))))))))))
 
 abbrev pub t23 : List.List Row.Entry
-t23 = List._∷_ (16, EntryKind.whole) (List._∷_ (17, Rows'.any-gone Syntax.tyUnit) (List._∷_ (
-  18,
-  Rows'.any-gone (Syntax.tyRef Syntax.erased Syntax.imm
-      (Syntax.tyArray (Syntax.tyInt Syntax.w8) 1)),
-) (List._∷_ (19, Rows'.any-gone ty-2) List.[])))
+t23 = List._∷_ (16, EntryKind.local) (List._∷_ (17, Rows'.any-gone Syntax.tyUnit) (List._∷_
+    (18, Rows'.any-gone (Syntax.tyRef Syntax.erased Syntax.imm (Syntax.tyArray (Syntax.tyInt Syntax.w8) 1))) (List._∷_ (19, Rows'.any-gone type-slice-2)
+    List.[])))
 
 abbrev pub t24 : List.List Row.Entry
-t24 = List._∷_ (0, Rows'.any-gone Syntax.tyUnit) (List._∷_ (
-  1,
-  Rows'.sslice (Referent.rtF (Referent.fInt Syntax.w8)) (Syntax.tyRef (Syntax.named 0) Syntax.imm
-      (Syntax.tyInt Syntax.w8)) 0,
-) (List._∷_ (2, Rows'.sc-here (Row.sInt Syntax.w64)) (List._∷_ (3, Rows'.any-gone EntryKind.spelled) (List._∷_ (
-  4,
-  Rows.arrF
-      EntryKind.R 4096 0,
-) (List._∷_ (5, Rows'.any-gone ty-0) (List._∷_ (6, Rows'.sc-here (Row.sInt Syntax.w64)) (List._∷_ (7, Rows'.any-gone EntryKind.spelled)
-    (List._∷_ (8, Rows.arrF (Referent.rtF (Referent.fInt Syntax.w8)) 1 0) (List._∷_ (
-      9,
-      Rows'.any-gone (Syntax.tyRef Syntax.erased Syntax.mut (Syntax.tyArray
-          EntryKind.elem 4096)),
-    ) (List._∷_ (10, Rows'.any-gone ty-1) (List._∷_ (11, Rows'.any-gone Syntax.tyUnit) (List._∷_ (12, Rows'.any-gone Syntax.tyBool)
-    (List._∷_ (13, Rows'.any-gone (Syntax.tyInt Syntax.w64)) (List._∷_ (14, Rows'.any-gone Syntax.tyPtr) (List._∷_ (15, Rows'.sc-here Row.sPtr)
-    List.[])))))))))))))))
+t24 = List._∷_ (0, Rows'.any-gone Syntax.tyUnit) (List._∷_
+    (1, Rows'.sslice (Referent.rtF (Referent.fInt Syntax.w8)) (Syntax.tyRef (Syntax.named 0) Syntax.imm (Syntax.tyInt Syntax.w8)) 0) (List._∷_
+    (2, Rows'.sc-here (Row.sInt Syntax.w64)) (List._∷_ (3, Rows'.any-gone EntryKind.by-value) (List._∷_ (4, Rows.arrF EntryKind.row 4096 0) (List._∷_
+    (5, Rows'.any-gone type-Cutting) (List._∷_ (6, Rows'.sc-here (Row.sInt Syntax.w64)) (List._∷_ (7, Rows'.any-gone EntryKind.by-value) (List._∷_
+    (8, Rows.arrF (Referent.rtF (Referent.fInt Syntax.w8)) 1 0) (List._∷_
+    (9, Rows'.any-gone (Syntax.tyRef Syntax.erased Syntax.mut (Syntax.tyArray EntryKind.pointee 4096))) (List._∷_ (10, Rows'.any-gone type-slice) (List._∷_
+    (11, Rows'.any-gone Syntax.tyUnit) (List._∷_ (12, Rows'.any-gone Syntax.tyBool) (List._∷_ (13, Rows'.any-gone (Syntax.tyInt Syntax.w64)) (List._∷_
+    (14, Rows'.any-gone Syntax.tyPtr) (List._∷_ (15, Rows'.sc-here Row.sPtr) List.[])))))))))))))))
 
 abbrev pub t25 : List.List Row.Entry
-t25 = List._∷_ (0, Rows'.any-gone Syntax.tyUnit) (List._∷_ (
-  1,
-  Rows'.sslice (Referent.rtF (Referent.fInt Syntax.w8)) (Syntax.tyRef (Syntax.named 0) Syntax.imm
-      (Syntax.tyInt Syntax.w8)) 0,
-) (List._∷_ (2, Rows'.sc-here (Row.sInt Syntax.w64)) (List._∷_ (3, Rows'.any-gone EntryKind.spelled) (List._∷_ (
-  4,
-  Rows.arrF
-      EntryKind.R 4096 0,
-) (List._∷_ (5, Rows'.any-gone ty-0) (List._∷_ (6, Rows'.sc-here (Row.sInt Syntax.w64)) (List._∷_ (7, EntryKind.whole) (List._∷_ (
-  8,
-  Rows.arrF (Referent.rtF (Referent.fInt Syntax.w8)) 1 0,
-) (List._∷_ (
-  9,
-  Rows'.any-gone (Syntax.tyRef Syntax.erased Syntax.mut (Syntax.tyArray EntryKind.elem
-      4096)),
-) (List._∷_ (10, Rows'.any-gone ty-1) (List._∷_ (11, Rows'.any-gone Syntax.tyUnit) (List._∷_ (12, Rows'.any-gone Syntax.tyBool) (List._∷_ (
-  13,
-  Rows'.any-gone (Syntax.tyInt Syntax.w64),
-) (List._∷_ (14, Rows'.any-gone Syntax.tyPtr) (List._∷_ (15, Rows'.any-gone Syntax.tyPtr) List.[])))))))))))))))
+t25 = List._∷_ (0, Rows'.any-gone Syntax.tyUnit) (List._∷_
+    (1, Rows'.sslice (Referent.rtF (Referent.fInt Syntax.w8)) (Syntax.tyRef (Syntax.named 0) Syntax.imm (Syntax.tyInt Syntax.w8)) 0) (List._∷_
+    (2, Rows'.sc-here (Row.sInt Syntax.w64)) (List._∷_ (3, Rows'.any-gone EntryKind.by-value) (List._∷_ (4, Rows.arrF EntryKind.row 4096 0) (List._∷_
+    (5, Rows'.any-gone type-Cutting) (List._∷_ (6, Rows'.sc-here (Row.sInt Syntax.w64)) (List._∷_ (7, EntryKind.local) (List._∷_
+    (8, Rows.arrF (Referent.rtF (Referent.fInt Syntax.w8)) 1 0) (List._∷_
+    (9, Rows'.any-gone (Syntax.tyRef Syntax.erased Syntax.mut (Syntax.tyArray EntryKind.pointee 4096))) (List._∷_ (10, Rows'.any-gone type-slice) (List._∷_
+    (11, Rows'.any-gone Syntax.tyUnit) (List._∷_ (12, Rows'.any-gone Syntax.tyBool) (List._∷_ (13, Rows'.any-gone (Syntax.tyInt Syntax.w64)) (List._∷_
+    (14, Rows'.any-gone Syntax.tyPtr) (List._∷_ (15, Rows'.any-gone Syntax.tyPtr) List.[])))))))))))))))
 
 abbrev pub t26 : List.List Row.Entry
-t26 = List._∷_ (16, Rows'.any-gone EntryKind.spelled) (List._∷_ (17, Rows'.sc-here Row.sUnit) (List._∷_ (
-  18,
-  Rows'.any-gone (Syntax.tyRef Syntax.erased
-      Syntax.imm (Syntax.tyArray (Syntax.tyInt Syntax.w8) 1)),
-) (List._∷_ (19, Rows'.any-gone ty-2) List.[])))
+t26 = List._∷_ (16, Rows'.any-gone EntryKind.by-value) (List._∷_ (17, Rows'.sc-here Row.sUnit) (List._∷_
+    (18, Rows'.any-gone (Syntax.tyRef Syntax.erased Syntax.imm (Syntax.tyArray (Syntax.tyInt Syntax.w8) 1))) (List._∷_ (19, Rows'.any-gone type-slice-2)
+    List.[])))
 
 abbrev pub t27 : List.List Row.Entry
-t27 = List._∷_ (0, Rows'.any-gone Syntax.tyUnit) (List._∷_ (
-  1,
-  Rows'.sslice (Referent.rtF (Referent.fInt Syntax.w8)) (Syntax.tyRef (Syntax.named 0) Syntax.imm
-      (Syntax.tyInt Syntax.w8)) 0,
-) (List._∷_ (2, Rows'.sc-here (Row.sInt Syntax.w64)) (List._∷_ (3, Rows'.any-gone EntryKind.spelled) (List._∷_ (
-  4,
-  Rows'.any-gone
-      (Syntax.tyArray EntryKind.spelled 4096),
-) (List._∷_ (5, Rows'.any-gone ty-0) (List._∷_ (6, Rows'.sc-here (Row.sInt Syntax.w64)) (List._∷_ (
-  7,
-  Rows'.any-gone
-      EntryKind.spelled,
-) (List._∷_ (8, Rows.arr-shr (Referent.rtF (Referent.fInt Syntax.w8)) 1 2) (List._∷_ (
-  9,
-  Rows'.any-gone (Syntax.tyRef Syntax.erased
-      Syntax.mut (Syntax.tyArray EntryKind.elem 4096)),
-) (List._∷_ (10, Rows'.any-gone ty-1) (List._∷_ (11, Rows'.any-gone Syntax.tyUnit) (List._∷_ (
-  12,
-  Rows'.any-gone Syntax.tyBool,
-) (List._∷_ (13, Rows'.any-gone (Syntax.tyInt Syntax.w64)) (List._∷_ (14, Rows'.any-gone Syntax.tyPtr) (List._∷_ (
-  15,
-  Rows'.any-gone Syntax.tyPtr,
-) List.[])))))))))))))))
+t27 = List._∷_ (0, Rows'.any-gone Syntax.tyUnit) (List._∷_
+    (1, Rows'.sslice (Referent.rtF (Referent.fInt Syntax.w8)) (Syntax.tyRef (Syntax.named 0) Syntax.imm (Syntax.tyInt Syntax.w8)) 0) (List._∷_
+    (2, Rows'.sc-here (Row.sInt Syntax.w64)) (List._∷_ (3, Rows'.any-gone EntryKind.by-value) (List._∷_
+    (4, Rows'.any-gone (Syntax.tyArray EntryKind.by-value 4096)) (List._∷_ (5, Rows'.any-gone type-Cutting) (List._∷_ (6, Rows'.sc-here (Row.sInt Syntax.w64))
+    (List._∷_ (7, Rows'.any-gone EntryKind.by-value) (List._∷_ (8, Rows.arr-shr (Referent.rtF (Referent.fInt Syntax.w8)) 1 2) (List._∷_
+    (9, Rows'.any-gone (Syntax.tyRef Syntax.erased Syntax.mut (Syntax.tyArray EntryKind.pointee 4096))) (List._∷_ (10, Rows'.any-gone type-slice) (List._∷_
+    (11, Rows'.any-gone Syntax.tyUnit) (List._∷_ (12, Rows'.any-gone Syntax.tyBool) (List._∷_ (13, Rows'.any-gone (Syntax.tyInt Syntax.w64)) (List._∷_
+    (14, Rows'.any-gone Syntax.tyPtr) (List._∷_ (15, Rows'.any-gone Syntax.tyPtr) List.[])))))))))))))))
 
 abbrev pub t28 : List.List Row.Entry
-t28 = List._∷_ (16, Rows'.any-gone EntryKind.spelled) (List._∷_ (17, Rows'.any-gone Syntax.tyUnit) (List._∷_ (
-  18,
-  Relend.ssptr (Referent.rtF (Referent.fInt
-      Syntax.w8)) (Syntax.tyRef Syntax.erased Syntax.imm (Syntax.tyArray (Syntax.tyInt Syntax.w8) 1)) 2,
-) (List._∷_ (19, Rows'.any-gone ty-2) List.[])))
+t28 = List._∷_ (16, Rows'.any-gone EntryKind.by-value) (List._∷_ (17, Rows'.any-gone Syntax.tyUnit) (List._∷_
+    (18, Relend.ssptr (Referent.rtF (Referent.fInt Syntax.w8)) (Syntax.tyRef Syntax.erased Syntax.imm (Syntax.tyArray (Syntax.tyInt Syntax.w8) 1)) 2) (List._∷_
+    (19, Rows'.any-gone type-slice-2) List.[])))
 
 abbrev pub t29 : List.List Row.Entry
-t29 = List._∷_ (16, Rows'.any-gone EntryKind.spelled) (List._∷_ (17, Rows'.any-gone Syntax.tyUnit) (List._∷_ (
-  18,
-  Rows'.any-gone (Syntax.tyRef Syntax.erased
-      Syntax.imm (Syntax.tyArray (Syntax.tyInt Syntax.w8) 1)),
-) (List._∷_ (
-  19,
-  Rows'.sslice (Referent.rtF (Referent.fInt Syntax.w8)) (Syntax.tyRef Syntax.erased
-      Syntax.imm (Syntax.tyInt Syntax.w8)) 2,
-) List.[])))
+t29 = List._∷_ (16, Rows'.any-gone EntryKind.by-value) (List._∷_ (17, Rows'.any-gone Syntax.tyUnit) (List._∷_
+    (18, Rows'.any-gone (Syntax.tyRef Syntax.erased Syntax.imm (Syntax.tyArray (Syntax.tyInt Syntax.w8) 1))) (List._∷_
+    (19, Rows'.sslice (Referent.rtF (Referent.fInt Syntax.w8)) (Syntax.tyRef Syntax.erased Syntax.imm (Syntax.tyInt Syntax.w8)) 2) List.[])))
 
 abbrev pub t30 : List.List Row.Entry
-t30 = List._∷_ (0, Rows'.any-gone Syntax.tyUnit) (List._∷_ (
-  1,
-  Rows'.sslice (Referent.rtF (Referent.fInt Syntax.w8)) (Syntax.tyRef (Syntax.named 0) Syntax.imm
-      (Syntax.tyInt Syntax.w8)) 0,
-) (List._∷_ (2, Rows'.sc-here (Row.sInt Syntax.w64)) (List._∷_ (3, Rows'.any-gone EntryKind.spelled) (List._∷_ (
-  4,
-  Rows'.any-gone
-      (Syntax.tyArray EntryKind.spelled 4096),
-) (List._∷_ (5, Rows'.any-gone ty-0) (List._∷_ (6, Rows'.sc-here (Row.sInt Syntax.w64)) (List._∷_ (
-  7,
-  Rows'.any-gone
-      EntryKind.spelled,
-) (List._∷_ (8, Rows.arr-shr (Referent.rtF (Referent.fInt Syntax.w8)) 1 2) (List._∷_ (
-  9,
-  Rows'.any-gone (Syntax.tyRef Syntax.erased
-      Syntax.mut (Syntax.tyArray EntryKind.elem 4096)),
-) (List._∷_ (10, Rows'.any-gone ty-1) (List._∷_ (11, Rows'.sc-here Row.sUnit) (List._∷_ (
-  12,
-  Rows'.any-gone
-      Syntax.tyBool,
-) (List._∷_ (13, Rows'.any-gone (Syntax.tyInt Syntax.w64)) (List._∷_ (14, Rows'.any-gone Syntax.tyPtr) (List._∷_ (
-  15,
-  Rows'.any-gone
-      Syntax.tyPtr,
-) List.[])))))))))))))))
+t30 = List._∷_ (0, Rows'.any-gone Syntax.tyUnit) (List._∷_
+    (1, Rows'.sslice (Referent.rtF (Referent.fInt Syntax.w8)) (Syntax.tyRef (Syntax.named 0) Syntax.imm (Syntax.tyInt Syntax.w8)) 0) (List._∷_
+    (2, Rows'.sc-here (Row.sInt Syntax.w64)) (List._∷_ (3, Rows'.any-gone EntryKind.by-value) (List._∷_
+    (4, Rows'.any-gone (Syntax.tyArray EntryKind.by-value 4096)) (List._∷_ (5, Rows'.any-gone type-Cutting) (List._∷_ (6, Rows'.sc-here (Row.sInt Syntax.w64))
+    (List._∷_ (7, Rows'.any-gone EntryKind.by-value) (List._∷_ (8, Rows.arr-shr (Referent.rtF (Referent.fInt Syntax.w8)) 1 2) (List._∷_
+    (9, Rows'.any-gone (Syntax.tyRef Syntax.erased Syntax.mut (Syntax.tyArray EntryKind.pointee 4096))) (List._∷_ (10, Rows'.any-gone type-slice) (List._∷_
+    (11, Rows'.sc-here Row.sUnit) (List._∷_ (12, Rows'.any-gone Syntax.tyBool) (List._∷_ (13, Rows'.any-gone (Syntax.tyInt Syntax.w64)) (List._∷_
+    (14, Rows'.any-gone Syntax.tyPtr) (List._∷_ (15, Rows'.any-gone Syntax.tyPtr) List.[])))))))))))))))
 
 abbrev pub t31 : List.List Row.Entry
-t31 = List._∷_ (0, Rows'.any-gone Syntax.tyUnit) (List._∷_ (
-  1,
-  Rows'.sslice (Referent.rtF (Referent.fInt Syntax.w8)) (Syntax.tyRef (Syntax.named 0) Syntax.imm
-      (Syntax.tyInt Syntax.w8)) 0,
-) (List._∷_ (2, Rows'.sc-here (Row.sInt Syntax.w64)) (List._∷_ (3, Rows'.any-gone EntryKind.spelled) (List._∷_ (
-  4,
-  Rows'.any-gone
-      (Syntax.tyArray EntryKind.spelled 4096),
-) (List._∷_ (5, Rows'.any-gone ty-0) (List._∷_ (6, Rows'.sc-here (Row.sInt Syntax.w64)) (List._∷_ (
-  7,
-  Rows'.any-gone
-      EntryKind.spelled,
-) (List._∷_ (8, Rows'.any-gone (Syntax.tyArray (Syntax.tyInt Syntax.w8) 1)) (List._∷_ (
-  9,
-  Rows'.any-gone (Syntax.tyRef Syntax.erased
-      Syntax.mut (Syntax.tyArray EntryKind.elem 4096)),
-) (List._∷_ (10, Rows'.any-gone ty-1) (List._∷_ (11, Rows'.any-gone Syntax.tyUnit) (List._∷_ (
-  12,
-  Rows'.any-gone Syntax.tyBool,
-) (List._∷_ (13, Rows'.any-gone (Syntax.tyInt Syntax.w64)) (List._∷_ (14, Rows'.any-gone Syntax.tyPtr) (List._∷_ (
-  15,
-  Rows'.any-gone Syntax.tyPtr,
-) List.[])))))))))))))))
+t31 = List._∷_ (0, Rows'.any-gone Syntax.tyUnit) (List._∷_
+    (1, Rows'.sslice (Referent.rtF (Referent.fInt Syntax.w8)) (Syntax.tyRef (Syntax.named 0) Syntax.imm (Syntax.tyInt Syntax.w8)) 0) (List._∷_
+    (2, Rows'.sc-here (Row.sInt Syntax.w64)) (List._∷_ (3, Rows'.any-gone EntryKind.by-value) (List._∷_
+    (4, Rows'.any-gone (Syntax.tyArray EntryKind.by-value 4096)) (List._∷_ (5, Rows'.any-gone type-Cutting) (List._∷_ (6, Rows'.sc-here (Row.sInt Syntax.w64))
+    (List._∷_ (7, Rows'.any-gone EntryKind.by-value) (List._∷_ (8, Rows'.any-gone (Syntax.tyArray (Syntax.tyInt Syntax.w8) 1)) (List._∷_
+    (9, Rows'.any-gone (Syntax.tyRef Syntax.erased Syntax.mut (Syntax.tyArray EntryKind.pointee 4096))) (List._∷_ (10, Rows'.any-gone type-slice) (List._∷_
+    (11, Rows'.any-gone Syntax.tyUnit) (List._∷_ (12, Rows'.any-gone Syntax.tyBool) (List._∷_ (13, Rows'.any-gone (Syntax.tyInt Syntax.w64)) (List._∷_
+    (14, Rows'.any-gone Syntax.tyPtr) (List._∷_ (15, Rows'.any-gone Syntax.tyPtr) List.[])))))))))))))))
 
 abbrev pub t32 : List.List Row.Entry
-t32 = List._∷_ (0, Rows'.sc-here Row.sUnit) (List._∷_ (
-  1,
-  Rows'.sslice (Referent.rtF (Referent.fInt Syntax.w8)) (Syntax.tyRef (Syntax.named 0) Syntax.imm
-      (Syntax.tyInt Syntax.w8)) 0,
-) (List._∷_ (2, Rows'.sc-here (Row.sInt Syntax.w64)) (List._∷_ (3, Rows'.any-gone EntryKind.spelled) (List._∷_ (
-  4,
-  Rows'.any-gone
-      (Syntax.tyArray EntryKind.spelled 4096),
-) (List._∷_ (5, Rows'.any-gone ty-0) (List._∷_ (6, Rows'.sc-here (Row.sInt Syntax.w64)) (List._∷_ (
-  7,
-  Rows'.any-gone
-      EntryKind.spelled,
-) (List._∷_ (8, Rows'.any-gone (Syntax.tyArray (Syntax.tyInt Syntax.w8) 1)) (List._∷_ (
-  9,
-  Rows'.any-gone (Syntax.tyRef Syntax.erased
-      Syntax.mut (Syntax.tyArray EntryKind.elem 4096)),
-) (List._∷_ (10, Rows'.any-gone ty-1) (List._∷_ (11, Rows'.any-gone Syntax.tyUnit) (List._∷_ (
-  12,
-  Rows'.any-gone Syntax.tyBool,
-) (List._∷_ (13, Rows'.any-gone (Syntax.tyInt Syntax.w64)) (List._∷_ (14, Rows'.any-gone Syntax.tyPtr) (List._∷_ (
-  15,
-  Rows'.any-gone Syntax.tyPtr,
-) List.[])))))))))))))))
+t32 = List._∷_ (0, Rows'.sc-here Row.sUnit) (List._∷_
+    (1, Rows'.sslice (Referent.rtF (Referent.fInt Syntax.w8)) (Syntax.tyRef (Syntax.named 0) Syntax.imm (Syntax.tyInt Syntax.w8)) 0) (List._∷_
+    (2, Rows'.sc-here (Row.sInt Syntax.w64)) (List._∷_ (3, Rows'.any-gone EntryKind.by-value) (List._∷_
+    (4, Rows'.any-gone (Syntax.tyArray EntryKind.by-value 4096)) (List._∷_ (5, Rows'.any-gone type-Cutting) (List._∷_ (6, Rows'.sc-here (Row.sInt Syntax.w64))
+    (List._∷_ (7, Rows'.any-gone EntryKind.by-value) (List._∷_ (8, Rows'.any-gone (Syntax.tyArray (Syntax.tyInt Syntax.w8) 1)) (List._∷_
+    (9, Rows'.any-gone (Syntax.tyRef Syntax.erased Syntax.mut (Syntax.tyArray EntryKind.pointee 4096))) (List._∷_ (10, Rows'.any-gone type-slice) (List._∷_
+    (11, Rows'.any-gone Syntax.tyUnit) (List._∷_ (12, Rows'.any-gone Syntax.tyBool) (List._∷_ (13, Rows'.any-gone (Syntax.tyInt Syntax.w64)) (List._∷_
+    (14, Rows'.any-gone Syntax.tyPtr) (List._∷_ (15, Rows'.any-gone Syntax.tyPtr) List.[])))))))))))))))
 
 abbrev pub t33 : List.List Row.Entry
-t33 = List._∷_ (0, Rows'.sc-here Row.sUnit) (List._∷_ (
-  1,
-  Rows'.sslice (Referent.rtF (Referent.fInt Syntax.w8)) (Syntax.tyRef (Syntax.named 0) Syntax.imm
-      (Syntax.tyInt Syntax.w8)) 0,
-) (List._∷_ (2, Rows'.sc-here (Row.sInt Syntax.w64)) (List._∷_ (3, Rows'.any-gone EntryKind.spelled) (List._∷_ (
-  4,
-  Rows'.any-gone
-      (Syntax.tyArray EntryKind.spelled 4096),
-) (List._∷_ (5, Rows'.any-gone ty-0) (List._∷_ (6, Rows'.any-gone (Syntax.tyInt Syntax.w64)) (List._∷_ (
-  7,
-  Rows'.any-gone EntryKind.spelled,
-) (List._∷_ (8, Rows'.any-gone (Syntax.tyArray (Syntax.tyInt Syntax.w8) 1)) (List._∷_ (
-  9,
-  Rows'.any-gone (Syntax.tyRef
-      Syntax.erased Syntax.mut (Syntax.tyArray EntryKind.elem 4096)),
-) (List._∷_ (10, Rows'.any-gone ty-1) (List._∷_ (11, Rows'.any-gone Syntax.tyUnit) (List._∷_
-    (12, Rows'.any-gone Syntax.tyBool) (List._∷_ (13, Rows'.any-gone (Syntax.tyInt Syntax.w64)) (List._∷_ (14, Rows'.any-gone Syntax.tyPtr) (List._∷_ (
-      15,
-      Rows'.any-gone Syntax.tyPtr,
-    ) List.[])))))))))))))))
+t33 = List._∷_ (0, Rows'.sc-here Row.sUnit) (List._∷_
+    (1, Rows'.sslice (Referent.rtF (Referent.fInt Syntax.w8)) (Syntax.tyRef (Syntax.named 0) Syntax.imm (Syntax.tyInt Syntax.w8)) 0) (List._∷_
+    (2, Rows'.sc-here (Row.sInt Syntax.w64)) (List._∷_ (3, Rows'.any-gone EntryKind.by-value) (List._∷_
+    (4, Rows'.any-gone (Syntax.tyArray EntryKind.by-value 4096)) (List._∷_ (5, Rows'.any-gone type-Cutting) (List._∷_
+    (6, Rows'.any-gone (Syntax.tyInt Syntax.w64)) (List._∷_ (7, Rows'.any-gone EntryKind.by-value) (List._∷_
+    (8, Rows'.any-gone (Syntax.tyArray (Syntax.tyInt Syntax.w8) 1)) (List._∷_
+    (9, Rows'.any-gone (Syntax.tyRef Syntax.erased Syntax.mut (Syntax.tyArray EntryKind.pointee 4096))) (List._∷_ (10, Rows'.any-gone type-slice) (List._∷_
+    (11, Rows'.any-gone Syntax.tyUnit) (List._∷_ (12, Rows'.any-gone Syntax.tyBool) (List._∷_ (13, Rows'.any-gone (Syntax.tyInt Syntax.w64)) (List._∷_
+    (14, Rows'.any-gone Syntax.tyPtr) (List._∷_ (15, Rows'.any-gone Syntax.tyPtr) List.[])))))))))))))))
 
 abbrev pub T0 : Row.Cx
 T0 = record { locals = List._++_ t0 t1; slots = List.[] }
@@ -1169,11 +786,11 @@ abbrev pub O4 : Typed.Outs
 O4 = Typed.withNext (Option.some T22) O3
 
 abbrev pub InvT-loop : Type 1
-InvT-loop = List.List (Referent.rtF (Referent.fInt Syntax.w8) .Denot) → Rows'.sc-here (Row.sInt Syntax.w64) .Mod → Rows.arrF EntryKind.R 4096 0 .Mod →
+InvT-loop = List.List (Referent.rtF (Referent.fInt Syntax.w8) .Denot) → Rows'.sc-here (Row.sInt Syntax.w64) .Mod → Rows.arrF EntryKind.row 4096 0 .Mod →
     Rows'.sc-here (Row.sInt Syntax.w64) .Mod → Rows.arrF (Referent.rtF (Referent.fInt Syntax.w8)) 1 0 .Mod → Rows'.sc-here (Row.sInt Syntax.w64) .Mod → Type 0
 
 abbrev pub MeasureT-loop : Type 0
-MeasureT-loop = List.List (Referent.rtF (Referent.fInt Syntax.w8) .Denot) → Rows'.sc-here (Row.sInt Syntax.w64) .Mod → Rows.arrF EntryKind.R 4096 0 .Mod →
+MeasureT-loop = List.List (Referent.rtF (Referent.fInt Syntax.w8) .Denot) → Rows'.sc-here (Row.sInt Syntax.w64) .Mod → Rows.arrF EntryKind.row 4096 0 .Mod →
     Rows'.sc-here (Row.sInt Syntax.w64) .Mod → Rows.arrF (Referent.rtF (Referent.fInt Syntax.w8)) 1 0 .Mod → Rows'.sc-here (Row.sInt Syntax.w64) .Mod → Nat.ℕ
 
 module _ (claims· : Claims) where
@@ -1187,43 +804,40 @@ module _ (claims· : Claims) where
   s2 = λ bs. AtSlots.n-as-by T3 8 (Rows.arrF (Referent.rtF (Referent.fInt Syntax.w8)) 1 0) λ x. x
 
   abbrev s3 : (bs : List.List Nat.ℕ) → Typed.Both T4 T5
-  s3 = λ bs. Call.callB ps·0 r·0 (claims· .0) (claims· .1) T4 tt 3 List.[] EntryKind.spelled
+  s3 = λ bs. Call.callB ps·0 r·0 (claims· .0) (claims· .1) T4 tt 3 List.[] EntryKind.by-value
 
   abbrev s4 : (bs : List.List Nat.ℕ) → Typed.Mo T5 → Typed.Mo T6
-  s4 = λ bs. Repeat.n-repeat EntryKind.R 4096 T5 4 λ m. m .1 .1 .1 .0
+  s4 = λ bs. Repeat.n-repeat EntryKind.row 4096 T5 4 λ m. m .1 .1 .1 .0
 
   abbrev s5 : (bs : List.List Nat.ℕ) → Typed.Mo T6 → Typed.Mo T7
-  s5 = λ bs. AtSlots.n-as-by T6 4 (Rows.arrF EntryKind.R 4096 0) λ x. x
+  s5 = λ bs. AtSlots.n-as-by T6 4 (Rows.arrF EntryKind.row 4096 0) λ x. x
 
   abbrev s6 : (bs : List.List Nat.ℕ) → Typed.Mo T7 → Typed.Mo T8
-  s6 = λ bs. Scalar.n-room T7 3 EntryKind.spelled
+  s6 = λ bs. Scalar.n-room T7 3 EntryKind.by-value
 
   abbrev s8 : (bs : List.List Nat.ℕ) → Typed.Both T8 T10
-  s8 = λ bs. Share.k-arr-borrowᵖ EntryKind.R T8 4 9 4096 1 (Syntax.tyRef Syntax.erased Syntax.mut (Syntax.tyArray EntryKind.elem 4096)) (λ x. x) λ u. u .1 .1 .0
+  s8 = λ bs. Share.k-arr-borrowᵖ EntryKind.row T8 4 9 4096 1 (Syntax.tyRef Syntax.erased Syntax.mut (Syntax.tyArray EntryKind.pointee 4096)) (λ x. x) λ u. u .1
+      .1 .0
 
   abbrev s9 : (bs : List.List Nat.ℕ) → Typed.Asks T10 T11
-  s9 = λ bs. Relend.k-sl-aggregate EntryKind.R (Relend.asMut EntryKind.R) T10 9 10 1 (Syntax.tyRef Syntax.erased Syntax.mut (Syntax.tyArray EntryKind.elem
-      4096)) (Syntax.tyRef Syntax.erased Syntax.mut EntryKind.elem) (λ x. x) (Scalar.oAt 2 (Syntax.tyInt Syntax.w64) (Row.valS (Row.sInt Syntax.w64)))
+  s9 = λ bs. Relend.k-sl-aggregate EntryKind.row (Relend.asMut EntryKind.row) T10 9 10 1 (Syntax.tyRef Syntax.erased Syntax.mut (Syntax.tyArray
+      EntryKind.pointee 4096)) (Syntax.tyRef Syntax.erased Syntax.mut EntryKind.pointee) (λ x. x) (Scalar.oAt 2 (Syntax.tyInt Syntax.w64) (Row.valS (Row.sInt
+      Syntax.w64)))
 
   abbrev s10 : (bs : List.List Nat.ℕ) → Typed.Both T11 T12
   s10 = λ bs. Call.callB ps·1 r·1 (claims· .2) (claims· .3) T11 (
-    record {
-      pos = 1;
-      ty = Syntax.tyRef (Syntax.named 0) Syntax.imm (Syntax.tyInt Syntax.w8);
-      ref =
-          λ x. x;
-    },
-    (record { pos = 10; ty = Syntax.tyRef Syntax.erased Syntax.mut EntryKind.elem; ref = λ x. x }, tt),
-  ) 5 (List._∷_ 0 (List._∷_ 1 List.[])) ty-0
+    record { pos = 1; ty = Syntax.tyRef (Syntax.named 0) Syntax.imm (Syntax.tyInt Syntax.w8); ref = λ x. x },
+    (record { pos = 10; ty = Syntax.tyRef Syntax.erased Syntax.mut EntryKind.pointee; ref = λ x. x }, tt),
+  ) 5 (List._∷_ 0 (List._∷_ 1 List.[])) type-Cutting
 
   abbrev s12 : (bs : List.List Nat.ℕ) → Typed.Both T12 T14
-  s12 = λ bs. Share.k-back-arrᵖ EntryKind.R T12 10 4 1 4096 (Syntax.tyRef Syntax.erased Syntax.mut EntryKind.elem) (λ x. x) λ x. x
+  s12 = λ bs. Share.k-back-arrᵖ EntryKind.row T12 10 4 1 4096 (Syntax.tyRef Syntax.erased Syntax.mut EntryKind.pointee) (λ x. x) λ x. x
 
   abbrev s14 : (bs : List.List Nat.ℕ) → Typed.Both T14 T16
   s14 = λ bs. Call.callB ps·2 r·2 (claims· .4) (claims· .5) T14 (record { pos = 5; st = List.[]; d = 0; at = λ x. x }, tt) 11 List.[] Syntax.tyUnit
 
   abbrev s15 : (bs : List.List Nat.ℕ) → Typed.Mo T16 → Typed.Mo T17
-  s15 = λ bs. Scalar.n-room T16 5 ty-0
+  s15 = λ bs. Scalar.n-room T16 5 type-Cutting
 
   abbrev s16 : (bs : List.List Nat.ℕ) → Typed.Mo T17 → Typed.Mo T18
   s16 = λ bs. Scalar.n-room T17 11 Syntax.tyUnit
@@ -1239,7 +853,7 @@ module _ (claims· : Claims) where
   s19 = λ bs. Scalar.n-room T21 12 Syntax.tyBool
 
   abbrev s20 : (bs : List.List Nat.ℕ) → Typed.Mo T21 → Typed.Mo T24
-  s20 = λ bs. Scalar.n-room T21 4 (Syntax.tyArray EntryKind.spelled 4096)
+  s20 = λ bs. Scalar.n-room T21 4 (Syntax.tyArray EntryKind.by-value 4096)
 
   abbrev s21 : (bs : List.List Nat.ℕ) → Typed.Mo T24 → Typed.Mo T25
   s21 = λ bs. Scalar.n-room T24 12 Syntax.tyBool
@@ -1259,8 +873,8 @@ module _ (claims· : Claims) where
   s25 = λ bs. Scalar.n-room T28 14 Syntax.tyPtr
 
   abbrev s26 : (bs : List.List Nat.ℕ) → Typed.Both T29 T30
-  s26 = λ bs. Move.k-arr-copy-out EntryKind.R T29 (Row.hd 0 (Row.tl (Row.tl (Row.tl (Row.tl bs))))) 4 15 16 4096 0 EntryKind.whole (Init.scaled EntryKind.R
-      .off) (λ u. u .1 .1 .1 .1 .1 .1 .0) (λ x. x) EntryKind.first (λ x. Unit) (λ x. x) λ x. x
+  s26 = λ bs. Move.k-arr-copy-out EntryKind.row T29 (Row.hd 0 (Row.tl (Row.tl (Row.tl (Row.tl bs))))) 4 15 16 4096 0 EntryKind.local (Init.scaled EntryKind.row
+      .off) (λ u. u .1 .1 .1 .1 .1 .1 .0) (λ x. x) EntryKind.past-the-end (λ x. Unit) (λ x. x) λ x. x
 
   abbrev s27 : (bs : List.List Nat.ℕ) → Typed.Mo T30 → Typed.Mo T31
   s27 = λ bs. Scalar.n-room T30 13 (Syntax.tyInt Syntax.w64)
@@ -1269,16 +883,16 @@ module _ (claims· : Claims) where
   s28 = λ bs. Scalar.n-room T31 15 Syntax.tyPtr
 
   abbrev s29 : (bs : List.List Nat.ℕ) → Typed.Mo T32 → Typed.Mo T33
-  s29 = λ bs. LocalCopy.n-val-copy T32 16 7 EntryKind.R EntryKind.whole EntryKind.whole (λ x. x) (λ x. x) λ x. x
+  s29 = λ bs. LocalCopy.n-val-copy T32 16 7 EntryKind.row EntryKind.local EntryKind.local (λ x. x) (λ x. x) λ x. x
 
   abbrev s30 : (bs : List.List Nat.ℕ) → Typed.Mo T33 → Typed.Mo T34
-  s30 = λ bs. Scalar.n-room T33 16 EntryKind.spelled
+  s30 = λ bs. Scalar.n-room T33 16 EntryKind.by-value
 
   abbrev s31 : (bs : List.List Nat.ℕ) → Typed.Both T34 T35
   s31 = λ bs. Call.callB ps·3 r·3 (claims· .6) (claims· .7) T34 (record { pos = 7; st = List.[]; d = 0; at = λ x. x }, tt) 17 List.[] Syntax.tyUnit
 
   abbrev s32 : (bs : List.List Nat.ℕ) → Typed.Mo T35 → Typed.Mo T36
-  s32 = λ bs. Scalar.n-room T35 7 EntryKind.spelled
+  s32 = λ bs. Scalar.n-room T35 7 EntryKind.by-value
 
   abbrev s33 : (bs : List.List Nat.ℕ) → Typed.Mo T36 → Typed.Mo T37
   s33 = λ bs. Scalar.n-room T36 17 Syntax.tyUnit
@@ -1297,18 +911,11 @@ module _ (claims· : Claims) where
       (Scalar.oInt Syntax.w64 1)
 
   abbrev s38 : (bs : List.List Nat.ℕ) → Typed.Both T41 T42
-  s38 = λ bs. Call.callB ps·4 r·4 (claims· .8) (claims· .9) T41 (
-    record {
-      pos = 19;
-      ty = Syntax.tyRef Syntax.erased Syntax.imm (Syntax.tyInt Syntax.w8);
-      ref = λ
-          x. x;
-    },
-    tt,
-  ) 11 (List._∷_ 2 List.[]) Syntax.tyUnit
+  s38 = λ bs. Call.callB ps·4 r·4 (claims· .8) (claims· .9) T41
+      (record { pos = 19; ty = Syntax.tyRef Syntax.erased Syntax.imm (Syntax.tyInt Syntax.w8); ref = λ x. x }, tt) 11 (List._∷_ 2 List.[]) Syntax.tyUnit
 
   abbrev s39 : (bs : List.List Nat.ℕ) → Typed.Mo T42 → Typed.Mo T43
-  s39 = λ bs. Scalar.n-room T42 19 ty-2
+  s39 = λ bs. Scalar.n-room T42 19 type-slice-2
 
   abbrev s40 : (bs : List.List Nat.ℕ) → Typed.Mo T43 → Typed.Mo T44
   s40 = λ bs. Scalar.n-room T43 11 Syntax.tyUnit
@@ -1712,8 +1319,8 @@ module _ (claims· : Claims) where
               W Row.sBool)) d2
 
           d4 : Typed.Typed 𝓤 H A 𝓣 E G21 b10 Δ4 (at4 bs)
-          d4 = Typed.g-pre 𝓤 H A W 𝓣 E G21 G24 b10 Δ4 (Typed.pass T21 T24 (s20 bs)) (at3 bs) (Scalar.g-room 𝓤 H A W E G21 4 (Syntax.tyArray EntryKind.spelled
-              4096) (Init.room-arr 𝓤 H A W EntryKind.R 4096 0 4096 Path'.refl)) d3
+          d4 = Typed.g-pre 𝓤 H A W 𝓣 E G21 G24 b10 Δ4 (Typed.pass T21 T24 (s20 bs)) (at3 bs) (Scalar.g-room 𝓤 H A W E G21 4 (Syntax.tyArray EntryKind.by-value
+              4096) (Init.room-arr 𝓤 H A W EntryKind.row 4096 0 4096 Path'.refl)) d3
 
           d5 : Typed.Typed 𝓤 H A 𝓣 E G21 b11 Δ4 (at5 bs)
           d5 = Scalar.t-cond 𝓤 H A W E 𝓣 G21 12 (λ x. x) b9 b10 Δ4 (at1 bs) (at4 bs) (Scalar.reads-sc 𝓤 H A W Row.sBool) Path'.refl d1 d4
@@ -1729,7 +1336,7 @@ module _ (claims· : Claims) where
               W Row.sUnit)) d6
 
           d8 : Typed.Typed 𝓤 H A 𝓣 E G35 b18 Δ3 (at8 bs)
-          d8 = Typed.g-pre 𝓤 H A W 𝓣 E G35 G36 b18 Δ3 (Typed.pass T35 T36 (s32 bs)) (at7 bs) (Scalar.g-room 𝓤 H A W E G35 7 EntryKind.spelled (EntryKind.room 𝓤
+          d8 = Typed.g-pre 𝓤 H A W 𝓣 E G35 G36 b18 Δ3 (Typed.pass T35 T36 (s32 bs)) (at7 bs) (Scalar.g-room 𝓤 H A W E G35 7 EntryKind.by-value (EntryKind.room 𝓤
               H A W)) d7
 
           d9 : Typed.Typed 𝓤 H A 𝓣 E G34 b19 Δ3 (at9 bs)
@@ -1738,15 +1345,15 @@ module _ (claims· : Claims) where
               .slots)) ((EntryKind.yields 𝓤 H A W, Path'.refl), tt) (Reads.room-gone 𝓤 H A Syntax.tyUnit) tt Path'.refl) d8
 
           d10 : Typed.Typed 𝓤 H A 𝓣 E G33 b19 Δ3 (at10 bs)
-          d10 = Typed.g-pre 𝓤 H A W 𝓣 E G33 G34 b19 Δ3 (Typed.pass T33 T34 (s30 bs)) (at9 bs) (Scalar.g-room 𝓤 H A W E G33 16 EntryKind.spelled (EntryKind.room
+          d10 = Typed.g-pre 𝓤 H A W 𝓣 E G33 G34 b19 Δ3 (Typed.pass T33 T34 (s30 bs)) (at9 bs) (Scalar.g-room 𝓤 H A W E G33 16 EntryKind.by-value (EntryKind.room
               𝓤 H A W)) d9
 
           d11 : Typed.Typed 𝓤 H A 𝓣 E G32 b20 Δ3 (at11 bs)
           d11 = Typed.s-seq 𝓤 H A W 𝓣 E G32 G33 b16 b19 Δ3 (Typed.pass T32 T33 (s29 bs)) (at10 bs) (LocalCopy.t-val-copy 𝓤 H A W E 𝓣 (λ ρ. Unit) G32 16 7
-              EntryKind.R EntryKind.spelled EntryKind.spelled EntryKind.whole EntryKind.whole (λ x. x) (λ x. x) (λ x. x) Path'.refl (Own.told-none 𝓤 H A (G32
-              .slots)) (Yields.yields-copy 𝓤 H A W (λ ρ. Unit) EntryKind.R Path'.refl (EntryKind.copies .copy 𝓤 H A W) EntryKind.whole (λ x. x) (λ x. x) (λ ρ
-              told. EntryKind.in-mem 𝓤 H A W ρ) λ ρ told. EntryKind.of-mem 𝓤 H A W ρ) (Reads.room-gone 𝓤 H A EntryKind.spelled) (Yields.makes-mem 𝓤 H A W (λ ρ.
-              Unit) EntryKind.R Path'.refl EntryKind.whole (λ x. x) λ ρ told. EntryKind.of-mem 𝓤 H A W ρ) Path'.refl Path'.refl) d10
+              EntryKind.row EntryKind.by-value EntryKind.by-value EntryKind.local EntryKind.local (λ x. x) (λ x. x) (λ x. x) Path'.refl (Own.told-none 𝓤 H A
+              (G32 .slots)) (Yields.yields-copy 𝓤 H A W (λ ρ. Unit) EntryKind.row Path'.refl (EntryKind.copied .copy 𝓤 H A W) EntryKind.local (λ x. x) (λ x. x)
+              (λ ρ told. EntryKind.in-memory 𝓤 H A W ρ) λ ρ told. EntryKind.of-memory 𝓤 H A W ρ) (Reads.room-gone 𝓤 H A EntryKind.by-value) (Yields.makes-mem 𝓤
+              H A W (λ ρ. Unit) EntryKind.row Path'.refl EntryKind.local (λ x. x) λ ρ told. EntryKind.of-memory 𝓤 H A W ρ) Path'.refl Path'.refl) d10
 
           d12 : Typed.Typed 𝓤 H A 𝓣 E G31 b20 Δ3 (at12 bs)
           d12 = Typed.g-pre 𝓤 H A W 𝓣 E G31 G32 b20 Δ3 (Typed.pass T31 T32 (s28 bs)) (at11 bs) (Scalar.g-room 𝓤 H A W E G31 15 Syntax.tyPtr (Scalar.room-sc 𝓤 H
@@ -1757,12 +1364,12 @@ module _ (claims· : Claims) where
               (Scalar.room-sc 𝓤 H A W (Row.sInt Syntax.w64))) d12
 
           d14 : Typed.Typed 𝓤 H A 𝓣 E G29 b21 Δ3 (at14 bs)
-          d14 = Typed.s-seq 𝓤 H A W 𝓣 E G29 G30 b15 b20 Δ3 (Typed.both (s26 bs)) (at13 bs) (Move.t-arr-copy-out 𝓤 H A W E 𝓣 EntryKind.R Path'.refl
-              (EntryKind.copies .copy 𝓤 H A W) (Init.scaled EntryKind.R) (λ ρ. Unit) G29 4 15 16 4096 0 EntryKind.spelled EntryKind.spelled EntryKind.whole (λ
-              x. x) EntryKind.first (λ x. Unit) (λ x. x) (λ x. x) (λ u. u .1 .1 .1 .1 .1 .1 .0) Path'.refl Path'.refl (Own.told-none 𝓤 H A (G29 .slots))
-              (DerefMove.learns-nothing 𝓤 H A EntryKind.R) (Reads.as-is 𝓤 H A (Rows.arrF EntryKind.R 4096 0)) (Reads.as-is 𝓤 H A (Rows'.sc-here Row.sPtr))
-              (Reads.room-gone 𝓤 H A EntryKind.spelled) (Yields.makes-mem 𝓤 H A W (λ ρ. Unit) EntryKind.R Path'.refl EntryKind.whole (λ x. x) λ ρ told.
-              EntryKind.of-mem 𝓤 H A W ρ) Path'.refl Path'.refl) d13
+          d14 = Typed.s-seq 𝓤 H A W 𝓣 E G29 G30 b15 b20 Δ3 (Typed.both (s26 bs)) (at13 bs) (Move.t-arr-copy-out 𝓤 H A W E 𝓣 EntryKind.row Path'.refl
+              (EntryKind.copied .copy 𝓤 H A W) (Init.scaled EntryKind.row) (λ ρ. Unit) G29 4 15 16 4096 0 EntryKind.by-value EntryKind.by-value EntryKind.local
+              (λ x. x) EntryKind.past-the-end (λ x. Unit) (λ x. x) (λ x. x) (λ u. u .1 .1 .1 .1 .1 .1 .0) Path'.refl Path'.refl (Own.told-none 𝓤 H A (G29
+              .slots)) (DerefMove.learns-nothing 𝓤 H A EntryKind.row) (Reads.as-is 𝓤 H A (Rows.arrF EntryKind.row 4096 0)) (Reads.as-is 𝓤 H A (Rows'.sc-here
+              Row.sPtr)) (Reads.room-gone 𝓤 H A EntryKind.by-value) (Yields.makes-mem 𝓤 H A W (λ ρ. Unit) EntryKind.row Path'.refl EntryKind.local (λ x. x) λ ρ
+              told. EntryKind.of-memory 𝓤 H A W ρ) Path'.refl Path'.refl) d13
 
           d15 : Typed.Typed 𝓤 H A 𝓣 E G28 b21 Δ3 (at15 bs)
           d15 = Typed.g-pre 𝓤 H A W 𝓣 E G28 G29 b21 Δ3 (Typed.pass T28 T29 (s25 bs)) (at14 bs) (Scalar.g-room 𝓤 H A W E G28 14 Syntax.tyPtr (Scalar.room-sc 𝓤 H
@@ -1771,10 +1378,9 @@ module _ (claims· : Claims) where
           d16 : Typed.Typed 𝓤 H A 𝓣 E G27 b22 Δ3 (at16 bs)
           d16 = Typed.s-seq 𝓤 H A W 𝓣 E G27 G28 b14 b21 Δ3 (Typed.ask (s24 bs)) (at15 bs) (Scalar.t-op2 𝓤 H A W E 𝓣 G27 Syntax.offset (Scalar.oAt 14
               Syntax.tyPtr (Row.valS Row.sPtr)) (Scalar.oAt 13 (Syntax.tyInt Syntax.w64) (Row.valS (Row.sInt Syntax.w64))) 15 (Rows'.sc-here Row.sPtr)
-              Syntax.tyPtr (Row.valS Row.sPtr) (Row.sPtr .of) (Scalar.reads-sc 𝓤 H A W Row.sPtr, Path'.refl) (
-                Scalar.reads-sc 𝓤 H A W (Row.sInt Syntax.w64),
-                Path'.refl,
-              ) (Reads.room-gone 𝓤 H A Syntax.tyPtr) (Scalar.holds-sc 𝓤 H A W Row.sPtr) Path'.refl (λ u. Path'.refl) λ u. tt) d15
+              Syntax.tyPtr (Row.valS Row.sPtr) (Row.sPtr .of) (Scalar.reads-sc 𝓤 H A W Row.sPtr, Path'.refl)
+              (Scalar.reads-sc 𝓤 H A W (Row.sInt Syntax.w64), Path'.refl) (Reads.room-gone 𝓤 H A Syntax.tyPtr) (Scalar.holds-sc 𝓤 H A W Row.sPtr) Path'.refl (λ
+              u. Path'.refl) λ u. tt) d15
 
           d17 : Typed.Typed 𝓤 H A 𝓣 E G26 b23 Δ3 (at17 bs)
           d17 = Typed.s-seq 𝓤 H A W 𝓣 E G26 G27 b13 b22 Δ3 (Typed.pass T26 T27 (s23 bs)) (at16 bs) (Init.t-addr 𝓤 H A W E 𝓣 G26 14 4 (Reads.room-gone 𝓤 H A
@@ -1839,35 +1445,26 @@ module _ (claims· : Claims) where
               A W Row.sUnit)) d30
 
           d32 : Typed.Typed 𝓤 H A 𝓣 E G42 b34 Δ0 (at32 bs)
-          d32 = Typed.g-pre 𝓤 H A W 𝓣 E G42 G43 b34 Δ0 (Typed.pass T42 T43 (s39 bs)) (at31 bs) (Scalar.g-room 𝓤 H A W E G42 19 ty-2 (Shared.room-sslice 𝓤 H A W
-              (Referent.rtF (Referent.fInt Syntax.w8)) (Syntax.tyRef Syntax.erased Syntax.imm (Syntax.tyInt Syntax.w8)) 2)) d31
+          d32 = Typed.g-pre 𝓤 H A W 𝓣 E G42 G43 b34 Δ0 (Typed.pass T42 T43 (s39 bs)) (at31 bs) (Scalar.g-room 𝓤 H A W E G42 19 type-slice-2 (Shared.room-sslice
+              𝓤 H A W (Referent.rtF (Referent.fInt Syntax.w8)) (Syntax.tyRef Syntax.erased Syntax.imm (Syntax.tyInt Syntax.w8)) 2)) d31
 
           d33 : Typed.Typed 𝓤 H A 𝓣 E G41 b35 Δ0 (at33 bs)
           d33 = Typed.s-seq 𝓤 H A W 𝓣 E G41 G42 b31 b34 Δ0 (Typed.both (s38 bs)) (at32 bs) (Plain.t-call-plain 𝓤 H A W 𝓣 1 ps·4 r·4 (claims· .8) (claims· .9)
-              "replay::output::word" (known .4) E (λ pos β. β) G41 (
-                record {
-                  pos = 19;
-                  ty = Syntax.tyRef Syntax.erased Syntax.imm (Syntax.tyInt Syntax.w8);
-                  ref
-                      = λ x. x;
-                },
-                tt,
-              ) 11 (List._∷_ 2 List.[]) (Call.sub-id 𝓤 H A W (G41 .slots)) (
-                ShrSlice.spares-sslice 𝓤 H A W (Referent.rtF (Referent.fInt
-                    Syntax.w8)) (Syntax.tyRef Syntax.erased Syntax.imm (Syntax.tyInt Syntax.w8)) 2,
-                Shared.reads-sslice 𝓤 H A W (Referent.rtF (Referent.fInt
-                    Syntax.w8)) (Syntax.tyRef Syntax.erased Syntax.imm (Syntax.tyInt Syntax.w8)) 2,
+              "replay::output::word" (known .4) E (λ pos β. β) G41
+              (record { pos = 19; ty = Syntax.tyRef Syntax.erased Syntax.imm (Syntax.tyInt Syntax.w8); ref = λ x. x }, tt) 11 (List._∷_ 2 List.[]) (Call.sub-id
+              𝓤 H A W (G41 .slots)) (
+                ShrSlice.spares-sslice 𝓤 H A W (Referent.rtF (Referent.fInt Syntax.w8)) (Syntax.tyRef Syntax.erased Syntax.imm (Syntax.tyInt Syntax.w8)) 2,
+                Shared.reads-sslice 𝓤 H A W (Referent.rtF (Referent.fInt Syntax.w8)) (Syntax.tyRef Syntax.erased Syntax.imm (Syntax.tyInt Syntax.w8)) 2,
                 Path'.refl,
                 tt,
-              ) (Reads.room-gone 𝓤 H A Syntax.tyUnit) (tt, tt)
-              Path'.refl) d32
+              ) (Reads.room-gone 𝓤 H A Syntax.tyUnit) (tt, tt) Path'.refl) d32
 
           d34 : Typed.Typed 𝓤 H A 𝓣 E G40 b36 Δ0 (at34 bs)
           d34 = Typed.s-seq 𝓤 H A W 𝓣 E G40 G41 b30 b35 Δ0 (Typed.ask (s37 bs)) (at33 bs) (Relend.t-sl-aggregate 𝓤 H A W E (Referent.rtF (Referent.fInt
               Syntax.w8)) 𝓣 (Relend.asShr (Referent.rtF (Referent.fInt Syntax.w8))) G40 18 19 2 (Syntax.tyRef Syntax.erased Syntax.imm (Syntax.tyArray
               (Syntax.tyInt Syntax.w8) 1)) (Syntax.tyRef Syntax.erased Syntax.imm (Syntax.tyInt Syntax.w8)) (λ x. x) (Scalar.oInt Syntax.w64 1) (Reads.as-is 𝓤 H
               A (Relend.ssptr (Referent.rtF (Referent.fInt Syntax.w8)) (Syntax.tyRef Syntax.erased Syntax.imm (Syntax.tyArray (Syntax.tyInt Syntax.w8) 1)) 2))
-              (Reads.room-gone 𝓤 H A ty-2) tt Path'.refl Path'.refl λ b o k. tt) d33
+              (Reads.room-gone 𝓤 H A type-slice-2) tt Path'.refl Path'.refl λ b o k. tt) d33
 
           d35 : Typed.Typed 𝓤 H A 𝓣 E G39 b37 Δ0 (at35 bs)
           d35 = Typed.s-seq 𝓤 H A W 𝓣 E G39 G40 b29 b36 Δ0 (Typed.give (s36 bs)) (at34 bs) (Share.t-arr-share 𝓤 H A W E 𝓣 (Referent.rtF (Referent.fInt
@@ -1876,37 +1473,8 @@ module _ (claims· : Claims) where
               (Syntax.tyInt Syntax.w8) 1))) Path'.refl (λ b o. tt) (Dec'.lit< tt, Dec'.lit< tt)) d34
 
           d36 : Typed.Typed 𝓤 H A 𝓣 E G20 b37 Δ0 (at36 bs)
-          d36 = Typed.g-pre 𝓤 H A W 𝓣 E G20 G39 b37 Δ0 (λ Ψ. Ψ) (at35 bs) (Lifetime.g-begin 𝓤 H A W E G20 2 (
-            tt,
-            (
-              tt,
-              (
-                tt,
-                (
-                  tt,
-                  (
-                    tt,
-                    (
-                      tt,
-                      (
-                        tt,
-                        (
-                          tt,
-                          (
-                            tt,
-                            (
-                              tt,
-                              (tt, (tt, (tt, (tt, (tt, (tt, (tt, (tt, (tt, (tt, tt)))))))))),
-                            ),
-                          ),
-                        ),
-                      ),
-                    ),
-                  ),
-                ),
-              ),
-            ),
-          )) d35
+          d36 = Typed.g-pre 𝓤 H A W 𝓣 E G20 G39 b37 Δ0 (λ Ψ. Ψ) (at35 bs) (Lifetime.g-begin 𝓤 H A W E G20 2
+              (tt, (tt, (tt, (tt, (tt, (tt, (tt, (tt, (tt, (tt, (tt, (tt, (tt, (tt, (tt, (tt, (tt, (tt, (tt, (tt, tt))))))))))))))))))))) d35
 
           d37 : Typed.Typed 𝓤 H A 𝓣 E G19 b38 Δ0 (at37 bs)
           d37 = Typed.t-seq 𝓤 H A W 𝓣 E G19 G20 b28 b37 Δ0 (at22 bs) (at36 bs) d22 d36
@@ -1921,30 +1489,29 @@ module _ (claims· : Claims) where
               A W Row.sUnit)) d38
 
           d40 : Typed.Typed 𝓤 H A 𝓣 E G16 b39 Δ0 (at40 bs)
-          d40 = Typed.g-pre 𝓤 H A W 𝓣 E G16 G17 b39 Δ0 (Typed.pass T16 T17 (s15 bs)) (at39 bs) (Scalar.g-room 𝓤 H A W E G16 5 ty-0 (Local.room-whole 𝓤 H A W
-              (Declared.row Cutting.the-type) ty-0 Path'.refl)) d39
+          d40 = Typed.g-pre 𝓤 H A W 𝓣 E G16 G17 b39 Δ0 (Typed.pass T16 T17 (s15 bs)) (at39 bs) (Scalar.g-room 𝓤 H A W E G16 5 type-Cutting (Local.room-whole 𝓤 H
+              A W (Declared.row Cutting.the-type) type-Cutting Path'.refl)) d39
 
           d41 : Typed.Typed 𝓤 H A 𝓣 E G15 b40 Δ0 (at41 bs)
           d41 = Typed.s-seq 𝓤 H A W 𝓣 E G15 G16 b6 b39 Δ0 (Typed.both (s14 bs)) (at40 bs) (Plain.t-call-plain 𝓤 H A W 𝓣 0 ps·2 r·2 (claims· .4) (claims· .5)
               "replay::tell_cutting" (known .2) E (λ pos β. β) G15 (record { pos = 5; st = List.[]; d = 0; at = λ x. x }, tt) 11 List.[] (Call.sub-id 𝓤 H A W
               (G15 .slots)) (
                 (
-                  Yields.yields-copy 𝓤 H A W (λ ρ. Unit) (Declared.row Cutting.the-type) Path'.refl (Copies.cStruct Cutting.the-type Laws.the-laws
-                      Laws.the-copy .copy 𝓤 H A W) (Rows'.whole (Declared.row Cutting.the-type)) (λ x. x) (λ x. x) (λ ρ told. Local.mem-whole 𝓤 H A W (Declared.row
+                  Yields.yields-copy 𝓤 H A W (λ ρ. Unit) (Declared.row Cutting.the-type) Path'.refl (Copies.cStruct Cutting.the-type Laws.the-laws Laws.the-copy
+                      .copy 𝓤 H A W) (Rows'.whole (Declared.row Cutting.the-type)) (λ x. x) (λ x. x) (λ ρ told. Local.mem-whole 𝓤 H A W (Declared.row
                       Cutting.the-type) ρ) λ ρ told. Local.whole-mem 𝓤 H A W (Declared.row Cutting.the-type) ρ,
                   Path'.refl,
                 ),
                 tt,
-              ) (Reads.room-gone 𝓤 H A Syntax.tyUnit)
-              tt Path'.refl) d40
+              ) (Reads.room-gone 𝓤 H A Syntax.tyUnit) tt Path'.refl) d40
 
           d42 : Typed.Typed 𝓤 H A 𝓣 E G14 b40 Δ0 (at42 bs)
           d42 = Typed.g-pre 𝓤 H A W 𝓣 E G14 G15 b40 Δ0 (λ Ψ. Ψ) (at41 bs) (Lifetime.g-forget 𝓤 H A W E G14 1 Row.dead Path'.refl) d41
 
           d43 : Typed.Typed 𝓤 H A 𝓣 E G13 b40 Δ0 (at43 bs)
-          d43 = Typed.g-pre 𝓤 H A W 𝓣 E G13 G14 b40 Δ0 (Typed.both (s12 bs)) (at42 bs) (Share.g-back-arrᵖ 𝓤 H A W E EntryKind.R G13 10 4 1 4096 (Syntax.tyRef
-              Syntax.erased Syntax.mut EntryKind.elem) (λ x. x) (λ x. x) (Reads.as-is 𝓤 H A (Mut.msleft EntryKind.R (Syntax.tyRef Syntax.erased Syntax.mut
-              EntryKind.elem))) (Reads.as-is 𝓤 H A (Rows.arr-owedP EntryKind.R 4096 1)) Path'.refl) d42
+          d43 = Typed.g-pre 𝓤 H A W 𝓣 E G13 G14 b40 Δ0 (Typed.both (s12 bs)) (at42 bs) (Share.g-back-arrᵖ 𝓤 H A W E EntryKind.row G13 10 4 1 4096 (Syntax.tyRef
+              Syntax.erased Syntax.mut EntryKind.pointee) (λ x. x) (λ x. x) (Reads.as-is 𝓤 H A (Mut.msleft EntryKind.row (Syntax.tyRef Syntax.erased Syntax.mut
+              EntryKind.pointee))) (Reads.as-is 𝓤 H A (Rows.arr-owedP EntryKind.row 4096 1)) Path'.refl) d42
 
           d44 : Typed.Typed 𝓤 H A 𝓣 E G12 b40 Δ0 (at44 bs)
           d44 = Typed.g-pre 𝓤 H A W 𝓣 E G12 G13 b40 Δ0 (λ Ψ. Ψ) (at43 bs) (Lifetime.g-end 𝓤 H A W E G12 1 Path'.refl) d43
@@ -1952,104 +1519,58 @@ module _ (claims· : Claims) where
           d45 : Typed.Typed 𝓤 H A 𝓣 E G11 b41 Δ0 (at45 bs)
           d45 = Typed.s-seq 𝓤 H A W 𝓣 E G11 G12 b5 b40 Δ0 (Typed.both (s10 bs)) (at44 bs) (Plain.t-call-plain 𝓤 H A W 𝓣 2 ps·1 r·1 (claims· .2) (claims· .3)
               "packet::entry::cut" (known .1) E (λ pos β. β) G11 (
-                record {
-                  pos = 1;
-                  ty = Syntax.tyRef (Syntax.named 0) Syntax.imm (Syntax.tyInt Syntax.w8);
-                  ref
-                      = λ x. x;
-                },
-                (record { pos = 10; ty = Syntax.tyRef Syntax.erased Syntax.mut EntryKind.elem; ref = λ x. x }, tt),
-              ) 5 (List._∷_ 0 (List._∷_ 1
-              List.[])) (Call.sub-id 𝓤 H A W (G11 .slots)) (
-                ShrSlice.spares-sslice 𝓤 H A W (Referent.rtF (Referent.fInt Syntax.w8)) (Syntax.tyRef (Syntax.named
-                    0) Syntax.imm (Syntax.tyInt Syntax.w8)) 0,
-                Shared.reads-sslice 𝓤 H A W (Referent.rtF (Referent.fInt Syntax.w8)) (Syntax.tyRef (Syntax.named 0)
-                    Syntax.imm (Syntax.tyInt Syntax.w8)) 0,
+                record { pos = 1; ty = Syntax.tyRef (Syntax.named 0) Syntax.imm (Syntax.tyInt Syntax.w8); ref = λ x. x },
+                (record { pos = 10; ty = Syntax.tyRef Syntax.erased Syntax.mut EntryKind.pointee; ref = λ x. x }, tt),
+              ) 5 (List._∷_ 0 (List._∷_ 1 List.[])) (Call.sub-id 𝓤 H A W (G11 .slots)) (
+                ShrSlice.spares-sslice 𝓤 H A W (Referent.rtF (Referent.fInt Syntax.w8)) (Syntax.tyRef (Syntax.named 0) Syntax.imm (Syntax.tyInt Syntax.w8)) 0,
+                Shared.reads-sslice 𝓤 H A W (Referent.rtF (Referent.fInt Syntax.w8)) (Syntax.tyRef (Syntax.named 0) Syntax.imm (Syntax.tyInt Syntax.w8)) 0,
                 Path'.refl,
                 (
-                  Reads.as-is 𝓤 H A (Mut.mslice EntryKind.R (Syntax.tyRef Syntax.erased Syntax.mut
-                      EntryKind.elem) 1),
-                  Mut.reads-mslice 𝓤 H A W EntryKind.R (Syntax.tyRef Syntax.erased Syntax.mut EntryKind.elem) 1,
+                  Reads.as-is 𝓤 H A (Mut.mslice EntryKind.row (Syntax.tyRef Syntax.erased Syntax.mut EntryKind.pointee) 1),
+                  Mut.reads-mslice 𝓤 H A W EntryKind.row (Syntax.tyRef Syntax.erased Syntax.mut EntryKind.pointee) 1,
                   Path'.refl,
                   tt,
                 ),
-              )
-              (Reads.room-gone 𝓤 H A ty-0) (tt, (tt, tt)) Path'.refl) d44
+              ) (Reads.room-gone 𝓤 H A type-Cutting) (tt, (tt, tt)) Path'.refl) d44
 
           d46 : Typed.Typed 𝓤 H A 𝓣 E G10 b42 Δ0 (at46 bs)
-          d46 = Typed.s-seq 𝓤 H A W 𝓣 E G10 G11 b4 b41 Δ0 (Typed.ask (s9 bs)) (at45 bs) (Relend.t-sl-aggregate 𝓤 H A W E EntryKind.R 𝓣 (Relend.asMut
-              EntryKind.R) G10 9 10 1 (Syntax.tyRef Syntax.erased Syntax.mut (Syntax.tyArray EntryKind.elem 4096)) (Syntax.tyRef Syntax.erased Syntax.mut
-              EntryKind.elem) (λ x. x) (Scalar.oAt 2 (Syntax.tyInt Syntax.w64) (Row.valS (Row.sInt Syntax.w64))) (Reads.as-is 𝓤 H A (Relend.msptr EntryKind.R
-              (Syntax.tyRef Syntax.erased Syntax.mut (Syntax.tyArray EntryKind.elem 4096)) 1)) (Reads.room-gone 𝓤 H A ty-1) (
-                Scalar.reads-sc 𝓤 H A W (Row.sInt
-                    Syntax.w64),
-                Path'.refl,
-              ) Path'.refl Path'.refl λ b o k. tt) d45
+          d46 = Typed.s-seq 𝓤 H A W 𝓣 E G10 G11 b4 b41 Δ0 (Typed.ask (s9 bs)) (at45 bs) (Relend.t-sl-aggregate 𝓤 H A W E EntryKind.row 𝓣 (Relend.asMut
+              EntryKind.row) G10 9 10 1 (Syntax.tyRef Syntax.erased Syntax.mut (Syntax.tyArray EntryKind.pointee 4096)) (Syntax.tyRef Syntax.erased Syntax.mut
+              EntryKind.pointee) (λ x. x) (Scalar.oAt 2 (Syntax.tyInt Syntax.w64) (Row.valS (Row.sInt Syntax.w64))) (Reads.as-is 𝓤 H A (Relend.msptr
+              EntryKind.row (Syntax.tyRef Syntax.erased Syntax.mut (Syntax.tyArray EntryKind.pointee 4096)) 1)) (Reads.room-gone 𝓤 H A type-slice)
+              (Scalar.reads-sc 𝓤 H A W (Row.sInt Syntax.w64), Path'.refl) Path'.refl Path'.refl λ b o k. tt) d45
 
           d47 : Typed.Typed 𝓤 H A 𝓣 E G9 b43 Δ0 (at47 bs)
-          d47 = Typed.s-seq 𝓤 H A W 𝓣 E G9 G10 b3 b42 Δ0 (Typed.both (s8 bs)) (at46 bs) (Share.t-arr-borrowᵖ 𝓤 H A W E 𝓣 EntryKind.R G9 4 9 4096 1 (Syntax.tyRef
-              Syntax.erased Syntax.mut (Syntax.tyArray EntryKind.elem 4096)) (λ x. x) (λ u. u .1 .1 .0) (Reads.as-is 𝓤 H A (Rows.arrF EntryKind.R 4096 0))
-              (Reads.room-gone 𝓤 H A (Syntax.tyRef Syntax.erased Syntax.mut (Syntax.tyArray EntryKind.elem 4096))) Path'.refl (λ b o. tt) (
-                Dec'.lit< tt,
-                Dec'.lit< tt,
-              )) d46
+          d47 = Typed.s-seq 𝓤 H A W 𝓣 E G9 G10 b3 b42 Δ0 (Typed.both (s8 bs)) (at46 bs) (Share.t-arr-borrowᵖ 𝓤 H A W E 𝓣 EntryKind.row G9 4 9 4096 1
+              (Syntax.tyRef Syntax.erased Syntax.mut (Syntax.tyArray EntryKind.pointee 4096)) (λ x. x) (λ u. u .1 .1 .0) (Reads.as-is 𝓤 H A (Rows.arrF
+              EntryKind.row 4096 0)) (Reads.room-gone 𝓤 H A (Syntax.tyRef Syntax.erased Syntax.mut (Syntax.tyArray EntryKind.pointee 4096))) Path'.refl (λ b o.
+              tt) (Dec'.lit< tt, Dec'.lit< tt)) d46
 
           d48 : Typed.Typed 𝓤 H A 𝓣 E G8 b43 Δ0 (at48 bs)
-          d48 = Typed.g-pre 𝓤 H A W 𝓣 E G8 G9 b43 Δ0 (λ Ψ. Ψ) (at47 bs) (Lifetime.g-begin 𝓤 H A W E G8 1 (
-            tt,
-            (
-              tt,
-              (
-                tt,
-                (
-                  tt,
-                  (
-                    tt,
-                    (
-                      tt,
-                      (
-                        tt,
-                        (
-                          tt,
-                          (
-                            tt,
-                            (
-                              tt,
-                              (
-                                tt,
-                                (tt, (tt, (tt, (tt, (tt, (tt, (tt, (tt, (tt, tt))))))))),
-                              ),
-                            ),
-                          ),
-                        ),
-                      ),
-                    ),
-                  ),
-                ),
-              ),
-            ),
-          )) d47
+          d48 = Typed.g-pre 𝓤 H A W 𝓣 E G8 G9 b43 Δ0 (λ Ψ. Ψ) (at47 bs) (Lifetime.g-begin 𝓤 H A W E G8 1
+              (tt, (tt, (tt, (tt, (tt, (tt, (tt, (tt, (tt, (tt, (tt, (tt, (tt, (tt, (tt, (tt, (tt, (tt, (tt, (tt, tt))))))))))))))))))))) d47
 
           d49 : Typed.Typed 𝓤 H A 𝓣 E G7 b43 Δ0 (at49 bs)
-          d49 = Typed.g-pre 𝓤 H A W 𝓣 E G7 G8 b43 Δ0 (Typed.pass T7 T8 (s6 bs)) (at48 bs) (Scalar.g-room 𝓤 H A W E G7 3 EntryKind.spelled (EntryKind.room 𝓤 H A
+          d49 = Typed.g-pre 𝓤 H A W 𝓣 E G7 G8 b43 Δ0 (Typed.pass T7 T8 (s6 bs)) (at48 bs) (Scalar.g-room 𝓤 H A W E G7 3 EntryKind.by-value (EntryKind.room 𝓤 H A
               W)) d48
 
           d50 : Typed.Typed 𝓤 H A 𝓣 E G6 b43 Δ0 (at50 bs)
-          d50 = Typed.g-pre 𝓤 H A W 𝓣 E G6 G7 b43 Δ0 (Typed.pass T6 T7 (s5 bs)) (at49 bs) (AtSlots.g-as-by 𝓤 H A W E (λ ρ. Unit) G6 4 (Rows.arrF EntryKind.R
-              4096 0) (λ x. x) (Own.told-none 𝓤 H A (G6 .slots)) λ ρ told. Repeat.whole-arr 𝓤 H A W EntryKind.R 4096 tt ρ) d49
+          d50 = Typed.g-pre 𝓤 H A W 𝓣 E G6 G7 b43 Δ0 (Typed.pass T6 T7 (s5 bs)) (at49 bs) (AtSlots.g-as-by 𝓤 H A W E (λ ρ. Unit) G6 4 (Rows.arrF EntryKind.row
+              4096 0) (λ x. x) (Own.told-none 𝓤 H A (G6 .slots)) λ ρ told. Repeat.whole-arr 𝓤 H A W EntryKind.row 4096 tt ρ) d49
 
           d51 : Typed.Typed 𝓤 H A 𝓣 E G5 b44 Δ0 (at51 bs)
-          d51 = Typed.s-seq 𝓤 H A W 𝓣 E G5 G6 b2 b43 Δ0 (Typed.pass T5 T6 (s4 bs)) (at50 bs) (Repeat.t-repeat-by 𝓤 H A W E 𝓣 EntryKind.R (EntryKind.lawful 𝓤 H A
-              W) (EntryKind.copies .copy 𝓤 H A W) 4096 G5 4 (Scalar.oAt 3 EntryKind.spelled λ x. Steps.only (EntryKind.copies .vals x)) (λ m. m .1 .1 .1 .0) (λ
-              ρ. Unit) (Reads.room-gone 𝓤 H A (Syntax.tyArray EntryKind.spelled 4096)) (EntryKind.reads 𝓤 H A W, Path'.refl) Path'.refl (Own.told-none 𝓤 H A (G5
-              .slots)) λ ρ m pf wa. Gives.elem-local 𝓤 H A W E ρ EntryKind.R (λ x. Steps.only (EntryKind.copies .vals x)) (EntryKind.copies .tells) (Row.out 4
-              (G5 .locals)) m (λ ρ. Unit) pf 3 EntryKind.spelled (λ x. x) (Yields.yields-copy 𝓤 H A W (λ ρ. Unit) EntryKind.R Path'.refl (EntryKind.copies .copy
-              𝓤 H A W) EntryKind.whole (λ x. x) (λ x. x) (λ ρ told. EntryKind.in-mem 𝓤 H A W ρ) λ ρ told. EntryKind.of-mem 𝓤 H A W ρ)) d50
+          d51 = Typed.s-seq 𝓤 H A W 𝓣 E G5 G6 b2 b43 Δ0 (Typed.pass T5 T6 (s4 bs)) (at50 bs) (Repeat.t-repeat-by 𝓤 H A W E 𝓣 EntryKind.row (EntryKind.lawful 𝓤 H
+              A W) (EntryKind.copied .copy 𝓤 H A W) 4096 G5 4 (Scalar.oAt 3 EntryKind.by-value λ x. Steps.only (EntryKind.copied .vals x)) (λ m. m .1 .1 .1 .0)
+              (λ ρ. Unit) (Reads.room-gone 𝓤 H A (Syntax.tyArray EntryKind.by-value 4096)) (EntryKind.reads 𝓤 H A W, Path'.refl) Path'.refl (Own.told-none 𝓤 H A
+              (G5 .slots)) λ ρ m pf wa. Gives.elem-local 𝓤 H A W E ρ EntryKind.row (λ x. Steps.only (EntryKind.copied .vals x)) (EntryKind.copied .tells)
+              (Row.out 4 (G5 .locals)) m (λ ρ. Unit) pf 3 EntryKind.by-value (λ x. x) (Yields.yields-copy 𝓤 H A W (λ ρ. Unit) EntryKind.row Path'.refl
+              (EntryKind.copied .copy 𝓤 H A W) EntryKind.local (λ x. x) (λ x. x) (λ ρ told. EntryKind.in-memory 𝓤 H A W ρ) λ ρ told. EntryKind.of-memory 𝓤 H A W
+              ρ)) d50
 
           d52 : Typed.Typed 𝓤 H A 𝓣 E G4 b45 Δ0 (at52 bs)
           d52 = Typed.s-seq 𝓤 H A W 𝓣 E G4 G5 b1 b44 Δ0 (Typed.both (s3 bs)) (at51 bs) (Plain.t-call-plain 𝓤 H A W 𝓣 0 ps·0 r·0 (claims· .0) (claims· .1)
-              "replay::unread_entry" (known .0) E (λ pos β. β) G4 tt 3 List.[] (Call.sub-id 𝓤 H A W (G4 .slots)) tt (Reads.room-gone 𝓤 H A EntryKind.spelled) tt
-              Path'.refl) d51
+              "replay::unread_entry" (known .0) E (λ pos β. β) G4 tt 3 List.[] (Call.sub-id 𝓤 H A W (G4 .slots)) tt (Reads.room-gone 𝓤 H A EntryKind.by-value)
+              tt Path'.refl) d51
 
           d53 : Typed.Typed 𝓤 H A 𝓣 E G3 b45 Δ0 (at53 bs)
           d53 = Typed.g-pre 𝓤 H A W 𝓣 E G3 G4 b45 Δ0 (Typed.pass T3 T4 (s2 bs)) (at52 bs) (AtSlots.g-as-by 𝓤 H A W E (λ ρ. Unit) G3 8 (Rows.arrF (Referent.rtF
@@ -2061,11 +1582,8 @@ module _ (claims· : Claims) where
               (Referent.fInt Syntax.w8)) 1) Path'.refl (Gives.arrayValOf λ x. Steps.only (Copies.cRf (Referent.fInt Syntax.w8) .vals x)) (Array'.array-lawful 𝓤
               H A W (Referent.rtF (Referent.fInt Syntax.w8)) (Plain'.uint-lawful 𝓤 H A W Syntax.w8) 1) (Array'.array-makes 𝓤 H A W (Referent.rtF (Referent.fInt
               Syntax.w8)) (Plain'.uint-makes 𝓤 H A W Syntax.w8) 1) G2 8 (List._∷_ (Scalar.oInt Syntax.w8 10) List.[]) (λ m. List._∷_ 10 List.[])
-              (Reads.room-gone 𝓤 H A (Syntax.tyArray (Syntax.tyInt Syntax.w8) 1)) (tt, tt) Path'.refl (λ m wa. Path'.refl) λ m wa. (
-                List._∷_ (Row.valS (Row.sInt
-                    Syntax.w8) 10) List.[],
-                ((Path'.refl, Path'.refl), ((Path'.refl, Dec'.lit< tt), tt)),
-              )) d53
+              (Reads.room-gone 𝓤 H A (Syntax.tyArray (Syntax.tyInt Syntax.w8) 1)) (tt, tt) Path'.refl (λ m wa. Path'.refl) λ m wa.
+              (List._∷_ (Row.valS (Row.sInt Syntax.w8) 10) List.[], ((Path'.refl, Path'.refl), ((Path'.refl, Dec'.lit< tt), tt)))) d53
 
           d55 : Typed.Typed 𝓤 H A 𝓣 E G0 b46 Δ0 (at55 bs)
           d55 = Typed.g-pre 𝓤 H A W 𝓣 E G0 G2 b46 Δ0 (Typed.give (s0 bs)) (at54 bs) (Know.g-shs-known 𝓤 H A W (Referent.fInt Syntax.w8) E G0 1 0 (Syntax.tyRef
@@ -2094,8 +1612,8 @@ module _ (claims· : Claims) where
       W0 = λ κs args blocks. (
         λ u. ⊥,
         tt,
-        λ u. Enter.Fixs κs 1 ps xs (dens κs args) (u .1) × Post· κs (dens κs args) (Function.resV r κs (u .0)) (Clauses.atExit
-            (Kinds.endedOf 1 ps r) κs (dens κs args) (Enter.lastsP κs 1 ps xs (dens κs args) (u .1))),
+        λ u. Enter.Fixs κs 1 ps xs (dens κs args) (u .1) × Post· κs (dens κs args) (Function.resV r κs (u .0)) (Clauses.atExit (Kinds.endedOf 1 ps r) κs (dens
+            κs args) (Enter.lastsP κs 1 ps xs (dens κs args) (u .1))),
       )
 
       pub record Start : Type 0 where
@@ -2186,15 +1704,9 @@ module _ (claims· : Claims) where
       module _ (before· : After-list) where
         abbrev pub After-cut·own : Type 0
         After-cut·own = Called.Called ps·1 r·1 (claims· .3) T11 (
-          record {
-            pos = 1;
-            ty = Syntax.tyRef (Syntax.named 0) Syntax.imm (Syntax.tyInt Syntax.w8);
-            ref =
-                λ x. x;
-          },
-          (record { pos = 10; ty = Syntax.tyRef Syntax.erased Syntax.mut EntryKind.elem; ref = λ x. x }, tt),
-        ) (m9 (before· .before) (before· .list
-            .given))
+          record { pos = 1; ty = Syntax.tyRef (Syntax.named 0) Syntax.imm (Syntax.tyInt Syntax.w8); ref = λ x. x },
+          (record { pos = 10; ty = Syntax.tyRef Syntax.erased Syntax.mut EntryKind.pointee; ref = λ x. x }, tt),
+        ) (m9 (before· .before) (before· .list .given))
 
       pub record After-cut : Type 0 where
         pub before : After-list
@@ -2202,14 +1714,9 @@ module _ (claims· : Claims) where
 
       abbrev pub After-cut·gave : (c : After-cut) → s10 (c .before .before .before .before .blocks) .gives (m9 (c .before .before) (c .before .list .given))
       After-cut·gave = λ c. Called.given ps·1 r·1 (claims· .3) T11 (
-        record {
-          pos = 1;
-          ty = Syntax.tyRef (Syntax.named 0) Syntax.imm (Syntax.tyInt Syntax.w8);
-          ref = λ x. x;
-        },
-        (record { pos = 10; ty = Syntax.tyRef Syntax.erased Syntax.mut EntryKind.elem; ref = λ x. x }, tt),
-      ) (m9 (c .before .before) (c
-          .before .list .given)) (c .cut)
+        record { pos = 1; ty = Syntax.tyRef (Syntax.named 0) Syntax.imm (Syntax.tyInt Syntax.w8); ref = λ x. x },
+        (record { pos = 10; ty = Syntax.tyRef Syntax.erased Syntax.mut EntryKind.pointee; ref = λ x. x }, tt),
+      ) (m9 (c .before .before) (c .before .list .given)) (c .cut)
 
       abbrev pub m11 : (before : After-cut) → (given : s12 (before .before .before .before .before .blocks) .gives (m10 (before .before) (After-cut·gave
           before))) → Typed.Mo T14
@@ -2462,15 +1969,9 @@ module _ (claims· : Claims) where
 
       module _ (before· : After-word-arg) where
         abbrev pub After-word·own : Type 0
-        After-word·own = Called.Called ps·4 r·4 (claims· .9) T41 (
-          record {
-            pos = 19;
-            ty = Syntax.tyRef Syntax.erased Syntax.imm (Syntax.tyInt Syntax.w8);
-            ref =
-                λ x. x;
-          },
-          tt,
-        ) (m35 (before· .before) (before· .word-arg .given))
+        After-word·own = Called.Called ps·4 r·4 (claims· .9) T41
+            (record { pos = 19; ty = Syntax.tyRef Syntax.erased Syntax.imm (Syntax.tyInt Syntax.w8); ref = λ x. x }, tt) (m35 (before· .before) (before·
+            .word-arg .given))
 
       pub record After-word : Type 0 where
         pub before : After-word-arg
@@ -2478,15 +1979,9 @@ module _ (claims· : Claims) where
 
       abbrev pub After-word·gave : (c : After-word) → s38 (c .before .before .before .before .before .before .before .before .before .before .blocks) .gives
           (m35 (c .before .before) (c .before .word-arg .given))
-      After-word·gave = λ c. Called.given ps·4 r·4 (claims· .9) T41 (
-        record {
-          pos = 19;
-          ty = Syntax.tyRef Syntax.erased Syntax.imm (Syntax.tyInt Syntax.w8);
-          ref
-              = λ x. x;
-        },
-        tt,
-      ) (m35 (c .before .before) (c .before .word-arg .given)) (c .word)
+      After-word·gave = λ c. Called.given ps·4 r·4 (claims· .9) T41
+          (record { pos = 19; ty = Syntax.tyRef Syntax.erased Syntax.imm (Syntax.tyInt Syntax.w8); ref = λ x. x }, tt) (m35 (c .before .before) (c .before
+          .word-arg .given)) (c .word)
 
       abbrev pub m37 : (before : After-word-arg) → (given : s38 (before .before .before .before .before .before .before .before .before .before .blocks) .gives
           (m35 (before .before) (before .word-arg .given))) → Typed.Mo T43
@@ -2543,32 +2038,12 @@ module _ (claims· : Claims) where
           Relend.count-is T40 18 19 (λ x. x) (λ u. 1) (m34 record { before = c .before; loop-test = c .loop-test } g) (slice-aggregate-word
               record { before = record { before = c .before; loop-test = c .loop-test }; word-arg = record { given = g } }),
           (
-            word-requires record {
-              before =
-                  record { before = c .before; loop-test = c .loop-test };
-              word-arg = record { given = g };
-            },
+            word-requires record { before = record { before = c .before; loop-test = c .loop-test }; word-arg = record { given = g } },
             λ g'. lay9 record {
-              before = record {
-                before = record {
-                  before = c .before;
-                  loop-test = c .loop-test;
-                };
-                word-arg = record { given = g };
-              };
-              word = Called.called ps·4 r·4 (claims· .9) T41 (
-                record {
-                  pos =
-                      19;
-                  ty = Syntax.tyRef Syntax.erased Syntax.imm (Syntax.tyInt Syntax.w8);
-                  ref = λ x. x;
-                },
-                tt,
-              ) (m35 record {
-                before = c .before;
-                loop-test = c
-                    .loop-test;
-              } g) g';
+              before = record { before = record { before = c .before; loop-test = c .loop-test }; word-arg = record { given = g } };
+              word = Called.called ps·4 r·4 (claims· .9) T41
+                  (record { pos = 19; ty = Syntax.tyRef Syntax.erased Syntax.imm (Syntax.tyInt Syntax.w8); ref = λ x. x }, tt) (m35
+                  record { before = c .before; loop-test = c .loop-test } g) g';
             },
           ),
         )
@@ -2578,26 +2053,23 @@ module _ (claims· : Claims) where
         lay7 = λ c. (
           add-i record { before = c .before; tell-entry = c .tell-entry },
           (
-            μ·0 (Row.get 1 (T19 .locals) (m15 (c .before .before .before .before
-                .before) (After-tell-cutting·gave (c .before .before .before .before))) .now) (Row.get 2 (T19 .locals) (m15 (c .before .before .before .before
-                .before) (After-tell-cutting·gave (c .before .before .before .before)))) (Row.get 4 (T19 .locals) (m15 (c .before .before .before .before .before)
-                (After-tell-cutting·gave (c .before .before .before .before)))) (Row.get 6 (T19 .locals) (m15 (c .before .before .before .before .before)
-                (After-tell-cutting·gave (c .before .before .before .before)))) (Row.get 8 (T19 .locals) (m15 (c .before .before .before .before .before)
-                (After-tell-cutting·gave (c .before .before .before .before)))) (Row.get 6 (T19 .locals) (m33 (c .before) (After-tell-entry·gave c))),
-            loop-less
-                record { before = c .before; tell-entry = c .tell-entry },
+            μ·0 (Row.get 1 (T19 .locals) (m15 (c .before .before .before .before .before) (After-tell-cutting·gave (c .before .before .before .before))) .now)
+                (Row.get 2 (T19 .locals) (m15 (c .before .before .before .before .before) (After-tell-cutting·gave (c .before .before .before .before))))
+                (Row.get 4 (T19 .locals) (m15 (c .before .before .before .before .before) (After-tell-cutting·gave (c .before .before .before .before))))
+                (Row.get 6 (T19 .locals) (m15 (c .before .before .before .before .before) (After-tell-cutting·gave (c .before .before .before .before))))
+                (Row.get 8 (T19 .locals) (m15 (c .before .before .before .before .before) (After-tell-cutting·gave (c .before .before .before .before))))
+                (Row.get 6 (T19 .locals) (m33 (c .before) (After-tell-entry·gave c))),
+            loop-less record { before = c .before; tell-entry = c .tell-entry },
             (
               Row.get 6 (T19 .locals) (m33 (c .before) (After-tell-entry·gave c)),
-              Path'.refl {a = m33
-                  (c .before) (After-tell-entry·gave c)},
+              Path'.refl {a = m33 (c .before) (After-tell-entry·gave c)},
               loop-again record { before = c .before; tell-entry = c .tell-entry },
-              Path'.refl {a = μ·0 (Row.get 1 (T19
-                  .locals) (m15 (c .before .before .before .before .before) (After-tell-cutting·gave (c .before .before .before .before))) .now) (Row.get 2 (T19
-                  .locals) (m15 (c .before .before .before .before .before) (After-tell-cutting·gave (c .before .before .before .before)))) (Row.get 4 (T19 .locals)
-                  (m15 (c .before .before .before .before .before) (After-tell-cutting·gave (c .before .before .before .before)))) (Row.get 6 (T19 .locals) (m15 (c
-                  .before .before .before .before .before) (After-tell-cutting·gave (c .before .before .before .before)))) (Row.get 8 (T19 .locals) (m15 (c .before
-                  .before .before .before .before) (After-tell-cutting·gave (c .before .before .before .before)))) (Row.get 6 (T19 .locals) (m33 (c .before)
-                  (After-tell-entry·gave c)))},
+              Path'.refl {a = μ·0 (Row.get 1 (T19 .locals) (m15 (c .before .before .before .before .before) (After-tell-cutting·gave (c .before .before .before
+                  .before))) .now) (Row.get 2 (T19 .locals) (m15 (c .before .before .before .before .before) (After-tell-cutting·gave (c .before .before .before
+                  .before)))) (Row.get 4 (T19 .locals) (m15 (c .before .before .before .before .before) (After-tell-cutting·gave (c .before .before .before
+                  .before)))) (Row.get 6 (T19 .locals) (m15 (c .before .before .before .before .before) (After-tell-cutting·gave (c .before .before .before
+                  .before)))) (Row.get 8 (T19 .locals) (m15 (c .before .before .before .before .before) (After-tell-cutting·gave (c .before .before .before
+                  .before)))) (Row.get 6 (T19 .locals) (m33 (c .before) (After-tell-entry·gave c)))},
             ),
           ),
         )
@@ -2609,33 +2081,13 @@ module _ (claims· : Claims) where
           (
             tt,
             (
-              (
-                (Path'.refl, Path'.refl),
-                array-copy-out-e record {
-                  before = c
-                      .before;
-                  loop-test = c .loop-test;
-                },
-              ),
+              ((Path'.refl, Path'.refl), array-copy-out-e record { before = c .before; loop-test = c .loop-test }),
               λ g. (
-                tell-entry-requires record {
-                  before = record { before = c .before; loop-test = c .loop-test };
-                  e =
-                      record { given = g };
-                },
+                tell-entry-requires record { before = record { before = c .before; loop-test = c .loop-test }; e = record { given = g } },
                 λ g'. lay7 record {
-                  before = record {
-                    before = record { before = c .before; loop-test = c .loop-test };
-                    e = record {
-                      given
-                          = g;
-                    };
-                  };
-                  tell-entry = Called.called ps·3 r·3 (claims· .7) T34 (record { pos = 7; st = List.[]; d = 0; at = λ x. x }, tt) (m29 record {
-                    before = c
-                        .before;
-                    loop-test = c .loop-test;
-                  } g) g';
+                  before = record { before = record { before = c .before; loop-test = c .loop-test }; e = record { given = g } };
+                  tell-entry = Called.called ps·3 r·3 (claims· .7) T34 (record { pos = 7; st = List.[]; d = 0; at = λ x. x }, tt) (m29
+                      record { before = c .before; loop-test = c .loop-test } g) g';
                 },
               ),
             ),
@@ -2663,35 +2115,17 @@ module _ (claims· : Claims) where
             tt,
             (
               λ taken. lay4 record {
-                before = record {
-                  before = record
-                      { before = c .before; tell-cutting = c .tell-cutting };
-                  loop = record { i = vs; inv = inv };
-                };
+                before = record { before = record { before = c .before; tell-cutting = c .tell-cutting }; loop = record { i = vs; inv = inv } };
                 loop-test = record {
-                  taken = Tests.ltb-true (Row.get
-                      6 (T19 .locals) (m16 record { before = c .before; tell-cutting = c .tell-cutting } vs)) (Row.get 2 (T19 .locals) (m16 record {
-                        before = c .before;
-                        tell-cutting = c .tell-cutting;
-                      } vs)) taken;
+                  taken = Tests.ltb-true (Row.get 6 (T19 .locals) (m16 record { before = c .before; tell-cutting = c .tell-cutting } vs)) (Row.get 2 (T19
+                      .locals) (m16 record { before = c .before; tell-cutting = c .tell-cutting } vs)) taken;
                 };
               },
               λ left. lay5 record {
-                before = record {
-                  before = record {
-                    before = c .before;
-                    tell-cutting = c
-                        .tell-cutting;
-                  };
-                  loop = record { i = vs; inv = inv };
-                };
+                before = record { before = record { before = c .before; tell-cutting = c .tell-cutting }; loop = record { i = vs; inv = inv } };
                 loop-test = record {
-                  left = Tests.ltb-false (Row.get 6 (T19 .locals) (m16 record {
-                    before =
-                        c .before;
-                    tell-cutting = c .tell-cutting;
-                  } vs)) (Row.get 2 (T19 .locals) (m16 record { before = c .before; tell-cutting = c .tell-cutting } vs))
-                      left;
+                  left = Tests.ltb-false (Row.get 6 (T19 .locals) (m16 record { before = c .before; tell-cutting = c .tell-cutting } vs)) (Row.get 2 (T19
+                      .locals) (m16 record { before = c .before; tell-cutting = c .tell-cutting } vs)) left;
                 };
               },
             ),
@@ -2704,13 +2138,11 @@ module _ (claims· : Claims) where
           Path'.refl,
           λ g. (
             tell-cutting-requires record { before = record { before = c .before; cut = c .cut }; list2 = record { given = g } },
-            λ
-                g'. lay3 record {
-                  before = record { before = record { before = c .before; cut = c .cut }; list2 = record { given = g } };
-                  tell-cutting =
-                      Called.called ps·2 r·2 (claims· .5) T14 (record { pos = 5; st = List.[]; d = 0; at = λ x. x }, tt) (m11 record { before = c .before; cut = c .cut }
-                      g) g';
-                },
+            λ g'. lay3 record {
+              before = record { before = record { before = c .before; cut = c .cut }; list2 = record { given = g } };
+              tell-cutting = Called.called ps·2 r·2 (claims· .5) T14 (record { pos = 5; st = List.[]; d = 0; at = λ x. x }, tt) (m11
+                  record { before = c .before; cut = c .cut } g) g';
+            },
           ),
         )
 
@@ -2719,47 +2151,15 @@ module _ (claims· : Claims) where
         lay1 = λ c. (
           array-borrow-prefix-list record { before = c .before; unread-entry = c .unread-entry },
           λ g. (
-            Relend.count-is T10 9 10 (λ x. x) (λ u. u .1
-                .1 .0) (m8 record { before = c .before; unread-entry = c .unread-entry } g) (slice-aggregate-cut record {
-                  before = record {
-                    before = c .before;
-                    unread-entry = c .unread-entry;
-                  };
-                  list = record { given = g };
-                }),
+            Relend.count-is T10 9 10 (λ x. x) (λ u. u .1 .1 .0) (m8 record { before = c .before; unread-entry = c .unread-entry } g) (slice-aggregate-cut
+                record { before = record { before = c .before; unread-entry = c .unread-entry }; list = record { given = g } }),
             (
-              cut-requires record {
-                before = record {
-                  before = c .before;
-                  unread-entry = c
-                      .unread-entry;
-                };
-                list = record { given = g };
-              },
+              cut-requires record { before = record { before = c .before; unread-entry = c .unread-entry }; list = record { given = g } },
               λ g'. lay2 record {
-                before = record {
-                  before = record {
-                    before = c .before;
-                    unread-entry = c
-                        .unread-entry;
-                  };
-                  list = record { given = g };
-                };
+                before = record { before = record { before = c .before; unread-entry = c .unread-entry }; list = record { given = g } };
                 cut = Called.called ps·1 r·1 (claims· .3) T11 (
-                  record {
-                    pos = 1;
-                    ty = Syntax.tyRef (Syntax.named 0)
-                        Syntax.imm (Syntax.tyInt Syntax.w8);
-                    ref = λ x. x;
-                  },
-                  (
-                    record {
-                      pos = 10;
-                      ty = Syntax.tyRef Syntax.erased Syntax.mut EntryKind.elem;
-                      ref = λ x. x;
-                    },
-                    tt,
-                  ),
+                  record { pos = 1; ty = Syntax.tyRef (Syntax.named 0) Syntax.imm (Syntax.tyInt Syntax.w8); ref = λ x. x },
+                  (record { pos = 10; ty = Syntax.tyRef Syntax.erased Syntax.mut EntryKind.pointee; ref = λ x. x }, tt),
                 ) (m9 record { before = c .before; unread-entry = c .unread-entry } g) g';
               },
             ),
@@ -2770,11 +2170,7 @@ module _ (claims· : Claims) where
         laid = λ c. λ g. (
           unread-entry-requires record { before = c; shared-slice-known = record { given = g } },
           λ g'. lay1 record {
-            before = record {
-              before =
-                  c;
-              shared-slice-known = record { given = g };
-            };
+            before = record { before = c; shared-slice-known = record { given = g } };
             unread-entry = Called.called ps·0 r·0 (claims· .1) T4 tt (m3 c g) g';
           },
         )
@@ -2787,11 +2183,7 @@ module _ (claims· : Claims) where
             args = record { input = a .0; n = a .1 .0 };
             blocks = bs;
             good = good;
-            fits = record {
-              n = record {
-                fits = good .1 .0 .1;
-              };
-            };
+            fits = record { n = record { fits = good .1 .0 .1 } };
             pre = pre;
           }
 
@@ -2801,10 +2193,5 @@ module _ (claims· : Claims) where
             ps·3 r·3 (claims· .6) (claims· .7) "replay::tell_entry") (known4 : Plain.Known 𝓤 H A W 𝓣 1 ps·4 r·4 (claims· .8) (claims· .9)
             "replay::output::word") where
           pub spec : Statement.Triple 𝓤 (Wp.WpFn 𝓤 H (𝓣 .C) (𝓣 .Λ) (Function.fnOf 1 ps r xs m hs body)) (Function.plainOf 𝓤 H A 1 ps r Pre· Post·)
-          spec = Plain.t-fn-plain 𝓤 H A W 𝓣 1 ps r xs m hs body (λ κs qs bs. Φ bs) (λ κs qs bs bd. typed κs qs 𝓤 H A W 𝓣 (
-            known0,
-            known1,
-            known2,
-            known3,
-            known4,
-          ) bs bd) Pre· Post· asked
+          spec = Plain.t-fn-plain 𝓤 H A W 𝓣 1 ps r xs m hs body (λ κs qs bs. Φ bs) (λ κs qs bs bd. typed κs qs 𝓤 H A W 𝓣
+              (known0, known1, known2, known3, known4) bs bd) Pre· Post· asked

@@ -1,4 +1,4 @@
--- Made by lend.py of the code of `replay::cut_packet`: what Rattle makes of it over arrays, said of `Entry`.
+-- Made by tools/lend of the code of `replay::cut_packet`: what the kit makes of it over arrays, said of `Entry`.
 use Rattle.replay.proofs.cut_packet
 use Rattle.replay.proofs.cut_packet.Proof.Kinds
 use base.Logic

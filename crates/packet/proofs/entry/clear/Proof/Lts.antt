@@ -1,6 +1,6 @@
--- Made by lend.py of the code of `packet::entry::clear`: what Rattle makes of it over arrays, said of `Entry`.
-use Rattle.packet.proofs.EntryKind
+-- Made by tools/lend of the code of `packet::entry::clear`: what the kit makes of it over arrays, said of `Entry`.
 use Prim.Native.Nat
+use Rattle.packet.proofs.EntryKind
 use borrow.Author.Called
 use borrow.Author.Tests
 use borrow.Fn.Any
@@ -10,28 +10,21 @@ use borrow.Fn.Frame
 use borrow.Fn.Function
 use borrow.Fn.Kinds
 use borrow.Fn.Plain
-use borrow.Kind.Array
 use borrow.Kind.MutSlice
 use borrow.Kind.Num
 use borrow.Kind.Unit as Unit'
-use borrow.Rule.Array.Init
-use borrow.Rule.Array.Rows
-use borrow.Rule.Array.Whole
 use borrow.Rule.Scalar
 use borrow.Rule.Slice.Move
 use borrow.Rule.Slice.Mut
 use borrow.Rule.Slice.Shared
 use borrow.Rule.Yields
-use borrow.Table.Copies
 use borrow.Table.Elements
 use borrow.Table.Own
 use borrow.Table.Reads
-use borrow.Table.Referent
 use borrow.Table.Row
 use borrow.Table.Rows as Rows'
 use borrow.Table.Typed
 use contract.Lifetimes
-use denote.Array as Array'
 use denote.Triple.Clauses
 use denote.Triple.Statement
 use ghost.Atoms
@@ -45,13 +38,13 @@ use prog.Wp
 use types.Kit
 
 abbrev pub ps : List.List (Kinds.PK 1)
-ps = List._∷_ (MutSlice.pMutS EntryKind.R 0 tt) (List._∷_ (Num.pNum Syntax.w64) List.[])
+ps = List._∷_ (MutSlice.pMutS EntryKind.row 0 tt) (List._∷_ (Num.pNum Syntax.w64) List.[])
 
 abbrev pub r : Kinds.RK 1
 r = Unit'.rUnit
 
 abbrev pub xs : List.List Syntax.Ty
-xs = List._∷_ (Syntax.tyInt Syntax.w64) (List._∷_ EntryKind.spelled (List._∷_ (Syntax.tyInt Syntax.w64) (List._∷_ Syntax.tyBool (List._∷_ Syntax.tyPtr
+xs = List._∷_ (Syntax.tyInt Syntax.w64) (List._∷_ EntryKind.by-value (List._∷_ (Syntax.tyInt Syntax.w64) (List._∷_ Syntax.tyBool (List._∷_ Syntax.tyPtr
     List.[]))))
 
 abbrev pub m : Nat.ℕ
@@ -61,7 +54,7 @@ abbrev pub ps·0 : List.List (Kinds.PK 0)
 ps·0 = List.[]
 
 abbrev pub r·0 : Kinds.RK 0
-r·0 = EntryKind.r
+r·0 = EntryKind.returned
 
 abbrev pub hs : List.List Syntax.Home
 hs = List._∷_ Syntax.valueLocal (List._∷_ Syntax.valueLocal (List._∷_ Syntax.valueLocal (List._∷_ Syntax.valueLocal (List._∷_ Syntax.valueLocal (List._∷_
@@ -97,7 +90,7 @@ b8 = Syntax.assign (Syntax.place 7 List.[]) (Syntax.op2 Syntax.offset (Syntax.co
     (Syntax.place 5 List.[])))
 
 abbrev b9 : Syntax.Body
-b9 = Syntax.assign (Syntax.place 7 (List._∷_ (Syntax.deref EntryKind.spelled) List.[])) (Syntax.rvOpd (Syntax.copy (Syntax.place 4 List.[])))
+b9 = Syntax.assign (Syntax.place 7 (List._∷_ (Syntax.deref EntryKind.by-value) List.[])) (Syntax.rvOpd (Syntax.copy (Syntax.place 4 List.[])))
 
 abbrev b10 : Syntax.Body
 b10 = Syntax.assign (Syntax.place 3 List.[]) (Syntax.op2 (Syntax.add Syntax.unsigned) (Syntax.copy (Syntax.place 3 List.[])) (Syntax.int Syntax.w64 1))
@@ -151,122 +144,70 @@ abbrev pub Claims : Type 1
 Claims = Kinds.In 0 ps·0 × Kinds.Out 0 ps·0 r·0
 
 abbrev pub t0 : List.List Row.Entry
-t0 = List._∷_ (0, Rows'.any-gone Syntax.tyUnit) (List._∷_ (1, Mut.mslice EntryKind.R (Syntax.tyRef (Syntax.named 0) Syntax.mut EntryKind.elem) 0) (List._∷_ (
-  2,
-  Rows'.sc-here (Row.sInt Syntax.w64),
-) (List._∷_ (3, Rows'.any-gone (Syntax.tyInt Syntax.w64)) (List._∷_ (4, Rows'.any-gone EntryKind.spelled) (List._∷_ (
-  5,
-  Rows'.any-gone (Syntax.tyInt Syntax.w64),
-) (List._∷_ (6, Rows'.any-gone Syntax.tyBool) (List._∷_ (7, Rows'.any-gone Syntax.tyPtr) List.[])))))))
-
-abbrev pub t1 : List.List Row.Entry
-t1 = List._∷_ (0, Rows'.sc-here Row.sUnit) (List._∷_ (1, Mut.mslice EntryKind.R (Syntax.tyRef (Syntax.named 0) Syntax.mut EntryKind.elem) 0) (List._∷_ (
-  2,
-  Rows'.any-gone (Syntax.tyInt Syntax.w64),
-) (List._∷_ (3, Rows'.any-gone (Syntax.tyInt Syntax.w64)) (List._∷_ (4, Rows'.any-gone EntryKind.spelled) (List._∷_
+t0 = List._∷_ (0, Rows'.any-gone Syntax.tyUnit) (List._∷_ (1, Mut.mslice EntryKind.row (Syntax.tyRef (Syntax.named 0) Syntax.mut EntryKind.pointee) 0) (List._∷_
+    (2, Rows'.sc-here (Row.sInt Syntax.w64)) (List._∷_ (3, Rows'.any-gone (Syntax.tyInt Syntax.w64)) (List._∷_ (4, Rows'.any-gone EntryKind.by-value) (List._∷_
     (5, Rows'.any-gone (Syntax.tyInt Syntax.w64)) (List._∷_ (6, Rows'.any-gone Syntax.tyBool) (List._∷_ (7, Rows'.any-gone Syntax.tyPtr) List.[])))))))
 
+abbrev pub t1 : List.List Row.Entry
+t1 = List._∷_ (0, Rows'.sc-here Row.sUnit) (List._∷_ (1, Mut.mslice EntryKind.row (Syntax.tyRef (Syntax.named 0) Syntax.mut EntryKind.pointee) 0) (List._∷_
+    (2, Rows'.any-gone (Syntax.tyInt Syntax.w64)) (List._∷_ (3, Rows'.any-gone (Syntax.tyInt Syntax.w64)) (List._∷_ (4, Rows'.any-gone EntryKind.by-value)
+    (List._∷_ (5, Rows'.any-gone (Syntax.tyInt Syntax.w64)) (List._∷_ (6, Rows'.any-gone Syntax.tyBool) (List._∷_ (7, Rows'.any-gone Syntax.tyPtr)
+    List.[])))))))
+
 abbrev pub t2 : List.List Row.Entry
-t2 = List._∷_ (0, Rows'.any-gone Syntax.tyUnit) (List._∷_ (1, Mut.mslice EntryKind.R (Syntax.tyRef (Syntax.named 0) Syntax.mut EntryKind.elem) 0) (List._∷_ (
-  2,
-  Rows'.sc-here (Row.sInt Syntax.w64),
-) (List._∷_ (3, Rows'.sc-here (Row.sInt Syntax.w64)) (List._∷_ (4, Rows'.any-gone EntryKind.spelled) (List._∷_ (
-  5,
-  Rows'.any-gone (Syntax.tyInt Syntax.w64),
-) (List._∷_ (6, Rows'.any-gone Syntax.tyBool) (List._∷_ (7, Rows'.any-gone Syntax.tyPtr) List.[])))))))
+t2 = List._∷_ (0, Rows'.any-gone Syntax.tyUnit) (List._∷_ (1, Mut.mslice EntryKind.row (Syntax.tyRef (Syntax.named 0) Syntax.mut EntryKind.pointee) 0) (List._∷_
+    (2, Rows'.sc-here (Row.sInt Syntax.w64)) (List._∷_ (3, Rows'.sc-here (Row.sInt Syntax.w64)) (List._∷_ (4, Rows'.any-gone EntryKind.by-value) (List._∷_
+    (5, Rows'.any-gone (Syntax.tyInt Syntax.w64)) (List._∷_ (6, Rows'.any-gone Syntax.tyBool) (List._∷_ (7, Rows'.any-gone Syntax.tyPtr) List.[])))))))
 
 abbrev pub t3 : List.List Row.Entry
-t3 = List._∷_ (0, Rows'.any-gone Syntax.tyUnit) (List._∷_ (1, Mut.mslice EntryKind.R (Syntax.tyRef (Syntax.named 0) Syntax.mut EntryKind.elem) 0) (List._∷_ (
-  2,
-  Rows'.sc-here (Row.sInt Syntax.w64),
-) (List._∷_ (3, Rows'.sc-here (Row.sInt Syntax.w64)) (List._∷_ (4, Rows'.any-gone EntryKind.spelled) (List._∷_ (
-  5,
-  Rows'.sc-here (Row.sInt Syntax.w64),
-) (List._∷_ (6, Rows'.any-gone Syntax.tyBool) (List._∷_ (7, Rows'.any-gone Syntax.tyPtr) List.[])))))))
+t3 = List._∷_ (0, Rows'.any-gone Syntax.tyUnit) (List._∷_ (1, Mut.mslice EntryKind.row (Syntax.tyRef (Syntax.named 0) Syntax.mut EntryKind.pointee) 0) (List._∷_
+    (2, Rows'.sc-here (Row.sInt Syntax.w64)) (List._∷_ (3, Rows'.sc-here (Row.sInt Syntax.w64)) (List._∷_ (4, Rows'.any-gone EntryKind.by-value) (List._∷_
+    (5, Rows'.sc-here (Row.sInt Syntax.w64)) (List._∷_ (6, Rows'.any-gone Syntax.tyBool) (List._∷_ (7, Rows'.any-gone Syntax.tyPtr) List.[])))))))
 
 abbrev pub t4 : List.List Row.Entry
-t4 = List._∷_ (0, Rows'.any-gone Syntax.tyUnit) (List._∷_ (1, Mut.mslice EntryKind.R (Syntax.tyRef (Syntax.named 0) Syntax.mut EntryKind.elem) 0) (List._∷_ (
-  2,
-  Rows'.sc-here (Row.sInt Syntax.w64),
-) (List._∷_ (3, Rows'.sc-here (Row.sInt Syntax.w64)) (List._∷_ (4, Rows'.any-gone EntryKind.spelled) (List._∷_ (
-  5,
-  Rows'.sc-here (Row.sInt Syntax.w64),
-) (List._∷_ (6, Rows'.sc-here Row.sBool) (List._∷_ (7, Rows'.any-gone Syntax.tyPtr) List.[])))))))
+t4 = List._∷_ (0, Rows'.any-gone Syntax.tyUnit) (List._∷_ (1, Mut.mslice EntryKind.row (Syntax.tyRef (Syntax.named 0) Syntax.mut EntryKind.pointee) 0) (List._∷_
+    (2, Rows'.sc-here (Row.sInt Syntax.w64)) (List._∷_ (3, Rows'.sc-here (Row.sInt Syntax.w64)) (List._∷_ (4, Rows'.any-gone EntryKind.by-value) (List._∷_
+    (5, Rows'.sc-here (Row.sInt Syntax.w64)) (List._∷_ (6, Rows'.sc-here Row.sBool) (List._∷_ (7, Rows'.any-gone Syntax.tyPtr) List.[])))))))
 
 abbrev pub t5 : List.List Row.Entry
-t5 = List._∷_ (0, Rows'.any-gone Syntax.tyUnit) (List._∷_ (1, Mut.mslice EntryKind.R (Syntax.tyRef (Syntax.named 0) Syntax.mut EntryKind.elem) 0) (List._∷_ (
-  2,
-  Rows'.sc-here (Row.sInt Syntax.w64),
-) (List._∷_ (3, Rows'.sc-here (Row.sInt Syntax.w64)) (List._∷_ (4, Rows'.any-gone EntryKind.spelled) (List._∷_ (
-  5,
-  Rows'.any-gone (Syntax.tyInt Syntax.w64),
-) (List._∷_ (6, Rows'.sc-here Row.sBool) (List._∷_ (7, Rows'.any-gone Syntax.tyPtr) List.[])))))))
+t5 = List._∷_ (0, Rows'.any-gone Syntax.tyUnit) (List._∷_ (1, Mut.mslice EntryKind.row (Syntax.tyRef (Syntax.named 0) Syntax.mut EntryKind.pointee) 0) (List._∷_
+    (2, Rows'.sc-here (Row.sInt Syntax.w64)) (List._∷_ (3, Rows'.sc-here (Row.sInt Syntax.w64)) (List._∷_ (4, Rows'.any-gone EntryKind.by-value) (List._∷_
+    (5, Rows'.any-gone (Syntax.tyInt Syntax.w64)) (List._∷_ (6, Rows'.sc-here Row.sBool) (List._∷_ (7, Rows'.any-gone Syntax.tyPtr) List.[])))))))
 
 abbrev pub t6 : List.List Row.Entry
-t6 = List._∷_ (0, Rows'.any-gone Syntax.tyUnit) (List._∷_ (1, Mut.mslice EntryKind.R (Syntax.tyRef (Syntax.named 0) Syntax.mut EntryKind.elem) 0) (List._∷_ (
-  2,
-  Rows'.sc-here (Row.sInt Syntax.w64),
-) (List._∷_ (3, Rows'.sc-here (Row.sInt Syntax.w64)) (List._∷_ (4, EntryKind.whole) (List._∷_ (
-  5,
-  Rows'.any-gone
-      (Syntax.tyInt Syntax.w64),
-) (List._∷_ (6, Rows'.any-gone Syntax.tyBool) (List._∷_ (7, Rows'.any-gone Syntax.tyPtr) List.[])))))))
+t6 = List._∷_ (0, Rows'.any-gone Syntax.tyUnit) (List._∷_ (1, Mut.mslice EntryKind.row (Syntax.tyRef (Syntax.named 0) Syntax.mut EntryKind.pointee) 0) (List._∷_
+    (2, Rows'.sc-here (Row.sInt Syntax.w64)) (List._∷_ (3, Rows'.sc-here (Row.sInt Syntax.w64)) (List._∷_ (4, EntryKind.local) (List._∷_
+    (5, Rows'.any-gone (Syntax.tyInt Syntax.w64)) (List._∷_ (6, Rows'.any-gone Syntax.tyBool) (List._∷_ (7, Rows'.any-gone Syntax.tyPtr) List.[])))))))
 
 abbrev pub t7 : List.List Row.Entry
-t7 = List._∷_ (0, Rows'.any-gone Syntax.tyUnit) (List._∷_ (1, Mut.mslice EntryKind.R (Syntax.tyRef (Syntax.named 0) Syntax.mut EntryKind.elem) 0) (List._∷_ (
-  2,
-  Rows'.sc-here (Row.sInt Syntax.w64),
-) (List._∷_ (3, Rows'.sc-here (Row.sInt Syntax.w64)) (List._∷_ (4, EntryKind.whole) (List._∷_ (
-  5,
-  Rows'.sc-here (Row.sInt
-      Syntax.w64),
-) (List._∷_ (6, Rows'.any-gone Syntax.tyBool) (List._∷_ (7, Rows'.any-gone Syntax.tyPtr) List.[])))))))
+t7 = List._∷_ (0, Rows'.any-gone Syntax.tyUnit) (List._∷_ (1, Mut.mslice EntryKind.row (Syntax.tyRef (Syntax.named 0) Syntax.mut EntryKind.pointee) 0) (List._∷_
+    (2, Rows'.sc-here (Row.sInt Syntax.w64)) (List._∷_ (3, Rows'.sc-here (Row.sInt Syntax.w64)) (List._∷_ (4, EntryKind.local) (List._∷_
+    (5, Rows'.sc-here (Row.sInt Syntax.w64)) (List._∷_ (6, Rows'.any-gone Syntax.tyBool) (List._∷_ (7, Rows'.any-gone Syntax.tyPtr) List.[])))))))
 
 abbrev pub t8 : List.List Row.Entry
-t8 = List._∷_ (0, Rows'.any-gone Syntax.tyUnit) (List._∷_ (1, Mut.mslice EntryKind.R (Syntax.tyRef (Syntax.named 0) Syntax.mut EntryKind.elem) 0) (List._∷_ (
-  2,
-  Rows'.sc-here (Row.sInt Syntax.w64),
-) (List._∷_ (3, Rows'.sc-here (Row.sInt Syntax.w64)) (List._∷_ (4, EntryKind.whole) (List._∷_ (
-  5,
-  Rows'.sc-here (Row.sInt
-      Syntax.w64),
-) (List._∷_ (6, Rows'.any-gone Syntax.tyBool) (List._∷_ (7, Rows'.sc-here Row.sPtr) List.[])))))))
+t8 = List._∷_ (0, Rows'.any-gone Syntax.tyUnit) (List._∷_ (1, Mut.mslice EntryKind.row (Syntax.tyRef (Syntax.named 0) Syntax.mut EntryKind.pointee) 0) (List._∷_
+    (2, Rows'.sc-here (Row.sInt Syntax.w64)) (List._∷_ (3, Rows'.sc-here (Row.sInt Syntax.w64)) (List._∷_ (4, EntryKind.local) (List._∷_
+    (5, Rows'.sc-here (Row.sInt Syntax.w64)) (List._∷_ (6, Rows'.any-gone Syntax.tyBool) (List._∷_ (7, Rows'.sc-here Row.sPtr) List.[])))))))
 
 abbrev pub t9 : List.List Row.Entry
-t9 = List._∷_ (0, Rows'.any-gone Syntax.tyUnit) (List._∷_ (1, Mut.mslice EntryKind.R (Syntax.tyRef (Syntax.named 0) Syntax.mut EntryKind.elem) 0) (List._∷_ (
-  2,
-  Rows'.sc-here (Row.sInt Syntax.w64),
-) (List._∷_ (3, Rows'.sc-here (Row.sInt Syntax.w64)) (List._∷_ (4, Rows'.any-gone EntryKind.spelled) (List._∷_ (
-  5,
-  Rows'.sc-here (Row.sInt Syntax.w64),
-) (List._∷_ (6, Rows'.any-gone Syntax.tyBool) (List._∷_ (7, Rows'.sc-here Row.sPtr) List.[])))))))
+t9 = List._∷_ (0, Rows'.any-gone Syntax.tyUnit) (List._∷_ (1, Mut.mslice EntryKind.row (Syntax.tyRef (Syntax.named 0) Syntax.mut EntryKind.pointee) 0) (List._∷_
+    (2, Rows'.sc-here (Row.sInt Syntax.w64)) (List._∷_ (3, Rows'.sc-here (Row.sInt Syntax.w64)) (List._∷_ (4, Rows'.any-gone EntryKind.by-value) (List._∷_
+    (5, Rows'.sc-here (Row.sInt Syntax.w64)) (List._∷_ (6, Rows'.any-gone Syntax.tyBool) (List._∷_ (7, Rows'.sc-here Row.sPtr) List.[])))))))
 
 abbrev pub t10 : List.List Row.Entry
-t10 = List._∷_ (0, Rows'.any-gone Syntax.tyUnit) (List._∷_ (1, Mut.mslice EntryKind.R (Syntax.tyRef (Syntax.named 0) Syntax.mut EntryKind.elem) 0) (List._∷_ (
-  2,
-  Rows'.sc-here (Row.sInt Syntax.w64),
-) (List._∷_ (3, Rows'.sc-here (Row.sInt Syntax.w64)) (List._∷_ (4, Rows'.any-gone EntryKind.spelled) (List._∷_ (
-  5,
-  Rows'.any-gone (Syntax.tyInt Syntax.w64),
-) (List._∷_ (6, Rows'.any-gone Syntax.tyBool) (List._∷_ (7, Rows'.sc-here Row.sPtr) List.[])))))))
+t10 = List._∷_ (0, Rows'.any-gone Syntax.tyUnit) (List._∷_ (1, Mut.mslice EntryKind.row (Syntax.tyRef (Syntax.named 0) Syntax.mut EntryKind.pointee) 0)
+    (List._∷_ (2, Rows'.sc-here (Row.sInt Syntax.w64)) (List._∷_ (3, Rows'.sc-here (Row.sInt Syntax.w64)) (List._∷_ (4, Rows'.any-gone EntryKind.by-value)
+    (List._∷_ (5, Rows'.any-gone (Syntax.tyInt Syntax.w64)) (List._∷_ (6, Rows'.any-gone Syntax.tyBool) (List._∷_ (7, Rows'.sc-here Row.sPtr) List.[])))))))
 
 abbrev pub t11 : List.List Row.Entry
-t11 = List._∷_ (0, Rows'.sc-here Row.sUnit) (List._∷_ (1, Mut.mslice EntryKind.R (Syntax.tyRef (Syntax.named 0) Syntax.mut EntryKind.elem) 0) (List._∷_ (
-  2,
-  Rows'.sc-here (Row.sInt Syntax.w64),
-) (List._∷_ (3, Rows'.sc-here (Row.sInt Syntax.w64)) (List._∷_ (4, Rows'.any-gone EntryKind.spelled) (List._∷_ (
-  5,
-  Rows'.any-gone (Syntax.tyInt Syntax.w64),
-) (List._∷_ (6, Rows'.any-gone Syntax.tyBool) (List._∷_ (7, Rows'.any-gone Syntax.tyPtr) List.[])))))))
+t11 = List._∷_ (0, Rows'.sc-here Row.sUnit) (List._∷_ (1, Mut.mslice EntryKind.row (Syntax.tyRef (Syntax.named 0) Syntax.mut EntryKind.pointee) 0) (List._∷_
+    (2, Rows'.sc-here (Row.sInt Syntax.w64)) (List._∷_ (3, Rows'.sc-here (Row.sInt Syntax.w64)) (List._∷_ (4, Rows'.any-gone EntryKind.by-value) (List._∷_
+    (5, Rows'.any-gone (Syntax.tyInt Syntax.w64)) (List._∷_ (6, Rows'.any-gone Syntax.tyBool) (List._∷_ (7, Rows'.any-gone Syntax.tyPtr) List.[])))))))
 
 abbrev pub t12 : List.List Row.Entry
-t12 = List._∷_ (0, Rows'.sc-here Row.sUnit) (List._∷_ (1, Mut.mslice EntryKind.R (Syntax.tyRef (Syntax.named 0) Syntax.mut EntryKind.elem) 0) (List._∷_ (
-  2,
-  Rows'.sc-here (Row.sInt Syntax.w64),
-) (List._∷_ (3, Rows'.any-gone (Syntax.tyInt Syntax.w64)) (List._∷_ (4, Rows'.any-gone EntryKind.spelled) (List._∷_ (
-  5,
-  Rows'.any-gone (Syntax.tyInt Syntax.w64),
-) (List._∷_ (6, Rows'.any-gone Syntax.tyBool) (List._∷_ (7, Rows'.any-gone Syntax.tyPtr) List.[])))))))
+t12 = List._∷_ (0, Rows'.sc-here Row.sUnit) (List._∷_ (1, Mut.mslice EntryKind.row (Syntax.tyRef (Syntax.named 0) Syntax.mut EntryKind.pointee) 0) (List._∷_
+    (2, Rows'.sc-here (Row.sInt Syntax.w64)) (List._∷_ (3, Rows'.any-gone (Syntax.tyInt Syntax.w64)) (List._∷_ (4, Rows'.any-gone EntryKind.by-value) (List._∷_
+    (5, Rows'.any-gone (Syntax.tyInt Syntax.w64)) (List._∷_ (6, Rows'.any-gone Syntax.tyBool) (List._∷_ (7, Rows'.any-gone Syntax.tyPtr) List.[])))))))
 
 abbrev pub T0 : Row.Cx
 T0 = record { locals = t0; slots = List.[] }
@@ -347,12 +288,12 @@ abbrev pub O4 : Typed.Outs
 O4 = Typed.withNext (Option.some T6) O3
 
 abbrev pub InvT-loop : Type 1
-InvT-loop = List.List (EntryKind.R .Denot) → Rows'.sc-here (Row.sInt Syntax.w64) .Mod → Rows'.sc-here (Row.sInt Syntax.w64) .Mod → List.List (EntryKind.R
+InvT-loop = List.List (EntryKind.row .Denot) → Rows'.sc-here (Row.sInt Syntax.w64) .Mod → Rows'.sc-here (Row.sInt Syntax.w64) .Mod → List.List (EntryKind.row
     .Denot) → Rows'.sc-here (Row.sInt Syntax.w64) .Mod → Type 0
 
 abbrev pub MeasureT-loop : Type 0
-MeasureT-loop = List.List (EntryKind.R .Denot) → Rows'.sc-here (Row.sInt Syntax.w64) .Mod → Rows'.sc-here (Row.sInt Syntax.w64) .Mod → List.List (EntryKind.R
-    .Denot) → Rows'.sc-here (Row.sInt Syntax.w64) .Mod → Nat.ℕ
+MeasureT-loop = List.List (EntryKind.row .Denot) → Rows'.sc-here (Row.sInt Syntax.w64) .Mod → Rows'.sc-here (Row.sInt Syntax.w64) .Mod → List.List
+    (EntryKind.row .Denot) → Rows'.sc-here (Row.sInt Syntax.w64) .Mod → Nat.ℕ
 
 module _ (claims· : Claims) where
   abbrev s0 : Typed.Mo T0 → Typed.Mo T2
@@ -377,22 +318,22 @@ module _ (claims· : Claims) where
   s5 = Scalar.n-room T7 6 Syntax.tyBool
 
   abbrev s6 : Typed.Both T6 T10
-  s6 = Call.callB ps·0 r·0 (claims· .0) (claims· .1) T6 tt 4 List.[] EntryKind.spelled
+  s6 = Call.callB ps·0 r·0 (claims· .0) (claims· .1) T6 tt 4 List.[] EntryKind.by-value
 
   abbrev s7 : Typed.Asks T10 T11
   s7 = Scalar.k-op2 T10 (Syntax.mul Syntax.unsigned) (Scalar.oAt 3 (Syntax.tyInt Syntax.w64) (Row.valS (Row.sInt Syntax.w64))) (Scalar.oInt Syntax.w64 56) 5
       (Rows'.sc-here (Row.sInt Syntax.w64)) (Row.sInt Syntax.w64 .of)
 
   abbrev s8 : Typed.Asks T11 T12
-  s8 = Scalar.k-op2 T11 Syntax.offset (Scalar.oFld 1 (List._∷_ (Syntax.field 0) List.[]) (Syntax.tyRef (Syntax.named 0) Syntax.mut EntryKind.elem) 0
+  s8 = Scalar.k-op2 T11 Syntax.offset (Scalar.oFld 1 (List._∷_ (Syntax.field 0) List.[]) (Syntax.tyRef (Syntax.named 0) Syntax.mut EntryKind.pointee) 0
       Reads.ptrVal) (Scalar.oAt 5 (Syntax.tyInt Syntax.w64) (Row.valS (Row.sInt Syntax.w64))) 7 (Rows'.sc-here Row.sPtr) (Row.sPtr .of)
 
   abbrev s9 : Typed.Asks T12 T13
-  s9 = Move.k-sl-set-from EntryKind.R T12 1 7 4 0 (Syntax.tyRef (Syntax.named 0) Syntax.mut EntryKind.elem) Row.off EntryKind.whole (Shared.bySize 56) (λ u. u
-      .1 .1 .1 .0) (λ x. x) (λ x. x) (λ x. x) λ x. x
+  s9 = Move.k-sl-set-from EntryKind.row T12 1 7 4 0 (Syntax.tyRef (Syntax.named 0) Syntax.mut EntryKind.pointee) Row.off EntryKind.local (Shared.bySize 56) (λ
+      u. u .1 .1 .1 .0) (λ x. x) (λ x. x) (λ x. x) λ x. x
 
   abbrev s10 : Typed.Mo T13 → Typed.Mo T14
-  s10 = Scalar.n-room T13 4 EntryKind.spelled
+  s10 = Scalar.n-room T13 4 EntryKind.by-value
 
   abbrev s11 : Typed.Mo T14 → Typed.Mo T15
   s11 = Scalar.n-room T14 5 (Syntax.tyInt Syntax.w64)
@@ -413,12 +354,10 @@ module _ (claims· : Claims) where
   abbrev s16 : Typed.Mo T19 → Typed.Mo T20
   s16 = Scalar.n-room T19 2 (Syntax.tyInt Syntax.w64)
 
-  abbrev put0 : List.List (EntryKind.R .Denot) × Rows'.sc-here (Row.sInt Syntax.w64) .Mod → Typed.Mo T2 → Typed.Mo T2
-  put0 = λ vs u. Row.set 3 (3, Rows'.sc-here (Row.sInt Syntax.w64)) (vs .1) (T2 .locals) (Row.set 1 (
-    1,
-    Mut.mslice EntryKind.R (Syntax.tyRef (Syntax.named 0)
-        Syntax.mut EntryKind.elem) 0,
-  ) record { ptr = Row.get 1 (T2 .locals) u .ptr; name = Row.get 1 (T2 .locals) u .name; now = vs .0 } (T2 .locals) u)
+  abbrev put0 : List.List (EntryKind.row .Denot) × Rows'.sc-here (Row.sInt Syntax.w64) .Mod → Typed.Mo T2 → Typed.Mo T2
+  put0 = λ vs u. Row.set 3 (3, Rows'.sc-here (Row.sInt Syntax.w64)) (vs .1) (T2 .locals) (Row.set 1
+      (1, Mut.mslice EntryKind.row (Syntax.tyRef (Syntax.named 0) Syntax.mut EntryKind.pointee) 0)
+      record { ptr = Row.get 1 (T2 .locals) u .ptr; name = Row.get 1 (T2 .locals) u .name; now = vs .0 } (T2 .locals) u)
 
   module _ (Pre· : (κs : Lifetimes.Lfts 1) → Kinds.Dens κs ps → Type 0) (Post· : (κs : Lifetimes.Lfts 1) → (a : Kinds.Dens κs ps) → Kinds.Plain 1 ps r κs) where
     module _ (M : Type 1) where
@@ -629,25 +568,24 @@ module _ (claims· : Claims) where
               A W (Row.sInt Syntax.w64))) d7
 
           d9 : Typed.Typed 𝓤 H A 𝓣 E G13 b10 Δ3 at9
-          d9 = Typed.g-pre 𝓤 H A W 𝓣 E G13 G14 b10 Δ3 (Typed.pass T13 T14 s10) at8 (Scalar.g-room 𝓤 H A W E G13 4 EntryKind.spelled (EntryKind.room 𝓤 H A W)) d8
+          d9 = Typed.g-pre 𝓤 H A W 𝓣 E G13 G14 b10 Δ3 (Typed.pass T13 T14 s10) at8 (Scalar.g-room 𝓤 H A W E G13 4 EntryKind.by-value (EntryKind.room 𝓤 H A W))
+              d8
 
           d10 : Typed.Typed 𝓤 H A 𝓣 E G12 b11 Δ3 at10
-          d10 = Typed.s-seq 𝓤 H A W 𝓣 E G12 G13 b9 b10 Δ3 (Typed.ask s9) at9 (Move.t-sl-set-from 𝓤 H A W E EntryKind.R 𝓣 Path'.refl (λ ρ. Unit) G12 1 7 4 0
-              (Syntax.tyRef (Syntax.named 0) Syntax.mut EntryKind.elem) (Row.lease (κs .0) (qs .0)) EntryKind.spelled EntryKind.spelled EntryKind.whole
+          d10 = Typed.s-seq 𝓤 H A W 𝓣 E G12 G13 b9 b10 Δ3 (Typed.ask s9) at9 (Move.t-sl-set-from 𝓤 H A W E EntryKind.row 𝓣 Path'.refl (λ ρ. Unit) G12 1 7 4 0
+              (Syntax.tyRef (Syntax.named 0) Syntax.mut EntryKind.pointee) (Row.lease (κs .0) (qs .0)) EntryKind.by-value EntryKind.by-value EntryKind.local
               (Shared.bySize 56) (λ u. u .1 .1 .1 .0) (λ x. x) (λ x. x) (λ x. x) (λ x. x) (λ i o. Elements.at-mul o 56 i) Path'.refl Path'.refl (Own.told-none 𝓤
-              H A (G12 .slots)) (Reads.as-is 𝓤 H A (Mut.mslice EntryKind.R (Syntax.tyRef (Syntax.named 0) Syntax.mut EntryKind.elem) 0)) (Reads.as-is 𝓤 H A
-              (Rows'.sc-here Row.sPtr)) (Yields.yields-copy 𝓤 H A W (λ ρ. Unit) EntryKind.R Path'.refl (EntryKind.copies .copy 𝓤 H A W) EntryKind.whole (λ x. x)
-              (λ x. x) (λ ρ told. EntryKind.in-mem 𝓤 H A W ρ) λ ρ told. EntryKind.of-mem 𝓤 H A W ρ) Path'.refl tt Path'.refl Path'.refl) d9
+              H A (G12 .slots)) (Reads.as-is 𝓤 H A (Mut.mslice EntryKind.row (Syntax.tyRef (Syntax.named 0) Syntax.mut EntryKind.pointee) 0)) (Reads.as-is 𝓤 H A
+              (Rows'.sc-here Row.sPtr)) (Yields.yields-copy 𝓤 H A W (λ ρ. Unit) EntryKind.row Path'.refl (EntryKind.copied .copy 𝓤 H A W) EntryKind.local (λ x.
+              x) (λ x. x) (λ ρ told. EntryKind.in-memory 𝓤 H A W ρ) λ ρ told. EntryKind.of-memory 𝓤 H A W ρ) Path'.refl tt Path'.refl Path'.refl) d9
 
           d11 : Typed.Typed 𝓤 H A 𝓣 E G11 b12 Δ3 at11
           d11 = Typed.s-seq 𝓤 H A W 𝓣 E G11 G12 b8 b11 Δ3 (Typed.ask s8) at10 (Scalar.t-op2 𝓤 H A W E 𝓣 G11 Syntax.offset (Scalar.oFld 1 (List._∷_ (Syntax.field
-              0) List.[]) (Syntax.tyRef (Syntax.named 0) Syntax.mut EntryKind.elem) 0 Reads.ptrVal) (Scalar.oAt 5 (Syntax.tyInt Syntax.w64) (Row.valS (Row.sInt
-              Syntax.w64))) 7 (Rows'.sc-here Row.sPtr) Syntax.tyPtr (Row.valS Row.sPtr) (Row.sPtr .of) (
-                Mut.reads-mslice-ptr 𝓤 H A W EntryKind.R (Syntax.tyRef
-                    (Syntax.named 0) Syntax.mut EntryKind.elem) 0 0 Path'.refl,
-                Path'.refl,
-              ) (Scalar.reads-sc 𝓤 H A W (Row.sInt Syntax.w64), Path'.refl)
-              (Reads.room-gone 𝓤 H A Syntax.tyPtr) (Scalar.holds-sc 𝓤 H A W Row.sPtr) Path'.refl (λ u. Path'.refl) λ u. tt) d10
+              0) List.[]) (Syntax.tyRef (Syntax.named 0) Syntax.mut EntryKind.pointee) 0 Reads.ptrVal) (Scalar.oAt 5 (Syntax.tyInt Syntax.w64) (Row.valS
+              (Row.sInt Syntax.w64))) 7 (Rows'.sc-here Row.sPtr) Syntax.tyPtr (Row.valS Row.sPtr) (Row.sPtr .of)
+              (Mut.reads-mslice-ptr 𝓤 H A W EntryKind.row (Syntax.tyRef (Syntax.named 0) Syntax.mut EntryKind.pointee) 0 0 Path'.refl, Path'.refl)
+              (Scalar.reads-sc 𝓤 H A W (Row.sInt Syntax.w64), Path'.refl) (Reads.room-gone 𝓤 H A Syntax.tyPtr) (Scalar.holds-sc 𝓤 H A W Row.sPtr) Path'.refl (λ
+              u. Path'.refl) λ u. tt) d10
 
           d12 : Typed.Typed 𝓤 H A 𝓣 E G10 b13 Δ3 at12
           d12 = Typed.s-seq 𝓤 H A W 𝓣 E G10 G11 b7 b12 Δ3 (Typed.ask s7) at11 (Scalar.t-op2 𝓤 H A W E 𝓣 G10 (Syntax.mul Syntax.unsigned) (Scalar.oAt 3
@@ -657,7 +595,7 @@ module _ (claims· : Claims) where
 
           d13 : Typed.Typed 𝓤 H A 𝓣 E G6 b14 Δ3 at13
           d13 = Typed.s-seq 𝓤 H A W 𝓣 E G6 G10 b6 b13 Δ3 (Typed.both s6) at12 (Plain.t-call-plain 𝓤 H A W 𝓣 0 ps·0 r·0 (claims· .0) (claims· .1)
-              "packet::walk::no_entry" known E (λ pos β. β) G6 tt 4 List.[] (Call.sub-id 𝓤 H A W (G6 .slots)) tt (Reads.room-gone 𝓤 H A EntryKind.spelled) tt
+              "packet::walk::no_entry" known E (λ pos β. β) G6 tt 4 List.[] (Call.sub-id 𝓤 H A W (G6 .slots)) tt (Reads.room-gone 𝓤 H A EntryKind.by-value) tt
               Path'.refl) d12
 
           d14 : Typed.Typed 𝓤 H A 𝓣 E G5 b15 Δ3 at14
@@ -666,22 +604,16 @@ module _ (claims· : Claims) where
           d15 : Typed.Typed 𝓤 H A 𝓣 E G4 b16 Δ3 at15
           d15 = Typed.s-seq 𝓤 H A W 𝓣 E G4 G5 b2 b15 Δ3 (Typed.ask s2) at14 (Scalar.t-op2 𝓤 H A W E 𝓣 G4 (Syntax.lt Syntax.unsigned) (Scalar.oAt 3 (Syntax.tyInt
               Syntax.w64) (Row.valS (Row.sInt Syntax.w64))) (Scalar.oAt 5 (Syntax.tyInt Syntax.w64) (Row.valS (Row.sInt Syntax.w64))) 6 (Rows'.sc-here
-              Row.sBool) Syntax.tyBool (Row.valS Row.sBool) (Row.sBool .of) (Scalar.reads-sc 𝓤 H A W (Row.sInt Syntax.w64), Path'.refl) (
-                Scalar.reads-sc 𝓤 H A W
-                    (Row.sInt Syntax.w64),
-                Path'.refl,
-              ) (Reads.room-gone 𝓤 H A Syntax.tyBool) (Scalar.holds-sc 𝓤 H A W Row.sBool) Path'.refl (λ u. Path'.refl) λ u. tt)
-              d14
+              Row.sBool) Syntax.tyBool (Row.valS Row.sBool) (Row.sBool .of) (Scalar.reads-sc 𝓤 H A W (Row.sInt Syntax.w64), Path'.refl)
+              (Scalar.reads-sc 𝓤 H A W (Row.sInt Syntax.w64), Path'.refl) (Reads.room-gone 𝓤 H A Syntax.tyBool) (Scalar.holds-sc 𝓤 H A W Row.sBool) Path'.refl
+              (λ u. Path'.refl) λ u. tt) d14
 
           d16 : Typed.Typed 𝓤 H A 𝓣 E G2 b17 Δ3 at16
           d16 = Typed.s-seq 𝓤 H A W 𝓣 E G2 G4 b1 b16 Δ3 (Typed.pass T2 T4 s1) at15 (Scalar.t-use 𝓤 H A W E 𝓣 G2 (Scalar.oFld 1 (List._∷_ (Syntax.field 1)
               List.[]) (Syntax.tyInt Syntax.w64) 8 Shared.lenV) 5 (Rows'.sc-here (Row.sInt Syntax.w64)) (Syntax.tyInt Syntax.w64) (Row.valS (Row.sInt
-              Syntax.w64)) (Row.sInt Syntax.w64 .of) (
-                Mut.reads-mslice-len 𝓤 H A W EntryKind.R (Syntax.tyRef (Syntax.named 0) Syntax.mut EntryKind.elem) 0 8
-                    Path'.refl,
-                Path'.refl,
-              ) (Reads.room-gone 𝓤 H A (Syntax.tyInt Syntax.w64)) (Scalar.holds-sc 𝓤 H A W (Row.sInt Syntax.w64)) Path'.refl (λ u.
-              Path'.refl) λ u. tt) d15
+              Syntax.w64)) (Row.sInt Syntax.w64 .of)
+              (Mut.reads-mslice-len 𝓤 H A W EntryKind.row (Syntax.tyRef (Syntax.named 0) Syntax.mut EntryKind.pointee) 0 8 Path'.refl, Path'.refl)
+              (Reads.room-gone 𝓤 H A (Syntax.tyInt Syntax.w64)) (Scalar.holds-sc 𝓤 H A W (Row.sInt Syntax.w64)) Path'.refl (λ u. Path'.refl) λ u. tt) d15
 
           d17 : Typed.Typed 𝓤 H A 𝓣 E G2 b18 Δ2 at17
           d17 = Typed.t-loop-by 𝓤 H A W 𝓣 E G2 b17 Δ2 put0 (λ u vs. Inv·0 (Row.get 1 (T2 .locals) u .now) (Row.get 2 (T2 .locals) u) (Row.get 3 (T2 .locals) u)
@@ -720,7 +652,7 @@ module _ (claims· : Claims) where
 
       module _ (κs : Lifetimes.Lfts 1) where
         pub record Args : Type 0 where
-          pub list : Kinds.Den {n = 1} κs (MutSlice.pMutS EntryKind.R 0 tt)
+          pub list : Kinds.Den {n = 1} κs (MutSlice.pMutS EntryKind.row 0 tt)
           pub from : Kinds.Den {n = 1} κs (Num.pNum Syntax.w64)
 
         abbrev pub dens : (a : Args) → Kinds.Dens κs ps
@@ -737,8 +669,8 @@ module _ (claims· : Claims) where
       W0 = λ κs args. (
         λ u. ⊥,
         tt,
-        λ u. Enter.Fixs κs 1 ps xs (dens κs args) (u .1) × Post· κs (dens κs args) (Function.resV r κs (u .0)) (Clauses.atExit
-            (Kinds.endedOf 1 ps r) κs (dens κs args) (Enter.lastsP κs 1 ps xs (dens κs args) (u .1))),
+        λ u. Enter.Fixs κs 1 ps xs (dens κs args) (u .1) × Post· κs (dens κs args) (Function.resV r κs (u .0)) (Clauses.atExit (Kinds.endedOf 1 ps r) κs (dens
+            κs args) (Enter.lastsP κs 1 ps xs (dens κs args) (u .1))),
       )
 
       pub record Start : Type 0 where
@@ -761,38 +693,35 @@ module _ (claims· : Claims) where
       Need-loop-holds = (c : Start) → Inv·0 (Row.get 1 (T2 .locals) (m1 (c .κs) (c .args)) .now) (Row.get 2 (T2 .locals) (m1 (c .κs) (c .args))) (Row.get 3 (T2
           .locals) (m1 (c .κs) (c .args))) (Row.get 1 (T2 .locals) (m1 (c .κs) (c .args)) .now) (Row.get 3 (T2 .locals) (m1 (c .κs) (c .args)))
 
-      abbrev pub m2 : (before : Start) → (list : List.List (EntryKind.R .Denot)) → (i : Rows'.sc-here (Row.sInt Syntax.w64) .Mod) → Typed.Mo T2
-      m2 = λ before list i. Row.set 3 (3, Rows'.sc-here (Row.sInt Syntax.w64)) i (Row.setRow 1 (
-        1,
-        Mut.mslice EntryKind.R (Syntax.tyRef (Syntax.named 0)
-            Syntax.mut EntryKind.elem) 0,
-      ) (T2 .locals)) (Row.set 1 (1, Mut.mslice EntryKind.R (Syntax.tyRef (Syntax.named 0) Syntax.mut EntryKind.elem) 0) record {
-        ptr = Row.get 1 (T2 .locals) (m1 (before .κs) (before .args)) .ptr;
-        name = Row.get 1 (T2 .locals) (m1 (before .κs) (before .args)) .name;
-        now =
-            list;
-      } (T2 .locals) (m1 (before .κs) (before .args)))
+      abbrev pub m2 : (before : Start) → (list : List.List (EntryKind.row .Denot)) → (i : Rows'.sc-here (Row.sInt Syntax.w64) .Mod) → Typed.Mo T2
+      m2 = λ before list i. Row.set 3 (3, Rows'.sc-here (Row.sInt Syntax.w64)) i (Row.setRow 1
+          (1, Mut.mslice EntryKind.row (Syntax.tyRef (Syntax.named 0) Syntax.mut EntryKind.pointee) 0) (T2 .locals)) (Row.set 1
+          (1, Mut.mslice EntryKind.row (Syntax.tyRef (Syntax.named 0) Syntax.mut EntryKind.pointee) 0) record {
+            ptr = Row.get 1 (T2 .locals) (m1 (before .κs) (before .args)) .ptr;
+            name = Row.get 1 (T2 .locals) (m1 (before .κs) (before .args)) .name;
+            now = list;
+          } (T2 .locals) (m1 (before .κs) (before .args)))
 
-      abbrev W3 : (before : Start) → (list : List.List (EntryKind.R .Denot)) → (i : Rows'.sc-here (Row.sInt Syntax.w64) .Mod) → Typed.Want O3
+      abbrev W3 : (before : Start) → (list : List.List (EntryKind.row .Denot)) → (i : Rows'.sc-here (Row.sInt Syntax.w64) .Mod) → Typed.Want O3
       W3 = λ before list i. Typed.inLoop T2 O2 (Typed.Round T2 O2 put0 (λ u vs. Inv·0 (Row.get 1 (T2 .locals) u .now) (Row.get 2 (T2 .locals) u) (Row.get 3 (T2
           .locals) u) (vs .0) (vs .1)) (λ u vs. μ·0 (Row.get 1 (T2 .locals) u .now) (Row.get 2 (T2 .locals) u) (Row.get 3 (T2 .locals) u) (vs .0) (vs .1)) at16
           (m1 (before .κs) (before .args)) (list, i)) (W2 (before .κs) (before .args))
 
-      abbrev pub m3 : (before : Start) → (list : List.List (EntryKind.R .Denot)) → (i : Rows'.sc-here (Row.sInt Syntax.w64) .Mod) → Typed.Mo T4
+      abbrev pub m3 : (before : Start) → (list : List.List (EntryKind.row .Denot)) → (i : Rows'.sc-here (Row.sInt Syntax.w64) .Mod) → Typed.Mo T4
       m3 = λ before list i. s1 (m2 before list i)
 
-      abbrev pub m4 : (before : Start) → (list : List.List (EntryKind.R .Denot)) → (i : Rows'.sc-here (Row.sInt Syntax.w64) .Mod) → Typed.Mo T5
+      abbrev pub m4 : (before : Start) → (list : List.List (EntryKind.row .Denot)) → (i : Rows'.sc-here (Row.sInt Syntax.w64) .Mod) → Typed.Mo T5
       m4 = λ before list i. s2 .next (m3 before list i)
 
-      abbrev W4 : (before : Start) → (list : List.List (EntryKind.R .Denot)) → (i : Rows'.sc-here (Row.sInt Syntax.w64) .Mod) → Typed.Want O4
+      abbrev W4 : (before : Start) → (list : List.List (EntryKind.row .Denot)) → (i : Rows'.sc-here (Row.sInt Syntax.w64) .Mod) → Typed.Want O4
       W4 = λ before list i. Typed.wantNext T6 O3 (at13 (W3 before list i)) (W3 before list i)
 
-      abbrev pub m5 : (before : Start) → (list : List.List (EntryKind.R .Denot)) → (i : Rows'.sc-here (Row.sInt Syntax.w64) .Mod) → Typed.Mo T7
+      abbrev pub m5 : (before : Start) → (list : List.List (EntryKind.row .Denot)) → (i : Rows'.sc-here (Row.sInt Syntax.w64) .Mod) → Typed.Mo T7
       m5 = λ before list i. s3 (m4 before list i)
 
       module _ (before· : Start) where
         pub record At-loop·own : Type 0 where
-          pub list : List.List (EntryKind.R .Denot)
+          pub list : List.List (EntryKind.row .Denot)
           pub i : Rows'.sc-here (Row.sInt Syntax.w64) .Mod
           pub inv : Inv·0 (Row.get 1 (T2 .locals) (m1 (before· .κs) (before· .args)) .now) (Row.get 2 (T2 .locals) (m1 (before· .κs) (before· .args))) (Row.get
               3 (T2 .locals) (m1 (before· .κs) (before· .args))) list i
@@ -909,11 +838,9 @@ module _ (claims· : Claims) where
         lay5 : (c : After-loop) → at22 (W0 (c .before .before .κs) (c .before .before .args)) (m7 (c .before))
         lay5 = λ c. (
           (
-            MutSlice.fix-len (Row.get 1 (T20 .locals) (m18 (c .before)) .ptr) (Row.get 1 (T20 .locals) (m18 (c .before)) .name) (Row.get 1 (T20
-                .locals) (m18 (c .before)) .now) (dens (c .before .before .κs) (c .before .before .args) .0 .now) (same-length record {
-                  before = c .before;
-                  loop-test = c .loop-test;
-                }),
+            MutSlice.fix-len (Row.get 1 (T20 .locals) (m18 (c .before)) .ptr) (Row.get 1 (T20 .locals) (m18 (c .before)) .name) (Row.get 1 (T20 .locals) (m18 (c
+                .before)) .now) (dens (c .before .before .κs) (c .before .before .args) .0 .now) (same-length
+                record { before = c .before; loop-test = c .loop-test }),
             (tt, tt),
           ),
           returns record { before = c .before; loop-test = c .loop-test },
@@ -926,39 +853,26 @@ module _ (claims· : Claims) where
           (
             tt,
             (
-              (
-                Path'.refl,
-                Path'.refl,
-                slice-set-from-e record {
-                  before = c .before;
-                  no-entry = c .no-entry;
-                },
-              ),
+              (Path'.refl, Path'.refl, slice-set-from-e record { before = c .before; no-entry = c .no-entry }),
               (
                 add-i record { before = c .before; no-entry = c .no-entry },
                 (
-                  μ·0 (Row.get 1 (T2 .locals) (m1 (c .before .before .before
-                      .κs) (c .before .before .before .args)) .now) (Row.get 2 (T2 .locals) (m1 (c .before .before .before .κs) (c .before .before .before .args)))
-                      (Row.get 3 (T2 .locals) (m1 (c .before .before .before .κs) (c .before .before .before .args))) (Row.get 1 (T2 .locals) (m15 (c .before)
-                      (After-no-entry·gave c)) .now) (Row.get 3 (T2 .locals) (m15 (c .before) (After-no-entry·gave c))),
-                  loop-less record {
-                    before = c .before;
-                    no-entry =
-                        c .no-entry;
-                  },
+                  μ·0 (Row.get 1 (T2 .locals) (m1 (c .before .before .before .κs) (c .before .before .before .args)) .now) (Row.get 2 (T2 .locals) (m1 (c
+                      .before .before .before .κs) (c .before .before .before .args))) (Row.get 3 (T2 .locals) (m1 (c .before .before .before .κs) (c .before
+                      .before .before .args))) (Row.get 1 (T2 .locals) (m15 (c .before) (After-no-entry·gave c)) .now) (Row.get 3 (T2 .locals) (m15 (c .before)
+                      (After-no-entry·gave c))),
+                  loop-less record { before = c .before; no-entry = c .no-entry },
                   (
                     (
                       Row.get 1 (T2 .locals) (m15 (c .before) (After-no-entry·gave c)) .now,
-                      Row.get 3 (T2 .locals) (m15 (c .before) (After-no-entry·gave
-                          c)),
+                      Row.get 3 (T2 .locals) (m15 (c .before) (After-no-entry·gave c)),
                     ),
                     Path'.refl {a = m15 (c .before) (After-no-entry·gave c)},
                     loop-again record { before = c .before; no-entry = c .no-entry },
-                    Path'.refl {a =
-                        μ·0 (Row.get 1 (T2 .locals) (m1 (c .before .before .before .κs) (c .before .before .before .args)) .now) (Row.get 2 (T2 .locals) (m1 (c .before
-                        .before .before .κs) (c .before .before .before .args))) (Row.get 3 (T2 .locals) (m1 (c .before .before .before .κs) (c .before .before .before
-                        .args))) (Row.get 1 (T2 .locals) (m15 (c .before) (After-no-entry·gave c)) .now) (Row.get 3 (T2 .locals) (m15 (c .before) (After-no-entry·gave
-                        c)))},
+                    Path'.refl {a = μ·0 (Row.get 1 (T2 .locals) (m1 (c .before .before .before .κs) (c .before .before .before .args)) .now) (Row.get 2 (T2
+                        .locals) (m1 (c .before .before .before .κs) (c .before .before .before .args))) (Row.get 3 (T2 .locals) (m1 (c .before .before .before
+                        .κs) (c .before .before .before .args))) (Row.get 1 (T2 .locals) (m15 (c .before) (After-no-entry·gave c)) .now) (Row.get 3 (T2 .locals)
+                        (m15 (c .before) (After-no-entry·gave c)))},
                   ),
                 ),
               ),
@@ -970,10 +884,7 @@ module _ (claims· : Claims) where
         lay3 = λ c. (
           no-entry-requires record { before = c .before; loop-test = c .loop-test },
           λ g. lay4 record {
-            before = record {
-              before = c .before;
-              loop-test = c .loop-test;
-            };
+            before = record { before = c .before; loop-test = c .loop-test };
             no-entry = Called.called ps·0 r·0 (claims· .1) T6 tt (m6 (c .before)) g;
           },
         )
@@ -990,29 +901,22 @@ module _ (claims· : Claims) where
         laid = λ c. (
           (
             (Row.get 1 (T2 .locals) (m1 (c .κs) (c .args)) .now, Row.get 3 (T2 .locals) (m1 (c .κs) (c .args))),
-            Path'.refl {a = m1 (c .κs) (c
-                .args)},
+            Path'.refl {a = m1 (c .κs) (c .args)},
             loop-holds c,
           ),
           λ vs inv. (
             tt,
             (
               λ taken. lay1 record {
-                before = record {
-                  before = c;
-                  loop = record { list = vs .0; i = vs .1; inv = inv };
-                };
+                before = record { before = c; loop = record { list = vs .0; i = vs .1; inv = inv } };
                 loop-test = record {
-                  taken = Tests.ltb-true (Row.get 3 (T4 .locals) (m3 c (vs .0) (vs .1))) (Row.get 5 (T4 .locals) (m3 c (vs .0) (vs .1)))
-                      taken;
+                  taken = Tests.ltb-true (Row.get 3 (T4 .locals) (m3 c (vs .0) (vs .1))) (Row.get 5 (T4 .locals) (m3 c (vs .0) (vs .1))) taken;
                 };
               },
               λ left. lay2 record {
                 before = record { before = c; loop = record { list = vs .0; i = vs .1; inv = inv } };
-                loop-test = record {
-                  left
-                      = Tests.ltb-false (Row.get 3 (T4 .locals) (m3 c (vs .0) (vs .1))) (Row.get 5 (T4 .locals) (m3 c (vs .0) (vs .1))) left;
-                };
+                loop-test =
+                    record { left = Tests.ltb-false (Row.get 3 (T4 .locals) (m3 c (vs .0) (vs .1))) (Row.get 5 (T4 .locals) (m3 c (vs .0) (vs .1))) left };
               },
             ),
           ),
@@ -1025,12 +929,7 @@ module _ (claims· : Claims) where
             κs = κs;
             args = record { list = a .0; from = a .1 .0 };
             good = good;
-            fits = record {
-              from = record {
-                fits =
-                    good .1 .0 .1;
-              };
-            };
+            fits = record { from = record { fits = good .1 .0 .1 } };
             pre = pre;
           }
 

@@ -1,9 +1,9 @@
--- Made by lend.py of the code of `packet::entry::clear`: what Rattle makes of it over arrays, said of `Entry`.
+-- Made by tools/lend of the code of `packet::entry::clear`: what the kit makes of it over arrays, said of `Entry`.
+use Rattle.packet.proofs.EntryClearKinds as Kinds
+use Rattle.packet.proofs.EntryClearReads as Reads
 use Rattle.packet.proofs.entry.clear.Code
 use Rattle.packet.proofs.entry.clear.Key
-use Rattle.packet.proofs.EntryClearKinds as Kinds
 use Rattle.packet.proofs.entry.clear.Proof.Lts
-use Rattle.packet.proofs.EntryClearReads as Reads
 use Rattle.packet.proofs.entry.clear.Statement
 use Rattle.packet.proofs.walk.no_entry.Met
 use Rattle.packet.proofs.walk.no_entry.Reads as Reads'
@@ -70,14 +70,7 @@ module _ {M : Type 1} where
   pub close : Lts.Closed (Reads'.Asked, Reads'.Learnt) Reads.Pre Reads.Post M → Statement.statement M
   unfolding Code.routine Running.tablesOf
   close = λ closed 𝓤 H 𝓜 𝓖 𝓡. Written.close 1 Kinds.ps Kinds.r Reads.Ghost Reads.requires Reads.ensures Reads.pre-read Reads.Pinned Reads.Owned Reads.post-read
-      record { M = M; 𝓤 = 𝓤; H = H; 𝓜 = 𝓜; 𝓖 = 𝓖; 𝓡 = 𝓡 } Code.env Key.name Code.function (Code.unfolded 𝓤 H 𝓜 𝓡) (λ κs a g. tt) (λ κs. Reads.owns κs record {
-        M
-            = M;
-        𝓤 = 𝓤;
-        H = H;
-        𝓜 = 𝓜;
-        𝓖 = 𝓖;
-        𝓡 = 𝓡;
-      }) (Reads.passes record { M = M; 𝓤 = 𝓤; H = H; 𝓜 = 𝓜; 𝓖 = 𝓖; 𝓡 = 𝓡 }) λ g. closed 𝓤 H (𝓖 .A) (Running.givenOf 𝓤 H 𝓜
-      𝓖) (Run.Over 𝓤 H 𝓜 𝓖 𝓡 Code.env) (Reads'.known record { M = M; 𝓤 = 𝓤; H = H; 𝓜 = 𝓜; 𝓖 = 𝓖; 𝓡 = 𝓡 } Code.env Symbol.name Symbol.routine
-      Code.calls-packet·walk·no-entry (Met.met 𝓤 H 𝓜 𝓖 𝓡))
+      record { M = M; 𝓤 = 𝓤; H = H; 𝓜 = 𝓜; 𝓖 = 𝓖; 𝓡 = 𝓡 } Code.env Key.name Code.function (Code.unfolded 𝓤 H 𝓜 𝓡) (λ κs a g. tt) (λ κs. Reads.owns κs
+      record { M = M; 𝓤 = 𝓤; H = H; 𝓜 = 𝓜; 𝓖 = 𝓖; 𝓡 = 𝓡 }) (Reads.passes record { M = M; 𝓤 = 𝓤; H = H; 𝓜 = 𝓜; 𝓖 = 𝓖; 𝓡 = 𝓡 }) λ g. closed 𝓤 H (𝓖 .A)
+      (Running.givenOf 𝓤 H 𝓜 𝓖) (Run.Over 𝓤 H 𝓜 𝓖 𝓡 Code.env) (Reads'.known record { M = M; 𝓤 = 𝓤; H = H; 𝓜 = 𝓜; 𝓖 = 𝓖; 𝓡 = 𝓡 } Code.env Symbol.name
+      Symbol.routine Code.calls-packet·walk·no-entry (Met.met 𝓤 H 𝓜 𝓖 𝓡))

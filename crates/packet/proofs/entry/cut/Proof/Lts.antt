@@ -1,6 +1,6 @@
--- Made by lend.py of the code of `packet::entry::cut`: what Rattle makes of it over arrays, said of `Entry`.
-use Rattle.packet.proofs.EntryKind
+-- Made by tools/lend of the code of `packet::entry::cut`: what the kit makes of it over arrays, said of `Entry`.
 use Prim.Native.Nat
+use Rattle.packet.proofs.EntryKind
 use Rattle.packet.proofs.entry.Cutting
 use Rattle.packet.proofs.entry.Cutting.Laws
 use Rattle.packet.proofs.walk.Passed
@@ -15,16 +15,12 @@ use borrow.Fn.Frame
 use borrow.Fn.Function
 use borrow.Fn.Kinds
 use borrow.Fn.Plain
-use borrow.Kind.Array
 use borrow.Kind.Bool
 use borrow.Kind.MutSlice
 use borrow.Kind.Num
 use borrow.Kind.ShrSlice
 use borrow.Kind.Unit as Unit'
 use borrow.Kind.Value
-use borrow.Rule.Array.Init
-use borrow.Rule.Array.Rows
-use borrow.Rule.Array.Whole
 use borrow.Rule.Lifetime
 use borrow.Rule.Local
 use borrow.Rule.LocalCopy
@@ -44,7 +40,6 @@ use borrow.Table.Row
 use borrow.Table.Rows as Rows'
 use borrow.Table.Typed
 use contract.Lifetimes
-use denote.Array as Array'
 use denote.Enum.Declared
 use denote.Enum.Laws as Laws'3
 use denote.Exit
@@ -63,65 +58,58 @@ use mir.Syntax
 use prog.Wp
 use types.Kit
 
-abbrev ty-0 : Syntax.Ty
-ty-0 = Syntax.tyEnum (List._∷_ 112 (List._∷_ 97 (List._∷_ 99 (List._∷_ 107 (List._∷_ 101 (List._∷_ 116 (List._∷_ 58 (List._∷_ 58 (List._∷_ 119 (List._∷_ 97
+abbrev type-Cursor : Syntax.Ty
+type-Cursor = Syntax.tyStruct (List._∷_ 119 (List._∷_ 105 (List._∷_ 114 (List._∷_ 101 (List._∷_ 58 (List._∷_ 58 (List._∷_ 99 (List._∷_ 117 (List._∷_ 114
+    (List._∷_ 115 (List._∷_ 111 (List._∷_ 114 (List._∷_ 58 (List._∷_ 58 (List._∷_ 67 (List._∷_ 117 (List._∷_ 114 (List._∷_ 115 (List._∷_ 111 (List._∷_ 114
+    List.[])))))))))))))))))))) (Syntax.tcons (Syntax.tyInt Syntax.w64) Syntax.tnil)
+
+abbrev type-Walk : Syntax.Ty
+type-Walk = Syntax.tyEnum (List._∷_ 112 (List._∷_ 97 (List._∷_ 99 (List._∷_ 107 (List._∷_ 101 (List._∷_ 116 (List._∷_ 58 (List._∷_ 58 (List._∷_ 119 (List._∷_ 97
     (List._∷_ 108 (List._∷_ 107 (List._∷_ 58 (List._∷_ 58 (List._∷_ 87 (List._∷_ 97 (List._∷_ 108 (List._∷_ 107 List.[])))))))))))))))))) (Syntax.ttcons
-    (Syntax.tcons (Syntax.tyInt Syntax.w8) (Syntax.tcons (Syntax.tyInt Syntax.w16) (Syntax.tcons (Syntax.tyStruct (List._∷_ 119 (List._∷_ 105 (List._∷_ 114
-    (List._∷_ 101 (List._∷_ 58 (List._∷_ 58 (List._∷_ 99 (List._∷_ 117 (List._∷_ 114 (List._∷_ 115 (List._∷_ 111 (List._∷_ 114 (List._∷_ 58 (List._∷_ 58
-    (List._∷_ 67 (List._∷_ 117 (List._∷_ 114 (List._∷_ 115 (List._∷_ 111 (List._∷_ 114 List.[])))))))))))))))))))) (Syntax.tcons (Syntax.tyInt Syntax.w64)
-    Syntax.tnil)) Syntax.tnil))) (Syntax.ttcons (Syntax.tcons (Syntax.tyInt Syntax.w64) Syntax.tnil) (Syntax.ttcons (Syntax.tcons (Syntax.tyInt Syntax.w8)
-    (Syntax.tcons (Syntax.tyInt Syntax.w64) Syntax.tnil)) Syntax.ttnil)))
+    (Syntax.tcons (Syntax.tyInt Syntax.w8) (Syntax.tcons (Syntax.tyInt Syntax.w16) (Syntax.tcons type-Cursor Syntax.tnil))) (Syntax.ttcons (Syntax.tcons
+    (Syntax.tyInt Syntax.w64) Syntax.tnil) (Syntax.ttcons (Syntax.tcons (Syntax.tyInt Syntax.w8) (Syntax.tcons (Syntax.tyInt Syntax.w64) Syntax.tnil))
+    Syntax.ttnil)))
 
-abbrev ty-1 : Syntax.Ty
-ty-1 = Syntax.tyStruct (List._∷_ 112 (List._∷_ 97 (List._∷_ 99 (List._∷_ 107 (List._∷_ 101 (List._∷_ 116 (List._∷_ 58 (List._∷_ 58 (List._∷_ 119 (List._∷_ 97
-    (List._∷_ 108 (List._∷_ 107 (List._∷_ 58 (List._∷_ 58 (List._∷_ 80 (List._∷_ 97 (List._∷_ 115 (List._∷_ 115 (List._∷_ 101 (List._∷_ 100
-    List.[])))))))))))))))))))) (Syntax.tcons EntryKind.spelled (Syntax.tcons (Syntax.tyEnum (List._∷_ 112 (List._∷_ 97 (List._∷_ 99 (List._∷_ 107 (List._∷_ 101
-    (List._∷_ 116 (List._∷_ 58 (List._∷_ 58 (List._∷_ 119 (List._∷_ 97 (List._∷_ 108 (List._∷_ 107 (List._∷_ 58 (List._∷_ 58 (List._∷_ 87 (List._∷_ 97 (List._∷_
-    108 (List._∷_ 107 List.[])))))))))))))))))) (Syntax.ttcons (Syntax.tcons (Syntax.tyInt Syntax.w8) (Syntax.tcons (Syntax.tyInt Syntax.w16) (Syntax.tcons
-    (Syntax.tyStruct (List._∷_ 119 (List._∷_ 105 (List._∷_ 114 (List._∷_ 101 (List._∷_ 58 (List._∷_ 58 (List._∷_ 99 (List._∷_ 117 (List._∷_ 114 (List._∷_ 115
-    (List._∷_ 111 (List._∷_ 114 (List._∷_ 58 (List._∷_ 58 (List._∷_ 67 (List._∷_ 117 (List._∷_ 114 (List._∷_ 115 (List._∷_ 111 (List._∷_ 114
-    List.[])))))))))))))))))))) (Syntax.tcons (Syntax.tyInt Syntax.w64) Syntax.tnil)) Syntax.tnil))) (Syntax.ttcons (Syntax.tcons (Syntax.tyInt Syntax.w64)
-    Syntax.tnil) (Syntax.ttcons (Syntax.tcons (Syntax.tyInt Syntax.w8) (Syntax.tcons (Syntax.tyInt Syntax.w64) Syntax.tnil)) Syntax.ttnil)))) Syntax.tnil))
+abbrev type-Passed : Syntax.Ty
+type-Passed = Syntax.tyStruct (List._∷_ 112 (List._∷_ 97 (List._∷_ 99 (List._∷_ 107 (List._∷_ 101 (List._∷_ 116 (List._∷_ 58 (List._∷_ 58 (List._∷_ 119
+    (List._∷_ 97 (List._∷_ 108 (List._∷_ 107 (List._∷_ 58 (List._∷_ 58 (List._∷_ 80 (List._∷_ 97 (List._∷_ 115 (List._∷_ 115 (List._∷_ 101 (List._∷_ 100
+    List.[])))))))))))))))))))) (Syntax.tcons EntryKind.by-value (Syntax.tcons type-Walk Syntax.tnil))
 
-abbrev ty-2 : Syntax.Ty
-ty-2 = Syntax.tyStruct (List._∷_ 112 (List._∷_ 97 (List._∷_ 99 (List._∷_ 107 (List._∷_ 101 (List._∷_ 116 (List._∷_ 58 (List._∷_ 58 (List._∷_ 101 (List._∷_ 110
-    (List._∷_ 116 (List._∷_ 114 (List._∷_ 121 (List._∷_ 58 (List._∷_ 58 (List._∷_ 67 (List._∷_ 117 (List._∷_ 116 (List._∷_ 116 (List._∷_ 105 (List._∷_ 110
-    (List._∷_ 103 List.[])))))))))))))))))))))) (Syntax.tcons (Syntax.tyInt Syntax.w8) (Syntax.tcons (Syntax.tyInt Syntax.w64) (Syntax.tcons (Syntax.tyInt
-    Syntax.w64) Syntax.tnil)))
+abbrev type-Cutting : Syntax.Ty
+type-Cutting = Syntax.tyStruct (List._∷_ 112 (List._∷_ 97 (List._∷_ 99 (List._∷_ 107 (List._∷_ 101 (List._∷_ 116 (List._∷_ 58 (List._∷_ 58 (List._∷_ 101
+    (List._∷_ 110 (List._∷_ 116 (List._∷_ 114 (List._∷_ 121 (List._∷_ 58 (List._∷_ 58 (List._∷_ 67 (List._∷_ 117 (List._∷_ 116 (List._∷_ 116 (List._∷_ 105
+    (List._∷_ 110 (List._∷_ 103 List.[])))))))))))))))))))))) (Syntax.tcons (Syntax.tyInt Syntax.w8) (Syntax.tcons (Syntax.tyInt Syntax.w64) (Syntax.tcons
+    (Syntax.tyInt Syntax.w64) Syntax.tnil)))
 
-abbrev ty-3 : Syntax.Ty
-ty-3 = Syntax.tyStruct (List._∷_ 38 (List._∷_ 91 (List._∷_ 93 List.[]))) (Syntax.tcons (Syntax.tyRef Syntax.erased Syntax.mut EntryKind.elem) (Syntax.tcons
-    (Syntax.tyInt Syntax.w64) Syntax.tnil))
+abbrev type-slice : Syntax.Ty
+type-slice = Syntax.tyStruct (List._∷_ 38 (List._∷_ 91 (List._∷_ 93 List.[]))) (Syntax.tcons (Syntax.tyRef Syntax.erased Syntax.mut EntryKind.pointee)
+    (Syntax.tcons (Syntax.tyInt Syntax.w64) Syntax.tnil))
 
 abbrev pub ps : List.List (Kinds.PK 2)
-ps = List._∷_ (ShrSlice.pShrS (Referent.rtF (Referent.fInt Syntax.w8)) 0 tt) (List._∷_ (MutSlice.pMutS EntryKind.R 1 tt) List.[])
+ps = List._∷_ (ShrSlice.pShrS (Referent.rtF (Referent.fInt Syntax.w8)) 0 tt) (List._∷_ (MutSlice.pMutS EntryKind.row 1 tt) List.[])
 
 abbrev pub r : Kinds.RK 2
 r = Value.rVal record {
   ty = Declared'.row Cutting.the-type;
   one = Path'.refl;
   val = Laws'4.val Cutting.the-type Laws.the-laws;
-  tells = Laws'4.tells
-      Cutting.the-type Laws.the-laws;
+  tells = Laws'4.tells Cutting.the-type Laws.the-laws;
   still = Laws'4.still Cutting.the-type Laws.the-copy Exit.yes;
   row = Rows'.whole (Declared'.row Cutting.the-type);
-  rd = λ x.
-      x;
+  rd = λ x. x;
   mk = λ x. x;
 } λ M 𝓤 H A W. record {
   copies = Laws'4.copy Cutting.the-type Laws.the-copy 𝓤 H A W;
-  lawful = Laws'4.lawful Cutting.the-type Laws.the-laws 𝓤
-      H A W;
+  lawful = Laws'4.lawful Cutting.the-type Laws.the-laws 𝓤 H A W;
   makes = Laws'4.makes Cutting.the-type Laws.the-plain 𝓤 H A;
   in-mem = Local.mem-whole 𝓤 H A W (Declared'.row Cutting.the-type);
-  of-mem =
-      Local.whole-mem 𝓤 H A W (Declared'.row Cutting.the-type);
+  of-mem = Local.whole-mem 𝓤 H A W (Declared'.row Cutting.the-type);
 }
 
 abbrev pub xs : List.List Syntax.Ty
-xs = List._∷_ ty-0 (List._∷_ (Syntax.tyInt Syntax.w64) (List._∷_ ty-1 (List._∷_ EntryKind.spelled (List._∷_ ty-2 (List._∷_ (Syntax.tyInt Syntax.w64) (List._∷_
-    Syntax.tyBool (List._∷_ (Syntax.tyInt Syntax.w64) (List._∷_ Syntax.tyPtr (List._∷_ Syntax.tyUnit (List._∷_ (Syntax.tyRef Syntax.erased Syntax.mut
-    EntryKind.elem) (List._∷_ ty-3 List.[])))))))))))
+xs = List._∷_ type-Walk (List._∷_ (Syntax.tyInt Syntax.w64) (List._∷_ type-Passed (List._∷_ EntryKind.by-value (List._∷_ type-Cutting (List._∷_ (Syntax.tyInt
+    Syntax.w64) (List._∷_ Syntax.tyBool (List._∷_ (Syntax.tyInt Syntax.w64) (List._∷_ Syntax.tyPtr (List._∷_ Syntax.tyUnit (List._∷_ (Syntax.tyRef Syntax.erased
+    Syntax.mut EntryKind.pointee) (List._∷_ type-slice List.[])))))))))))
 
 abbrev pub m : Nat.ℕ
 m = 1
@@ -134,43 +122,35 @@ r·0 = Value.rVal record {
   ty = Declared.row Walk.the-type;
   one = Path'.refl;
   val = Laws'3.val Walk.the-type Laws''.the-laws;
-  tells = Laws'3.tells Walk.the-type
-      Laws''.the-laws;
+  tells = Laws'3.tells Walk.the-type Laws''.the-laws;
   still = Laws'3.still Walk.the-type Laws''.the-copy Exit.yes;
   row = Rows'.whole (Declared.row Walk.the-type);
   rd = λ x. x;
   mk = λ x. x;
-} λ
-    M 𝓤 H A W. record {
-      copies = Laws'3.copy Walk.the-type Laws''.the-copy 𝓤 H A W;
-      lawful = Laws'3.lawful Walk.the-type Laws''.the-laws 𝓤 H A W tt;
-      makes =
-          Laws'3.makes Walk.the-type Laws''.the-plain 𝓤 H A;
-      in-mem = Local.mem-whole 𝓤 H A W (Declared.row Walk.the-type);
-      of-mem = Local.whole-mem 𝓤 H A W
-          (Declared.row Walk.the-type);
-    }
+} λ M 𝓤 H A W. record {
+  copies = Laws'3.copy Walk.the-type Laws''.the-copy 𝓤 H A W;
+  lawful = Laws'3.lawful Walk.the-type Laws''.the-laws 𝓤 H A W tt;
+  makes = Laws'3.makes Walk.the-type Laws''.the-plain 𝓤 H A;
+  in-mem = Local.mem-whole 𝓤 H A W (Declared.row Walk.the-type);
+  of-mem = Local.whole-mem 𝓤 H A W (Declared.row Walk.the-type);
+}
 
 abbrev pub ps·1 : List.List (Kinds.PK 0)
 ps·1 = List._∷_ (Value.pVal record {
   ty = Declared.row Walk.the-type;
   one = Path'.refl;
   val = Laws'3.val Walk.the-type Laws''.the-laws;
-  tells = Laws'3.tells
-      Walk.the-type Laws''.the-laws;
+  tells = Laws'3.tells Walk.the-type Laws''.the-laws;
   still = Laws'3.still Walk.the-type Laws''.the-copy Exit.yes;
   row = Rows'.whole (Declared.row Walk.the-type);
   rd = λ x. x;
-  mk
-      = λ x. x;
+  mk = λ x. x;
 } λ M 𝓤 H A W. record {
   copies = Laws'3.copy Walk.the-type Laws''.the-copy 𝓤 H A W;
-  lawful = Laws'3.lawful Walk.the-type Laws''.the-laws 𝓤 H A W
-      tt;
+  lawful = Laws'3.lawful Walk.the-type Laws''.the-laws 𝓤 H A W tt;
   makes = Laws'3.makes Walk.the-type Laws''.the-plain 𝓤 H A;
   in-mem = Local.mem-whole 𝓤 H A W (Declared.row Walk.the-type);
-  of-mem = Local.whole-mem 𝓤 H A
-      W (Declared.row Walk.the-type);
+  of-mem = Local.whole-mem 𝓤 H A W (Declared.row Walk.the-type);
 }) (List._∷_ (Num.pNum Syntax.w64) (List._∷_ (Num.pNum Syntax.w64) List.[]))
 
 abbrev pub r·1 : Kinds.RK 0
@@ -182,18 +162,15 @@ ps·2 = List._∷_ (ShrSlice.pShrS (Referent.rtF (Referent.fInt Syntax.w8)) 0 tt
   one = Path'.refl;
   val = Laws'3.val Walk.the-type Laws''.the-laws;
   tells = Laws'3.tells Walk.the-type Laws''.the-laws;
-  still = Laws'3.still Walk.the-type Laws''.the-copy
-      Exit.yes;
+  still = Laws'3.still Walk.the-type Laws''.the-copy Exit.yes;
   row = Rows'.whole (Declared.row Walk.the-type);
   rd = λ x. x;
   mk = λ x. x;
 } λ M 𝓤 H A W. record {
-  copies = Laws'3.copy Walk.the-type
-      Laws''.the-copy 𝓤 H A W;
+  copies = Laws'3.copy Walk.the-type Laws''.the-copy 𝓤 H A W;
   lawful = Laws'3.lawful Walk.the-type Laws''.the-laws 𝓤 H A W tt;
   makes = Laws'3.makes Walk.the-type Laws''.the-plain 𝓤 H A;
-  in-mem
-      = Local.mem-whole 𝓤 H A W (Declared.row Walk.the-type);
+  in-mem = Local.mem-whole 𝓤 H A W (Declared.row Walk.the-type);
   of-mem = Local.whole-mem 𝓤 H A W (Declared.row Walk.the-type);
 }) List.[])
 
@@ -202,21 +179,17 @@ r·2 = Value.rVal record {
   ty = Declared'.row Passed.the-type;
   one = Path'.refl;
   val = Laws'4.val Passed.the-type Laws'.the-laws;
-  tells = Laws'4.tells
-      Passed.the-type Laws'.the-laws;
+  tells = Laws'4.tells Passed.the-type Laws'.the-laws;
   still = Laws'4.still Passed.the-type Laws'.the-copy Exit.yes;
   row = Rows'.whole (Declared'.row Passed.the-type);
-  rd = λ x.
-      x;
+  rd = λ x. x;
   mk = λ x. x;
 } λ M 𝓤 H A W. record {
   copies = Laws'4.copy Passed.the-type Laws'.the-copy 𝓤 H A W;
-  lawful = Laws'4.lawful Passed.the-type Laws'.the-laws 𝓤
-      H A W;
+  lawful = Laws'4.lawful Passed.the-type Laws'.the-laws 𝓤 H A W;
   makes = Laws'4.makes Passed.the-type Laws'.the-plain 𝓤 H A;
   in-mem = Local.mem-whole 𝓤 H A W (Declared'.row Passed.the-type);
-  of-mem =
-      Local.whole-mem 𝓤 H A W (Declared'.row Passed.the-type);
+  of-mem = Local.whole-mem 𝓤 H A W (Declared'.row Passed.the-type);
 }
 
 abbrev pub ps·3 : List.List (Kinds.PK 0)
@@ -224,46 +197,38 @@ ps·3 = List._∷_ (Value.pVal record {
   ty = Declared'.row Passed.the-type;
   one = Path'.refl;
   val = Laws'4.val Passed.the-type Laws'.the-laws;
-  tells = Laws'4.tells
-      Passed.the-type Laws'.the-laws;
+  tells = Laws'4.tells Passed.the-type Laws'.the-laws;
   still = Laws'4.still Passed.the-type Laws'.the-copy Exit.yes;
   row = Rows'.whole (Declared'.row Passed.the-type);
-  rd = λ x.
-      x;
+  rd = λ x. x;
   mk = λ x. x;
 } λ M 𝓤 H A W. record {
   copies = Laws'4.copy Passed.the-type Laws'.the-copy 𝓤 H A W;
-  lawful = Laws'4.lawful Passed.the-type Laws'.the-laws 𝓤
-      H A W;
+  lawful = Laws'4.lawful Passed.the-type Laws'.the-laws 𝓤 H A W;
   makes = Laws'4.makes Passed.the-type Laws'.the-plain 𝓤 H A;
   in-mem = Local.mem-whole 𝓤 H A W (Declared'.row Passed.the-type);
-  of-mem =
-      Local.whole-mem 𝓤 H A W (Declared'.row Passed.the-type);
+  of-mem = Local.whole-mem 𝓤 H A W (Declared'.row Passed.the-type);
 }) List.[]
 
 abbrev pub r·3 : Kinds.RK 0
-r·3 = EntryKind.r
+r·3 = EntryKind.returned
 
 abbrev pub ps·4 : List.List (Kinds.PK 0)
 ps·4 = List._∷_ (Value.pVal record {
   ty = Declared'.row Passed.the-type;
   one = Path'.refl;
   val = Laws'4.val Passed.the-type Laws'.the-laws;
-  tells = Laws'4.tells
-      Passed.the-type Laws'.the-laws;
+  tells = Laws'4.tells Passed.the-type Laws'.the-laws;
   still = Laws'4.still Passed.the-type Laws'.the-copy Exit.yes;
   row = Rows'.whole (Declared'.row Passed.the-type);
-  rd = λ x.
-      x;
+  rd = λ x. x;
   mk = λ x. x;
 } λ M 𝓤 H A W. record {
   copies = Laws'4.copy Passed.the-type Laws'.the-copy 𝓤 H A W;
-  lawful = Laws'4.lawful Passed.the-type Laws'.the-laws 𝓤
-      H A W;
+  lawful = Laws'4.lawful Passed.the-type Laws'.the-laws 𝓤 H A W;
   makes = Laws'4.makes Passed.the-type Laws'.the-plain 𝓤 H A;
   in-mem = Local.mem-whole 𝓤 H A W (Declared'.row Passed.the-type);
-  of-mem =
-      Local.whole-mem 𝓤 H A W (Declared'.row Passed.the-type);
+  of-mem = Local.whole-mem 𝓤 H A W (Declared'.row Passed.the-type);
 }) List.[]
 
 abbrev pub r·4 : Kinds.RK 0
@@ -271,22 +236,18 @@ r·4 = Value.rVal record {
   ty = Declared.row Walk.the-type;
   one = Path'.refl;
   val = Laws'3.val Walk.the-type Laws''.the-laws;
-  tells = Laws'3.tells Walk.the-type
-      Laws''.the-laws;
+  tells = Laws'3.tells Walk.the-type Laws''.the-laws;
   still = Laws'3.still Walk.the-type Laws''.the-copy Exit.yes;
   row = Rows'.whole (Declared.row Walk.the-type);
   rd = λ x. x;
   mk = λ x. x;
-} λ
-    M 𝓤 H A W. record {
-      copies = Laws'3.copy Walk.the-type Laws''.the-copy 𝓤 H A W;
-      lawful = Laws'3.lawful Walk.the-type Laws''.the-laws 𝓤 H A W tt;
-      makes =
-          Laws'3.makes Walk.the-type Laws''.the-plain 𝓤 H A;
-      in-mem = Local.mem-whole 𝓤 H A W (Declared.row Walk.the-type);
-      of-mem = Local.whole-mem 𝓤 H A W
-          (Declared.row Walk.the-type);
-    }
+} λ M 𝓤 H A W. record {
+  copies = Laws'3.copy Walk.the-type Laws''.the-copy 𝓤 H A W;
+  lawful = Laws'3.lawful Walk.the-type Laws''.the-laws 𝓤 H A W tt;
+  makes = Laws'3.makes Walk.the-type Laws''.the-plain 𝓤 H A;
+  in-mem = Local.mem-whole 𝓤 H A W (Declared.row Walk.the-type);
+  of-mem = Local.whole-mem 𝓤 H A W (Declared.row Walk.the-type);
+}
 
 abbrev pub ps·5 : List.List (Kinds.PK 1)
 ps·5 = List._∷_ (ShrSlice.pShrS (Referent.rtF (Referent.fInt Syntax.w8)) 0 tt) (List._∷_ (Value.pVal record {
@@ -294,42 +255,34 @@ ps·5 = List._∷_ (ShrSlice.pShrS (Referent.rtF (Referent.fInt Syntax.w8)) 0 tt
   one = Path'.refl;
   val = Laws'3.val Walk.the-type Laws''.the-laws;
   tells = Laws'3.tells Walk.the-type Laws''.the-laws;
-  still = Laws'3.still Walk.the-type Laws''.the-copy
-      Exit.yes;
+  still = Laws'3.still Walk.the-type Laws''.the-copy Exit.yes;
   row = Rows'.whole (Declared.row Walk.the-type);
   rd = λ x. x;
   mk = λ x. x;
 } λ M 𝓤 H A W. record {
-  copies = Laws'3.copy Walk.the-type
-      Laws''.the-copy 𝓤 H A W;
+  copies = Laws'3.copy Walk.the-type Laws''.the-copy 𝓤 H A W;
   lawful = Laws'3.lawful Walk.the-type Laws''.the-laws 𝓤 H A W tt;
   makes = Laws'3.makes Walk.the-type Laws''.the-plain 𝓤 H A;
-  in-mem
-      = Local.mem-whole 𝓤 H A W (Declared.row Walk.the-type);
+  in-mem = Local.mem-whole 𝓤 H A W (Declared.row Walk.the-type);
   of-mem = Local.whole-mem 𝓤 H A W (Declared.row Walk.the-type);
-}) (List._∷_ (Num.pNum Syntax.w64)
-    List.[]))
+}) (List._∷_ (Num.pNum Syntax.w64) List.[]))
 
 abbrev pub r·5 : Kinds.RK 1
 r·5 = Value.rVal record {
   ty = Declared'.row Cutting.the-type;
   one = Path'.refl;
   val = Laws'4.val Cutting.the-type Laws.the-laws;
-  tells = Laws'4.tells
-      Cutting.the-type Laws.the-laws;
+  tells = Laws'4.tells Cutting.the-type Laws.the-laws;
   still = Laws'4.still Cutting.the-type Laws.the-copy Exit.yes;
   row = Rows'.whole (Declared'.row Cutting.the-type);
-  rd = λ x.
-      x;
+  rd = λ x. x;
   mk = λ x. x;
 } λ M 𝓤 H A W. record {
   copies = Laws'4.copy Cutting.the-type Laws.the-copy 𝓤 H A W;
-  lawful = Laws'4.lawful Cutting.the-type Laws.the-laws 𝓤
-      H A W;
+  lawful = Laws'4.lawful Cutting.the-type Laws.the-laws 𝓤 H A W;
   makes = Laws'4.makes Cutting.the-type Laws.the-plain 𝓤 H A;
   in-mem = Local.mem-whole 𝓤 H A W (Declared'.row Cutting.the-type);
-  of-mem =
-      Local.whole-mem 𝓤 H A W (Declared'.row Cutting.the-type);
+  of-mem = Local.whole-mem 𝓤 H A W (Declared'.row Cutting.the-type);
 }
 
 abbrev pub ps·6 : List.List (Kinds.PK 0)
@@ -337,20 +290,16 @@ ps·6 = List._∷_ (Value.pVal record {
   ty = Declared'.row Cutting.the-type;
   one = Path'.refl;
   val = Laws'4.val Cutting.the-type Laws.the-laws;
-  tells =
-      Laws'4.tells Cutting.the-type Laws.the-laws;
+  tells = Laws'4.tells Cutting.the-type Laws.the-laws;
   still = Laws'4.still Cutting.the-type Laws.the-copy Exit.yes;
-  row = Rows'.whole (Declared'.row
-      Cutting.the-type);
+  row = Rows'.whole (Declared'.row Cutting.the-type);
   rd = λ x. x;
   mk = λ x. x;
 } λ M 𝓤 H A W. record {
   copies = Laws'4.copy Cutting.the-type Laws.the-copy 𝓤 H A W;
-  lawful = Laws'4.lawful
-      Cutting.the-type Laws.the-laws 𝓤 H A W;
+  lawful = Laws'4.lawful Cutting.the-type Laws.the-laws 𝓤 H A W;
   makes = Laws'4.makes Cutting.the-type Laws.the-plain 𝓤 H A;
-  in-mem = Local.mem-whole 𝓤 H A W (Declared'.row
-      Cutting.the-type);
+  in-mem = Local.mem-whole 𝓤 H A W (Declared'.row Cutting.the-type);
   of-mem = Local.whole-mem 𝓤 H A W (Declared'.row Cutting.the-type);
 }) List.[]
 
@@ -358,7 +307,7 @@ abbrev pub r·6 : Kinds.RK 0
 r·6 = Num.rNum Syntax.w64
 
 abbrev pub ps·7 : List.List (Kinds.PK 1)
-ps·7 = List._∷_ (MutSlice.pMutS EntryKind.R 0 tt) (List._∷_ (Num.pNum Syntax.w64) List.[])
+ps·7 = List._∷_ (MutSlice.pMutS EntryKind.row 0 tt) (List._∷_ (Num.pNum Syntax.w64) List.[])
 
 abbrev pub r·7 : Kinds.RK 1
 r·7 = Unit'.rUnit
@@ -405,7 +354,7 @@ b10 = Syntax.assign (Syntax.place 11 List.[]) (Syntax.op2 Syntax.offset (Syntax.
     (Syntax.place 10 List.[])))
 
 abbrev b11 : Syntax.Body
-b11 = Syntax.assign (Syntax.place 11 (List._∷_ (Syntax.deref EntryKind.spelled) List.[])) (Syntax.rvOpd (Syntax.copy (Syntax.place 6 List.[])))
+b11 = Syntax.assign (Syntax.place 11 (List._∷_ (Syntax.deref EntryKind.by-value) List.[])) (Syntax.rvOpd (Syntax.copy (Syntax.place 6 List.[])))
 
 abbrev b12 : Syntax.Body
 b12 = Syntax.call "packet::walk::walk_in" (List._∷_ (Syntax.copy (Syntax.place 5 List.[])) List.[]) (Syntax.place 3 List.[])
@@ -454,7 +403,7 @@ abbrev b26 : Syntax.Body
 b26 = Syntax.call "packet::entry::count_in" (List._∷_ (Syntax.copy (Syntax.place 7 List.[])) List.[]) (Syntax.place 8 List.[])
 
 abbrev b27 : Syntax.Body
-b27 = Syntax.assign (Syntax.place 13 List.[]) (Syntax.addrOf (Syntax.place 2 (List._∷_ (Syntax.field 0) (List._∷_ (Syntax.deref EntryKind.spelled) List.[]))))
+b27 = Syntax.assign (Syntax.place 13 List.[]) (Syntax.addrOf (Syntax.place 2 (List._∷_ (Syntax.field 0) (List._∷_ (Syntax.deref EntryKind.by-value) List.[]))))
 
 abbrev b28 : Syntax.Body
 b28 = Syntax.assign (Syntax.place 14 List.[]) (Syntax.aggregate (List._∷_ (Syntax.copy (Syntax.place 13 List.[])) (List._∷_ (Syntax.copy (Syntax.place 2
@@ -506,464 +455,224 @@ Claims = Kinds.In 1 ps·0 × Kinds.Out 1 ps·0 r·0 × Kinds.In 0 ps·1 × Kinds
     Kinds.Out 1 ps·7 r·7
 
 abbrev pub t0 : List.List Row.Entry
-t0 = List._∷_ (0, Rows'.any-gone ty-2) (List._∷_ (
-  1,
-  Rows'.sslice (Referent.rtF (Referent.fInt Syntax.w8)) (Syntax.tyRef (Syntax.named 0) Syntax.imm
-      (Syntax.tyInt Syntax.w8)) 0,
-) (List._∷_ (2, Mut.mslice EntryKind.R (Syntax.tyRef (Syntax.named 1) Syntax.mut EntryKind.elem) 1) (List._∷_ (
-  3,
-  Rows'.any-gone
-      ty-0,
-) (List._∷_ (4, Rows'.any-gone (Syntax.tyInt Syntax.w64)) (List._∷_ (5, Rows'.any-gone ty-1) (List._∷_ (6, Rows'.any-gone EntryKind.spelled) (List._∷_
-    (7, Rows'.any-gone ty-2) (List._∷_ (8, Rows'.any-gone (Syntax.tyInt Syntax.w64)) (List._∷_ (9, Rows'.any-gone Syntax.tyBool) (List._∷_ (
-      10,
-      Rows'.any-gone
-          (Syntax.tyInt Syntax.w64),
-    ) (List._∷_ (11, Rows'.any-gone Syntax.tyPtr) (List._∷_ (12, Rows'.any-gone Syntax.tyUnit) (List._∷_ (
-      13,
-      Rows'.any-gone
-          (Syntax.tyRef Syntax.erased Syntax.mut EntryKind.elem),
-    ) (List._∷_ (14, Rows'.any-gone ty-3) List.[]))))))))))))))
+t0 = List._∷_ (0, Rows'.any-gone type-Cutting) (List._∷_
+    (1, Rows'.sslice (Referent.rtF (Referent.fInt Syntax.w8)) (Syntax.tyRef (Syntax.named 0) Syntax.imm (Syntax.tyInt Syntax.w8)) 0) (List._∷_
+    (2, Mut.mslice EntryKind.row (Syntax.tyRef (Syntax.named 1) Syntax.mut EntryKind.pointee) 1) (List._∷_ (3, Rows'.any-gone type-Walk) (List._∷_
+    (4, Rows'.any-gone (Syntax.tyInt Syntax.w64)) (List._∷_ (5, Rows'.any-gone type-Passed) (List._∷_ (6, Rows'.any-gone EntryKind.by-value) (List._∷_
+    (7, Rows'.any-gone type-Cutting) (List._∷_ (8, Rows'.any-gone (Syntax.tyInt Syntax.w64)) (List._∷_ (9, Rows'.any-gone Syntax.tyBool) (List._∷_
+    (10, Rows'.any-gone (Syntax.tyInt Syntax.w64)) (List._∷_ (11, Rows'.any-gone Syntax.tyPtr) (List._∷_ (12, Rows'.any-gone Syntax.tyUnit) (List._∷_
+    (13, Rows'.any-gone (Syntax.tyRef Syntax.erased Syntax.mut EntryKind.pointee)) (List._∷_ (14, Rows'.any-gone type-slice) List.[]))))))))))))))
 
 abbrev pub t1 : List.List Row.Entry
-t1 = List._∷_ (0, Rows'.whole (Declared'.row Cutting.the-type)) (List._∷_ (
-  1,
-  Rows'.sslice (Referent.rtF (Referent.fInt Syntax.w8)) (Syntax.tyRef (Syntax.named
-      0) Syntax.imm (Syntax.tyInt Syntax.w8)) 0,
-) (List._∷_ (2, Mut.mslice EntryKind.R (Syntax.tyRef (Syntax.named 1) Syntax.mut EntryKind.elem) 1) (List._∷_ (
-  3,
-  Rows'.any-gone ty-0,
-) (List._∷_ (4, Rows'.any-gone (Syntax.tyInt Syntax.w64)) (List._∷_ (5, Rows'.any-gone ty-1) (List._∷_ (
-  6,
-  Rows'.any-gone
-      EntryKind.spelled,
-) (List._∷_ (7, Rows'.any-gone ty-2) (List._∷_ (8, Rows'.any-gone (Syntax.tyInt Syntax.w64)) (List._∷_ (9, Rows'.any-gone Syntax.tyBool)
-    (List._∷_ (10, Rows'.any-gone (Syntax.tyInt Syntax.w64)) (List._∷_ (11, Rows'.any-gone Syntax.tyPtr) (List._∷_ (12, Rows'.any-gone Syntax.tyUnit) (List._∷_
-    (13, Rows'.any-gone (Syntax.tyRef Syntax.erased Syntax.mut EntryKind.elem)) (List._∷_ (14, Rows'.any-gone ty-3) List.[]))))))))))))))
+t1 = List._∷_ (0, Rows'.whole (Declared'.row Cutting.the-type)) (List._∷_
+    (1, Rows'.sslice (Referent.rtF (Referent.fInt Syntax.w8)) (Syntax.tyRef (Syntax.named 0) Syntax.imm (Syntax.tyInt Syntax.w8)) 0) (List._∷_
+    (2, Mut.mslice EntryKind.row (Syntax.tyRef (Syntax.named 1) Syntax.mut EntryKind.pointee) 1) (List._∷_ (3, Rows'.any-gone type-Walk) (List._∷_
+    (4, Rows'.any-gone (Syntax.tyInt Syntax.w64)) (List._∷_ (5, Rows'.any-gone type-Passed) (List._∷_ (6, Rows'.any-gone EntryKind.by-value) (List._∷_
+    (7, Rows'.any-gone type-Cutting) (List._∷_ (8, Rows'.any-gone (Syntax.tyInt Syntax.w64)) (List._∷_ (9, Rows'.any-gone Syntax.tyBool) (List._∷_
+    (10, Rows'.any-gone (Syntax.tyInt Syntax.w64)) (List._∷_ (11, Rows'.any-gone Syntax.tyPtr) (List._∷_ (12, Rows'.any-gone Syntax.tyUnit) (List._∷_
+    (13, Rows'.any-gone (Syntax.tyRef Syntax.erased Syntax.mut EntryKind.pointee)) (List._∷_ (14, Rows'.any-gone type-slice) List.[]))))))))))))))
 
 abbrev pub t2 : List.List Row.Entry
-t2 = List._∷_ (0, Rows'.any-gone ty-2) (List._∷_ (
-  1,
-  Rows'.sslice (Referent.rtF (Referent.fInt Syntax.w8)) (Syntax.tyRef (Syntax.named 0) Syntax.imm
-      (Syntax.tyInt Syntax.w8)) 0,
-) (List._∷_ (2, Mut.mslice EntryKind.R (Syntax.tyRef (Syntax.named 1) Syntax.mut EntryKind.elem) 1) (List._∷_ (
-  3,
-  Rows'.whole
-      (Declared.row Walk.the-type),
-) (List._∷_ (4, Rows'.any-gone (Syntax.tyInt Syntax.w64)) (List._∷_ (5, Rows'.any-gone ty-1) (List._∷_ (
-  6,
-  Rows'.any-gone
-      EntryKind.spelled,
-) (List._∷_ (7, Rows'.any-gone ty-2) (List._∷_ (8, Rows'.any-gone (Syntax.tyInt Syntax.w64)) (List._∷_ (9, Rows'.any-gone Syntax.tyBool)
-    (List._∷_ (10, Rows'.any-gone (Syntax.tyInt Syntax.w64)) (List._∷_ (11, Rows'.any-gone Syntax.tyPtr) (List._∷_ (12, Rows'.any-gone Syntax.tyUnit) (List._∷_
-    (13, Rows'.any-gone (Syntax.tyRef Syntax.erased Syntax.mut EntryKind.elem)) (List._∷_ (14, Rows'.any-gone ty-3) List.[]))))))))))))))
+t2 = List._∷_ (0, Rows'.any-gone type-Cutting) (List._∷_
+    (1, Rows'.sslice (Referent.rtF (Referent.fInt Syntax.w8)) (Syntax.tyRef (Syntax.named 0) Syntax.imm (Syntax.tyInt Syntax.w8)) 0) (List._∷_
+    (2, Mut.mslice EntryKind.row (Syntax.tyRef (Syntax.named 1) Syntax.mut EntryKind.pointee) 1) (List._∷_ (3, Rows'.whole (Declared.row Walk.the-type))
+    (List._∷_ (4, Rows'.any-gone (Syntax.tyInt Syntax.w64)) (List._∷_ (5, Rows'.any-gone type-Passed) (List._∷_ (6, Rows'.any-gone EntryKind.by-value) (List._∷_
+    (7, Rows'.any-gone type-Cutting) (List._∷_ (8, Rows'.any-gone (Syntax.tyInt Syntax.w64)) (List._∷_ (9, Rows'.any-gone Syntax.tyBool) (List._∷_
+    (10, Rows'.any-gone (Syntax.tyInt Syntax.w64)) (List._∷_ (11, Rows'.any-gone Syntax.tyPtr) (List._∷_ (12, Rows'.any-gone Syntax.tyUnit) (List._∷_
+    (13, Rows'.any-gone (Syntax.tyRef Syntax.erased Syntax.mut EntryKind.pointee)) (List._∷_ (14, Rows'.any-gone type-slice) List.[]))))))))))))))
 
 abbrev pub t3 : List.List Row.Entry
-t3 = List._∷_ (0, Rows'.any-gone ty-2) (List._∷_ (
-  1,
-  Rows'.sslice (Referent.rtF (Referent.fInt Syntax.w8)) (Syntax.tyRef (Syntax.named 0) Syntax.imm
-      (Syntax.tyInt Syntax.w8)) 0,
-) (List._∷_ (2, Mut.mslice EntryKind.R (Syntax.tyRef (Syntax.named 1) Syntax.mut EntryKind.elem) 1) (List._∷_ (
-  3,
-  Rows'.whole
-      (Declared.row Walk.the-type),
-) (List._∷_ (4, Rows'.sc-here (Row.sInt Syntax.w64)) (List._∷_ (5, Rows'.any-gone ty-1) (List._∷_ (
-  6,
-  Rows'.any-gone
-      EntryKind.spelled,
-) (List._∷_ (7, Rows'.any-gone ty-2) (List._∷_ (8, Rows'.any-gone (Syntax.tyInt Syntax.w64)) (List._∷_ (9, Rows'.any-gone Syntax.tyBool)
-    (List._∷_ (10, Rows'.any-gone (Syntax.tyInt Syntax.w64)) (List._∷_ (11, Rows'.any-gone Syntax.tyPtr) (List._∷_ (12, Rows'.any-gone Syntax.tyUnit) (List._∷_
-    (13, Rows'.any-gone (Syntax.tyRef Syntax.erased Syntax.mut EntryKind.elem)) (List._∷_ (14, Rows'.any-gone ty-3) List.[]))))))))))))))
+t3 = List._∷_ (0, Rows'.any-gone type-Cutting) (List._∷_
+    (1, Rows'.sslice (Referent.rtF (Referent.fInt Syntax.w8)) (Syntax.tyRef (Syntax.named 0) Syntax.imm (Syntax.tyInt Syntax.w8)) 0) (List._∷_
+    (2, Mut.mslice EntryKind.row (Syntax.tyRef (Syntax.named 1) Syntax.mut EntryKind.pointee) 1) (List._∷_ (3, Rows'.whole (Declared.row Walk.the-type))
+    (List._∷_ (4, Rows'.sc-here (Row.sInt Syntax.w64)) (List._∷_ (5, Rows'.any-gone type-Passed) (List._∷_ (6, Rows'.any-gone EntryKind.by-value) (List._∷_
+    (7, Rows'.any-gone type-Cutting) (List._∷_ (8, Rows'.any-gone (Syntax.tyInt Syntax.w64)) (List._∷_ (9, Rows'.any-gone Syntax.tyBool) (List._∷_
+    (10, Rows'.any-gone (Syntax.tyInt Syntax.w64)) (List._∷_ (11, Rows'.any-gone Syntax.tyPtr) (List._∷_ (12, Rows'.any-gone Syntax.tyUnit) (List._∷_
+    (13, Rows'.any-gone (Syntax.tyRef Syntax.erased Syntax.mut EntryKind.pointee)) (List._∷_ (14, Rows'.any-gone type-slice) List.[]))))))))))))))
 
 abbrev pub t4 : List.List Row.Entry
-t4 = List._∷_ (0, Rows'.any-gone ty-2) (List._∷_ (
-  1,
-  Rows'.sslice (Referent.rtF (Referent.fInt Syntax.w8)) (Syntax.tyRef (Syntax.named 0) Syntax.imm
-      (Syntax.tyInt Syntax.w8)) 0,
-) (List._∷_ (2, Mut.mslice EntryKind.R (Syntax.tyRef (Syntax.named 1) Syntax.mut EntryKind.elem) 1) (List._∷_ (
-  3,
-  Rows'.whole
-      (Declared.row Walk.the-type),
-) (List._∷_ (4, Rows'.sc-here (Row.sInt Syntax.w64)) (List._∷_ (5, Rows'.any-gone ty-1) (List._∷_ (
-  6,
-  Rows'.any-gone
-      EntryKind.spelled,
-) (List._∷_ (7, Rows'.any-gone ty-2) (List._∷_ (8, Rows'.any-gone (Syntax.tyInt Syntax.w64)) (List._∷_ (9, Rows'.any-gone Syntax.tyBool)
-    (List._∷_ (10, Rows'.sc-here (Row.sInt Syntax.w64)) (List._∷_ (11, Rows'.any-gone Syntax.tyPtr) (List._∷_ (12, Rows'.any-gone Syntax.tyUnit) (List._∷_ (
-      13,
-      Rows'.any-gone (Syntax.tyRef Syntax.erased Syntax.mut EntryKind.elem),
-    ) (List._∷_ (14, Rows'.any-gone ty-3) List.[]))))))))))))))
+t4 = List._∷_ (0, Rows'.any-gone type-Cutting) (List._∷_
+    (1, Rows'.sslice (Referent.rtF (Referent.fInt Syntax.w8)) (Syntax.tyRef (Syntax.named 0) Syntax.imm (Syntax.tyInt Syntax.w8)) 0) (List._∷_
+    (2, Mut.mslice EntryKind.row (Syntax.tyRef (Syntax.named 1) Syntax.mut EntryKind.pointee) 1) (List._∷_ (3, Rows'.whole (Declared.row Walk.the-type))
+    (List._∷_ (4, Rows'.sc-here (Row.sInt Syntax.w64)) (List._∷_ (5, Rows'.any-gone type-Passed) (List._∷_ (6, Rows'.any-gone EntryKind.by-value) (List._∷_
+    (7, Rows'.any-gone type-Cutting) (List._∷_ (8, Rows'.any-gone (Syntax.tyInt Syntax.w64)) (List._∷_ (9, Rows'.any-gone Syntax.tyBool) (List._∷_
+    (10, Rows'.sc-here (Row.sInt Syntax.w64)) (List._∷_ (11, Rows'.any-gone Syntax.tyPtr) (List._∷_ (12, Rows'.any-gone Syntax.tyUnit) (List._∷_
+    (13, Rows'.any-gone (Syntax.tyRef Syntax.erased Syntax.mut EntryKind.pointee)) (List._∷_ (14, Rows'.any-gone type-slice) List.[]))))))))))))))
 
 abbrev pub t5 : List.List Row.Entry
-t5 = List._∷_ (0, Rows'.any-gone ty-2) (List._∷_ (
-  1,
-  Rows'.sslice (Referent.rtF (Referent.fInt Syntax.w8)) (Syntax.tyRef (Syntax.named 0) Syntax.imm
-      (Syntax.tyInt Syntax.w8)) 0,
-) (List._∷_ (2, Mut.mslice EntryKind.R (Syntax.tyRef (Syntax.named 1) Syntax.mut EntryKind.elem) 1) (List._∷_ (
-  3,
-  Rows'.whole
-      (Declared.row Walk.the-type),
-) (List._∷_ (4, Rows'.sc-here (Row.sInt Syntax.w64)) (List._∷_ (5, Rows'.any-gone ty-1) (List._∷_ (
-  6,
-  Rows'.any-gone
-      EntryKind.spelled,
-) (List._∷_ (7, Rows'.any-gone ty-2) (List._∷_ (8, Rows'.any-gone (Syntax.tyInt Syntax.w64)) (List._∷_ (9, Rows'.sc-here Row.sBool)
-    (List._∷_ (10, Rows'.sc-here (Row.sInt Syntax.w64)) (List._∷_ (11, Rows'.any-gone Syntax.tyPtr) (List._∷_ (12, Rows'.any-gone Syntax.tyUnit) (List._∷_ (
-      13,
-      Rows'.any-gone (Syntax.tyRef Syntax.erased Syntax.mut EntryKind.elem),
-    ) (List._∷_ (14, Rows'.any-gone ty-3) List.[]))))))))))))))
+t5 = List._∷_ (0, Rows'.any-gone type-Cutting) (List._∷_
+    (1, Rows'.sslice (Referent.rtF (Referent.fInt Syntax.w8)) (Syntax.tyRef (Syntax.named 0) Syntax.imm (Syntax.tyInt Syntax.w8)) 0) (List._∷_
+    (2, Mut.mslice EntryKind.row (Syntax.tyRef (Syntax.named 1) Syntax.mut EntryKind.pointee) 1) (List._∷_ (3, Rows'.whole (Declared.row Walk.the-type))
+    (List._∷_ (4, Rows'.sc-here (Row.sInt Syntax.w64)) (List._∷_ (5, Rows'.any-gone type-Passed) (List._∷_ (6, Rows'.any-gone EntryKind.by-value) (List._∷_
+    (7, Rows'.any-gone type-Cutting) (List._∷_ (8, Rows'.any-gone (Syntax.tyInt Syntax.w64)) (List._∷_ (9, Rows'.sc-here Row.sBool) (List._∷_
+    (10, Rows'.sc-here (Row.sInt Syntax.w64)) (List._∷_ (11, Rows'.any-gone Syntax.tyPtr) (List._∷_ (12, Rows'.any-gone Syntax.tyUnit) (List._∷_
+    (13, Rows'.any-gone (Syntax.tyRef Syntax.erased Syntax.mut EntryKind.pointee)) (List._∷_ (14, Rows'.any-gone type-slice) List.[]))))))))))))))
 
 abbrev pub t6 : List.List Row.Entry
-t6 = List._∷_ (0, Rows'.any-gone ty-2) (List._∷_ (
-  1,
-  Rows'.sslice (Referent.rtF (Referent.fInt Syntax.w8)) (Syntax.tyRef (Syntax.named 0) Syntax.imm
-      (Syntax.tyInt Syntax.w8)) 0,
-) (List._∷_ (2, Mut.mslice EntryKind.R (Syntax.tyRef (Syntax.named 1) Syntax.mut EntryKind.elem) 1) (List._∷_ (
-  3,
-  Rows'.whole
-      (Declared.row Walk.the-type),
-) (List._∷_ (4, Rows'.sc-here (Row.sInt Syntax.w64)) (List._∷_ (5, Rows'.any-gone ty-1) (List._∷_ (
-  6,
-  Rows'.any-gone
-      EntryKind.spelled,
-) (List._∷_ (7, Rows'.any-gone ty-2) (List._∷_ (8, Rows'.any-gone (Syntax.tyInt Syntax.w64)) (List._∷_ (9, Rows'.sc-here Row.sBool)
-    (List._∷_ (10, Rows'.any-gone (Syntax.tyInt Syntax.w64)) (List._∷_ (11, Rows'.any-gone Syntax.tyPtr) (List._∷_ (12, Rows'.any-gone Syntax.tyUnit) (List._∷_
-    (13, Rows'.any-gone (Syntax.tyRef Syntax.erased Syntax.mut EntryKind.elem)) (List._∷_ (14, Rows'.any-gone ty-3) List.[]))))))))))))))
+t6 = List._∷_ (0, Rows'.any-gone type-Cutting) (List._∷_
+    (1, Rows'.sslice (Referent.rtF (Referent.fInt Syntax.w8)) (Syntax.tyRef (Syntax.named 0) Syntax.imm (Syntax.tyInt Syntax.w8)) 0) (List._∷_
+    (2, Mut.mslice EntryKind.row (Syntax.tyRef (Syntax.named 1) Syntax.mut EntryKind.pointee) 1) (List._∷_ (3, Rows'.whole (Declared.row Walk.the-type))
+    (List._∷_ (4, Rows'.sc-here (Row.sInt Syntax.w64)) (List._∷_ (5, Rows'.any-gone type-Passed) (List._∷_ (6, Rows'.any-gone EntryKind.by-value) (List._∷_
+    (7, Rows'.any-gone type-Cutting) (List._∷_ (8, Rows'.any-gone (Syntax.tyInt Syntax.w64)) (List._∷_ (9, Rows'.sc-here Row.sBool) (List._∷_
+    (10, Rows'.any-gone (Syntax.tyInt Syntax.w64)) (List._∷_ (11, Rows'.any-gone Syntax.tyPtr) (List._∷_ (12, Rows'.any-gone Syntax.tyUnit) (List._∷_
+    (13, Rows'.any-gone (Syntax.tyRef Syntax.erased Syntax.mut EntryKind.pointee)) (List._∷_ (14, Rows'.any-gone type-slice) List.[]))))))))))))))
 
 abbrev pub t7 : List.List Row.Entry
-t7 = List._∷_ (0, Rows'.any-gone ty-2) (List._∷_ (
-  1,
-  Rows'.sslice (Referent.rtF (Referent.fInt Syntax.w8)) (Syntax.tyRef (Syntax.named 0) Syntax.imm
-      (Syntax.tyInt Syntax.w8)) 0,
-) (List._∷_ (2, Mut.mslice EntryKind.R (Syntax.tyRef (Syntax.named 1) Syntax.mut EntryKind.elem) 1) (List._∷_ (
-  3,
-  Rows'.whole
-      (Declared.row Walk.the-type),
-) (List._∷_ (4, Rows'.sc-here (Row.sInt Syntax.w64)) (List._∷_ (5, Rows'.whole (Declared'.row Passed.the-type)) (List._∷_ (
-  6,
-  Rows'.any-gone EntryKind.spelled,
-) (List._∷_ (7, Rows'.any-gone ty-2) (List._∷_ (8, Rows'.any-gone (Syntax.tyInt Syntax.w64)) (List._∷_ (
-  9,
-  Rows'.any-gone
-      Syntax.tyBool,
-) (List._∷_ (10, Rows'.any-gone (Syntax.tyInt Syntax.w64)) (List._∷_ (11, Rows'.any-gone Syntax.tyPtr) (List._∷_ (
-  12,
-  Rows'.any-gone
-      Syntax.tyUnit,
-) (List._∷_ (13, Rows'.any-gone (Syntax.tyRef Syntax.erased Syntax.mut EntryKind.elem)) (List._∷_ (14, Rows'.any-gone ty-3)
-    List.[]))))))))))))))
+t7 = List._∷_ (0, Rows'.any-gone type-Cutting) (List._∷_
+    (1, Rows'.sslice (Referent.rtF (Referent.fInt Syntax.w8)) (Syntax.tyRef (Syntax.named 0) Syntax.imm (Syntax.tyInt Syntax.w8)) 0) (List._∷_
+    (2, Mut.mslice EntryKind.row (Syntax.tyRef (Syntax.named 1) Syntax.mut EntryKind.pointee) 1) (List._∷_ (3, Rows'.whole (Declared.row Walk.the-type))
+    (List._∷_ (4, Rows'.sc-here (Row.sInt Syntax.w64)) (List._∷_ (5, Rows'.whole (Declared'.row Passed.the-type)) (List._∷_
+    (6, Rows'.any-gone EntryKind.by-value) (List._∷_ (7, Rows'.any-gone type-Cutting) (List._∷_ (8, Rows'.any-gone (Syntax.tyInt Syntax.w64)) (List._∷_
+    (9, Rows'.any-gone Syntax.tyBool) (List._∷_ (10, Rows'.any-gone (Syntax.tyInt Syntax.w64)) (List._∷_ (11, Rows'.any-gone Syntax.tyPtr) (List._∷_
+    (12, Rows'.any-gone Syntax.tyUnit) (List._∷_ (13, Rows'.any-gone (Syntax.tyRef Syntax.erased Syntax.mut EntryKind.pointee)) (List._∷_
+    (14, Rows'.any-gone type-slice) List.[]))))))))))))))
 
 abbrev pub t8 : List.List Row.Entry
-t8 = List._∷_ (0, Rows'.any-gone ty-2) (List._∷_ (
-  1,
-  Rows'.sslice (Referent.rtF (Referent.fInt Syntax.w8)) (Syntax.tyRef (Syntax.named 0) Syntax.imm
-      (Syntax.tyInt Syntax.w8)) 0,
-) (List._∷_ (2, Mut.mslice EntryKind.R (Syntax.tyRef (Syntax.named 1) Syntax.mut EntryKind.elem) 1) (List._∷_ (
-  3,
-  Rows'.any-gone
-      ty-0,
-) (List._∷_ (4, Rows'.sc-here (Row.sInt Syntax.w64)) (List._∷_ (5, Rows'.whole (Declared'.row Passed.the-type)) (List._∷_ (
-  6,
-  Rows'.any-gone
-      EntryKind.spelled,
-) (List._∷_ (7, Rows'.any-gone ty-2) (List._∷_ (8, Rows'.any-gone (Syntax.tyInt Syntax.w64)) (List._∷_ (9, Rows'.any-gone Syntax.tyBool)
-    (List._∷_ (10, Rows'.any-gone (Syntax.tyInt Syntax.w64)) (List._∷_ (11, Rows'.any-gone Syntax.tyPtr) (List._∷_ (12, Rows'.any-gone Syntax.tyUnit) (List._∷_
-    (13, Rows'.any-gone (Syntax.tyRef Syntax.erased Syntax.mut EntryKind.elem)) (List._∷_ (14, Rows'.any-gone ty-3) List.[]))))))))))))))
+t8 = List._∷_ (0, Rows'.any-gone type-Cutting) (List._∷_
+    (1, Rows'.sslice (Referent.rtF (Referent.fInt Syntax.w8)) (Syntax.tyRef (Syntax.named 0) Syntax.imm (Syntax.tyInt Syntax.w8)) 0) (List._∷_
+    (2, Mut.mslice EntryKind.row (Syntax.tyRef (Syntax.named 1) Syntax.mut EntryKind.pointee) 1) (List._∷_ (3, Rows'.any-gone type-Walk) (List._∷_
+    (4, Rows'.sc-here (Row.sInt Syntax.w64)) (List._∷_ (5, Rows'.whole (Declared'.row Passed.the-type)) (List._∷_ (6, Rows'.any-gone EntryKind.by-value)
+    (List._∷_ (7, Rows'.any-gone type-Cutting) (List._∷_ (8, Rows'.any-gone (Syntax.tyInt Syntax.w64)) (List._∷_ (9, Rows'.any-gone Syntax.tyBool) (List._∷_
+    (10, Rows'.any-gone (Syntax.tyInt Syntax.w64)) (List._∷_ (11, Rows'.any-gone Syntax.tyPtr) (List._∷_ (12, Rows'.any-gone Syntax.tyUnit) (List._∷_
+    (13, Rows'.any-gone (Syntax.tyRef Syntax.erased Syntax.mut EntryKind.pointee)) (List._∷_ (14, Rows'.any-gone type-slice) List.[]))))))))))))))
 
 abbrev pub t9 : List.List Row.Entry
-t9 = List._∷_ (0, Rows'.any-gone ty-2) (List._∷_ (
-  1,
-  Rows'.sslice (Referent.rtF (Referent.fInt Syntax.w8)) (Syntax.tyRef (Syntax.named 0) Syntax.imm
-      (Syntax.tyInt Syntax.w8)) 0,
-) (List._∷_ (2, Mut.mslice EntryKind.R (Syntax.tyRef (Syntax.named 1) Syntax.mut EntryKind.elem) 1) (List._∷_ (
-  3,
-  Rows'.any-gone
-      ty-0,
-) (List._∷_ (4, Rows'.sc-here (Row.sInt Syntax.w64)) (List._∷_ (5, Rows'.whole (Declared'.row Passed.the-type)) (List._∷_ (6, EntryKind.whole) (List._∷_
-    (7, Rows'.any-gone ty-2) (List._∷_ (8, Rows'.any-gone (Syntax.tyInt Syntax.w64)) (List._∷_ (9, Rows'.any-gone Syntax.tyBool) (List._∷_ (
-      10,
-      Rows'.any-gone
-          (Syntax.tyInt Syntax.w64),
-    ) (List._∷_ (11, Rows'.any-gone Syntax.tyPtr) (List._∷_ (12, Rows'.any-gone Syntax.tyUnit) (List._∷_ (
-      13,
-      Rows'.any-gone
-          (Syntax.tyRef Syntax.erased Syntax.mut EntryKind.elem),
-    ) (List._∷_ (14, Rows'.any-gone ty-3) List.[]))))))))))))))
+t9 = List._∷_ (0, Rows'.any-gone type-Cutting) (List._∷_
+    (1, Rows'.sslice (Referent.rtF (Referent.fInt Syntax.w8)) (Syntax.tyRef (Syntax.named 0) Syntax.imm (Syntax.tyInt Syntax.w8)) 0) (List._∷_
+    (2, Mut.mslice EntryKind.row (Syntax.tyRef (Syntax.named 1) Syntax.mut EntryKind.pointee) 1) (List._∷_ (3, Rows'.any-gone type-Walk) (List._∷_
+    (4, Rows'.sc-here (Row.sInt Syntax.w64)) (List._∷_ (5, Rows'.whole (Declared'.row Passed.the-type)) (List._∷_ (6, EntryKind.local) (List._∷_
+    (7, Rows'.any-gone type-Cutting) (List._∷_ (8, Rows'.any-gone (Syntax.tyInt Syntax.w64)) (List._∷_ (9, Rows'.any-gone Syntax.tyBool) (List._∷_
+    (10, Rows'.any-gone (Syntax.tyInt Syntax.w64)) (List._∷_ (11, Rows'.any-gone Syntax.tyPtr) (List._∷_ (12, Rows'.any-gone Syntax.tyUnit) (List._∷_
+    (13, Rows'.any-gone (Syntax.tyRef Syntax.erased Syntax.mut EntryKind.pointee)) (List._∷_ (14, Rows'.any-gone type-slice) List.[]))))))))))))))
 
 abbrev pub t10 : List.List Row.Entry
-t10 = List._∷_ (0, Rows'.any-gone ty-2) (List._∷_ (
-  1,
-  Rows'.sslice (Referent.rtF (Referent.fInt Syntax.w8)) (Syntax.tyRef (Syntax.named 0) Syntax.imm
-      (Syntax.tyInt Syntax.w8)) 0,
-) (List._∷_ (2, Mut.mslice EntryKind.R (Syntax.tyRef (Syntax.named 1) Syntax.mut EntryKind.elem) 1) (List._∷_ (
-  3,
-  Rows'.any-gone
-      ty-0,
-) (List._∷_ (4, Rows'.sc-here (Row.sInt Syntax.w64)) (List._∷_ (5, Rows'.whole (Declared'.row Passed.the-type)) (List._∷_ (6, EntryKind.whole) (List._∷_
-    (7, Rows'.any-gone ty-2) (List._∷_ (8, Rows'.any-gone (Syntax.tyInt Syntax.w64)) (List._∷_ (9, Rows'.any-gone Syntax.tyBool) (List._∷_ (
-      10,
-      Rows'.sc-here
-          (Row.sInt Syntax.w64),
-    ) (List._∷_ (11, Rows'.any-gone Syntax.tyPtr) (List._∷_ (12, Rows'.any-gone Syntax.tyUnit) (List._∷_ (
-      13,
-      Rows'.any-gone (Syntax.tyRef
-          Syntax.erased Syntax.mut EntryKind.elem),
-    ) (List._∷_ (14, Rows'.any-gone ty-3) List.[]))))))))))))))
+t10 = List._∷_ (0, Rows'.any-gone type-Cutting) (List._∷_
+    (1, Rows'.sslice (Referent.rtF (Referent.fInt Syntax.w8)) (Syntax.tyRef (Syntax.named 0) Syntax.imm (Syntax.tyInt Syntax.w8)) 0) (List._∷_
+    (2, Mut.mslice EntryKind.row (Syntax.tyRef (Syntax.named 1) Syntax.mut EntryKind.pointee) 1) (List._∷_ (3, Rows'.any-gone type-Walk) (List._∷_
+    (4, Rows'.sc-here (Row.sInt Syntax.w64)) (List._∷_ (5, Rows'.whole (Declared'.row Passed.the-type)) (List._∷_ (6, EntryKind.local) (List._∷_
+    (7, Rows'.any-gone type-Cutting) (List._∷_ (8, Rows'.any-gone (Syntax.tyInt Syntax.w64)) (List._∷_ (9, Rows'.any-gone Syntax.tyBool) (List._∷_
+    (10, Rows'.sc-here (Row.sInt Syntax.w64)) (List._∷_ (11, Rows'.any-gone Syntax.tyPtr) (List._∷_ (12, Rows'.any-gone Syntax.tyUnit) (List._∷_
+    (13, Rows'.any-gone (Syntax.tyRef Syntax.erased Syntax.mut EntryKind.pointee)) (List._∷_ (14, Rows'.any-gone type-slice) List.[]))))))))))))))
 
 abbrev pub t11 : List.List Row.Entry
-t11 = List._∷_ (0, Rows'.any-gone ty-2) (List._∷_ (
-  1,
-  Rows'.sslice (Referent.rtF (Referent.fInt Syntax.w8)) (Syntax.tyRef (Syntax.named 0) Syntax.imm
-      (Syntax.tyInt Syntax.w8)) 0,
-) (List._∷_ (2, Mut.mslice EntryKind.R (Syntax.tyRef (Syntax.named 1) Syntax.mut EntryKind.elem) 1) (List._∷_ (
-  3,
-  Rows'.any-gone
-      ty-0,
-) (List._∷_ (4, Rows'.sc-here (Row.sInt Syntax.w64)) (List._∷_ (5, Rows'.whole (Declared'.row Passed.the-type)) (List._∷_ (6, EntryKind.whole) (List._∷_
-    (7, Rows'.any-gone ty-2) (List._∷_ (8, Rows'.any-gone (Syntax.tyInt Syntax.w64)) (List._∷_ (9, Rows'.any-gone Syntax.tyBool) (List._∷_ (
-      10,
-      Rows'.sc-here
-          (Row.sInt Syntax.w64),
-    ) (List._∷_ (11, Rows'.sc-here Row.sPtr) (List._∷_ (12, Rows'.any-gone Syntax.tyUnit) (List._∷_ (
-      13,
-      Rows'.any-gone (Syntax.tyRef
-          Syntax.erased Syntax.mut EntryKind.elem),
-    ) (List._∷_ (14, Rows'.any-gone ty-3) List.[]))))))))))))))
+t11 = List._∷_ (0, Rows'.any-gone type-Cutting) (List._∷_
+    (1, Rows'.sslice (Referent.rtF (Referent.fInt Syntax.w8)) (Syntax.tyRef (Syntax.named 0) Syntax.imm (Syntax.tyInt Syntax.w8)) 0) (List._∷_
+    (2, Mut.mslice EntryKind.row (Syntax.tyRef (Syntax.named 1) Syntax.mut EntryKind.pointee) 1) (List._∷_ (3, Rows'.any-gone type-Walk) (List._∷_
+    (4, Rows'.sc-here (Row.sInt Syntax.w64)) (List._∷_ (5, Rows'.whole (Declared'.row Passed.the-type)) (List._∷_ (6, EntryKind.local) (List._∷_
+    (7, Rows'.any-gone type-Cutting) (List._∷_ (8, Rows'.any-gone (Syntax.tyInt Syntax.w64)) (List._∷_ (9, Rows'.any-gone Syntax.tyBool) (List._∷_
+    (10, Rows'.sc-here (Row.sInt Syntax.w64)) (List._∷_ (11, Rows'.sc-here Row.sPtr) (List._∷_ (12, Rows'.any-gone Syntax.tyUnit) (List._∷_
+    (13, Rows'.any-gone (Syntax.tyRef Syntax.erased Syntax.mut EntryKind.pointee)) (List._∷_ (14, Rows'.any-gone type-slice) List.[]))))))))))))))
 
 abbrev pub t12 : List.List Row.Entry
-t12 = List._∷_ (0, Rows'.any-gone ty-2) (List._∷_ (
-  1,
-  Rows'.sslice (Referent.rtF (Referent.fInt Syntax.w8)) (Syntax.tyRef (Syntax.named 0) Syntax.imm
-      (Syntax.tyInt Syntax.w8)) 0,
-) (List._∷_ (2, Mut.mslice EntryKind.R (Syntax.tyRef (Syntax.named 1) Syntax.mut EntryKind.elem) 1) (List._∷_ (
-  3,
-  Rows'.any-gone
-      ty-0,
-) (List._∷_ (4, Rows'.sc-here (Row.sInt Syntax.w64)) (List._∷_ (5, Rows'.whole (Declared'.row Passed.the-type)) (List._∷_ (
-  6,
-  Rows'.any-gone
-      EntryKind.spelled,
-) (List._∷_ (7, Rows'.any-gone ty-2) (List._∷_ (8, Rows'.any-gone (Syntax.tyInt Syntax.w64)) (List._∷_ (9, Rows'.any-gone Syntax.tyBool)
-    (List._∷_ (10, Rows'.sc-here (Row.sInt Syntax.w64)) (List._∷_ (11, Rows'.sc-here Row.sPtr) (List._∷_ (12, Rows'.any-gone Syntax.tyUnit) (List._∷_ (
-      13,
-      Rows'.any-gone (Syntax.tyRef Syntax.erased Syntax.mut EntryKind.elem),
-    ) (List._∷_ (14, Rows'.any-gone ty-3) List.[]))))))))))))))
+t12 = List._∷_ (0, Rows'.any-gone type-Cutting) (List._∷_
+    (1, Rows'.sslice (Referent.rtF (Referent.fInt Syntax.w8)) (Syntax.tyRef (Syntax.named 0) Syntax.imm (Syntax.tyInt Syntax.w8)) 0) (List._∷_
+    (2, Mut.mslice EntryKind.row (Syntax.tyRef (Syntax.named 1) Syntax.mut EntryKind.pointee) 1) (List._∷_ (3, Rows'.any-gone type-Walk) (List._∷_
+    (4, Rows'.sc-here (Row.sInt Syntax.w64)) (List._∷_ (5, Rows'.whole (Declared'.row Passed.the-type)) (List._∷_ (6, Rows'.any-gone EntryKind.by-value)
+    (List._∷_ (7, Rows'.any-gone type-Cutting) (List._∷_ (8, Rows'.any-gone (Syntax.tyInt Syntax.w64)) (List._∷_ (9, Rows'.any-gone Syntax.tyBool) (List._∷_
+    (10, Rows'.sc-here (Row.sInt Syntax.w64)) (List._∷_ (11, Rows'.sc-here Row.sPtr) (List._∷_ (12, Rows'.any-gone Syntax.tyUnit) (List._∷_
+    (13, Rows'.any-gone (Syntax.tyRef Syntax.erased Syntax.mut EntryKind.pointee)) (List._∷_ (14, Rows'.any-gone type-slice) List.[]))))))))))))))
 
 abbrev pub t13 : List.List Row.Entry
-t13 = List._∷_ (0, Rows'.any-gone ty-2) (List._∷_ (
-  1,
-  Rows'.sslice (Referent.rtF (Referent.fInt Syntax.w8)) (Syntax.tyRef (Syntax.named 0) Syntax.imm
-      (Syntax.tyInt Syntax.w8)) 0,
-) (List._∷_ (2, Mut.mslice EntryKind.R (Syntax.tyRef (Syntax.named 1) Syntax.mut EntryKind.elem) 1) (List._∷_ (
-  3,
-  Rows'.any-gone
-      ty-0,
-) (List._∷_ (4, Rows'.sc-here (Row.sInt Syntax.w64)) (List._∷_ (5, Rows'.whole (Declared'.row Passed.the-type)) (List._∷_ (
-  6,
-  Rows'.any-gone
-      EntryKind.spelled,
-) (List._∷_ (7, Rows'.any-gone ty-2) (List._∷_ (8, Rows'.any-gone (Syntax.tyInt Syntax.w64)) (List._∷_ (9, Rows'.any-gone Syntax.tyBool)
-    (List._∷_ (10, Rows'.any-gone (Syntax.tyInt Syntax.w64)) (List._∷_ (11, Rows'.sc-here Row.sPtr) (List._∷_ (12, Rows'.any-gone Syntax.tyUnit) (List._∷_ (
-      13,
-      Rows'.any-gone (Syntax.tyRef Syntax.erased Syntax.mut EntryKind.elem),
-    ) (List._∷_ (14, Rows'.any-gone ty-3) List.[]))))))))))))))
+t13 = List._∷_ (0, Rows'.any-gone type-Cutting) (List._∷_
+    (1, Rows'.sslice (Referent.rtF (Referent.fInt Syntax.w8)) (Syntax.tyRef (Syntax.named 0) Syntax.imm (Syntax.tyInt Syntax.w8)) 0) (List._∷_
+    (2, Mut.mslice EntryKind.row (Syntax.tyRef (Syntax.named 1) Syntax.mut EntryKind.pointee) 1) (List._∷_ (3, Rows'.any-gone type-Walk) (List._∷_
+    (4, Rows'.sc-here (Row.sInt Syntax.w64)) (List._∷_ (5, Rows'.whole (Declared'.row Passed.the-type)) (List._∷_ (6, Rows'.any-gone EntryKind.by-value)
+    (List._∷_ (7, Rows'.any-gone type-Cutting) (List._∷_ (8, Rows'.any-gone (Syntax.tyInt Syntax.w64)) (List._∷_ (9, Rows'.any-gone Syntax.tyBool) (List._∷_
+    (10, Rows'.any-gone (Syntax.tyInt Syntax.w64)) (List._∷_ (11, Rows'.sc-here Row.sPtr) (List._∷_ (12, Rows'.any-gone Syntax.tyUnit) (List._∷_
+    (13, Rows'.any-gone (Syntax.tyRef Syntax.erased Syntax.mut EntryKind.pointee)) (List._∷_ (14, Rows'.any-gone type-slice) List.[]))))))))))))))
 
 abbrev pub t14 : List.List Row.Entry
-t14 = List._∷_ (0, Rows'.any-gone ty-2) (List._∷_ (
-  1,
-  Rows'.sslice (Referent.rtF (Referent.fInt Syntax.w8)) (Syntax.tyRef (Syntax.named 0) Syntax.imm
-      (Syntax.tyInt Syntax.w8)) 0,
-) (List._∷_ (2, Mut.mslice EntryKind.R (Syntax.tyRef (Syntax.named 1) Syntax.mut EntryKind.elem) 1) (List._∷_ (
-  3,
-  Rows'.whole
-      (Declared.row Walk.the-type),
-) (List._∷_ (4, Rows'.sc-here (Row.sInt Syntax.w64)) (List._∷_ (5, Rows'.any-gone ty-1) (List._∷_ (
-  6,
-  Rows'.any-gone
-      EntryKind.spelled,
-) (List._∷_ (7, Rows'.whole (Declared'.row Cutting.the-type)) (List._∷_ (8, Rows'.any-gone (Syntax.tyInt Syntax.w64)) (List._∷_ (
-  9,
-  Rows'.any-gone Syntax.tyBool,
-) (List._∷_ (10, Rows'.any-gone (Syntax.tyInt Syntax.w64)) (List._∷_ (11, Rows'.any-gone Syntax.tyPtr) (List._∷_ (
-  12,
-  Rows'.any-gone Syntax.tyUnit,
-) (List._∷_ (13, Rows'.any-gone (Syntax.tyRef Syntax.erased Syntax.mut EntryKind.elem)) (List._∷_ (14, Rows'.any-gone ty-3)
-    List.[]))))))))))))))
+t14 = List._∷_ (0, Rows'.any-gone type-Cutting) (List._∷_
+    (1, Rows'.sslice (Referent.rtF (Referent.fInt Syntax.w8)) (Syntax.tyRef (Syntax.named 0) Syntax.imm (Syntax.tyInt Syntax.w8)) 0) (List._∷_
+    (2, Mut.mslice EntryKind.row (Syntax.tyRef (Syntax.named 1) Syntax.mut EntryKind.pointee) 1) (List._∷_ (3, Rows'.whole (Declared.row Walk.the-type))
+    (List._∷_ (4, Rows'.sc-here (Row.sInt Syntax.w64)) (List._∷_ (5, Rows'.any-gone type-Passed) (List._∷_ (6, Rows'.any-gone EntryKind.by-value) (List._∷_
+    (7, Rows'.whole (Declared'.row Cutting.the-type)) (List._∷_ (8, Rows'.any-gone (Syntax.tyInt Syntax.w64)) (List._∷_ (9, Rows'.any-gone Syntax.tyBool)
+    (List._∷_ (10, Rows'.any-gone (Syntax.tyInt Syntax.w64)) (List._∷_ (11, Rows'.any-gone Syntax.tyPtr) (List._∷_ (12, Rows'.any-gone Syntax.tyUnit) (List._∷_
+    (13, Rows'.any-gone (Syntax.tyRef Syntax.erased Syntax.mut EntryKind.pointee)) (List._∷_ (14, Rows'.any-gone type-slice) List.[]))))))))))))))
 
 abbrev pub t15 : List.List Row.Entry
-t15 = List._∷_ (0, Rows'.any-gone ty-2) (List._∷_ (
-  1,
-  Rows'.sslice (Referent.rtF (Referent.fInt Syntax.w8)) (Syntax.tyRef (Syntax.named 0) Syntax.imm
-      (Syntax.tyInt Syntax.w8)) 0,
-) (List._∷_ (2, Mut.mslice EntryKind.R (Syntax.tyRef (Syntax.named 1) Syntax.mut EntryKind.elem) 1) (List._∷_ (
-  3,
-  Rows'.any-gone
-      ty-0,
-) (List._∷_ (4, Rows'.sc-here (Row.sInt Syntax.w64)) (List._∷_ (5, Rows'.any-gone ty-1) (List._∷_ (6, Rows'.any-gone EntryKind.spelled) (List._∷_ (
-  7,
-  Rows'.whole (Declared'.row Cutting.the-type),
-) (List._∷_ (8, Rows'.any-gone (Syntax.tyInt Syntax.w64)) (List._∷_ (9, Rows'.any-gone Syntax.tyBool) (List._∷_
-    (10, Rows'.any-gone (Syntax.tyInt Syntax.w64)) (List._∷_ (11, Rows'.any-gone Syntax.tyPtr) (List._∷_ (12, Rows'.any-gone Syntax.tyUnit) (List._∷_ (
-      13,
-      Rows'.any-gone (Syntax.tyRef Syntax.erased Syntax.mut EntryKind.elem),
-    ) (List._∷_ (14, Rows'.any-gone ty-3) List.[]))))))))))))))
+t15 = List._∷_ (0, Rows'.any-gone type-Cutting) (List._∷_
+    (1, Rows'.sslice (Referent.rtF (Referent.fInt Syntax.w8)) (Syntax.tyRef (Syntax.named 0) Syntax.imm (Syntax.tyInt Syntax.w8)) 0) (List._∷_
+    (2, Mut.mslice EntryKind.row (Syntax.tyRef (Syntax.named 1) Syntax.mut EntryKind.pointee) 1) (List._∷_ (3, Rows'.any-gone type-Walk) (List._∷_
+    (4, Rows'.sc-here (Row.sInt Syntax.w64)) (List._∷_ (5, Rows'.any-gone type-Passed) (List._∷_ (6, Rows'.any-gone EntryKind.by-value) (List._∷_
+    (7, Rows'.whole (Declared'.row Cutting.the-type)) (List._∷_ (8, Rows'.any-gone (Syntax.tyInt Syntax.w64)) (List._∷_ (9, Rows'.any-gone Syntax.tyBool)
+    (List._∷_ (10, Rows'.any-gone (Syntax.tyInt Syntax.w64)) (List._∷_ (11, Rows'.any-gone Syntax.tyPtr) (List._∷_ (12, Rows'.any-gone Syntax.tyUnit) (List._∷_
+    (13, Rows'.any-gone (Syntax.tyRef Syntax.erased Syntax.mut EntryKind.pointee)) (List._∷_ (14, Rows'.any-gone type-slice) List.[]))))))))))))))
 
 abbrev pub t16 : List.List Row.Entry
-t16 = List._∷_ (0, Rows'.any-gone ty-2) (List._∷_ (
-  1,
-  Rows'.sslice (Referent.rtF (Referent.fInt Syntax.w8)) (Syntax.tyRef (Syntax.named 0) Syntax.imm
-      (Syntax.tyInt Syntax.w8)) 0,
-) (List._∷_ (2, Mut.mslice EntryKind.R (Syntax.tyRef (Syntax.named 1) Syntax.mut EntryKind.elem) 1) (List._∷_ (
-  3,
-  Rows'.any-gone
-      ty-0,
-) (List._∷_ (4, Rows'.sc-here (Row.sInt Syntax.w64)) (List._∷_ (5, Rows'.any-gone ty-1) (List._∷_ (6, Rows'.any-gone EntryKind.spelled) (List._∷_ (
-  7,
-  Rows'.whole (Declared'.row Cutting.the-type),
-) (List._∷_ (8, Rows'.sc-here (Row.sInt Syntax.w64)) (List._∷_ (9, Rows'.any-gone Syntax.tyBool) (List._∷_ (
-  10,
-  Rows'.any-gone (Syntax.tyInt Syntax.w64),
-) (List._∷_ (11, Rows'.any-gone Syntax.tyPtr) (List._∷_ (12, Rows'.any-gone Syntax.tyUnit) (List._∷_ (
-  13,
-  Rows'.any-gone (Syntax.tyRef Syntax.erased Syntax.mut EntryKind.elem),
-) (List._∷_ (14, Rows'.any-gone ty-3) List.[]))))))))))))))
+t16 = List._∷_ (0, Rows'.any-gone type-Cutting) (List._∷_
+    (1, Rows'.sslice (Referent.rtF (Referent.fInt Syntax.w8)) (Syntax.tyRef (Syntax.named 0) Syntax.imm (Syntax.tyInt Syntax.w8)) 0) (List._∷_
+    (2, Mut.mslice EntryKind.row (Syntax.tyRef (Syntax.named 1) Syntax.mut EntryKind.pointee) 1) (List._∷_ (3, Rows'.any-gone type-Walk) (List._∷_
+    (4, Rows'.sc-here (Row.sInt Syntax.w64)) (List._∷_ (5, Rows'.any-gone type-Passed) (List._∷_ (6, Rows'.any-gone EntryKind.by-value) (List._∷_
+    (7, Rows'.whole (Declared'.row Cutting.the-type)) (List._∷_ (8, Rows'.sc-here (Row.sInt Syntax.w64)) (List._∷_ (9, Rows'.any-gone Syntax.tyBool) (List._∷_
+    (10, Rows'.any-gone (Syntax.tyInt Syntax.w64)) (List._∷_ (11, Rows'.any-gone Syntax.tyPtr) (List._∷_ (12, Rows'.any-gone Syntax.tyUnit) (List._∷_
+    (13, Rows'.any-gone (Syntax.tyRef Syntax.erased Syntax.mut EntryKind.pointee)) (List._∷_ (14, Rows'.any-gone type-slice) List.[]))))))))))))))
 
 abbrev pub t17 : List.List Row.Entry
-t17 = List._∷_ (0, Rows'.any-gone ty-2) (List._∷_ (
-  1,
-  Rows'.sslice (Referent.rtF (Referent.fInt Syntax.w8)) (Syntax.tyRef (Syntax.named 0) Syntax.imm
-      (Syntax.tyInt Syntax.w8)) 0,
-) (List._∷_ (2, Relend.mslice-owed EntryKind.R (Syntax.tyRef (Syntax.named 1) Syntax.mut EntryKind.elem) 1 2 Row.off) (List._∷_
-    (3, Rows'.any-gone ty-0) (List._∷_ (4, Rows'.sc-here (Row.sInt Syntax.w64)) (List._∷_ (5, Rows'.any-gone ty-1) (List._∷_ (
-      6,
-      Rows'.any-gone
-          EntryKind.spelled,
-    ) (List._∷_ (7, Rows'.whole (Declared'.row Cutting.the-type)) (List._∷_ (8, Rows'.sc-here (Row.sInt Syntax.w64)) (List._∷_ (
-      9,
-      Rows'.any-gone Syntax.tyBool,
-    ) (List._∷_ (10, Rows'.any-gone (Syntax.tyInt Syntax.w64)) (List._∷_ (11, Rows'.any-gone Syntax.tyPtr) (List._∷_ (
-      12,
-      Rows'.any-gone Syntax.tyUnit,
-    ) (List._∷_ (13, Relend.msptr EntryKind.R (Syntax.tyRef Syntax.erased Syntax.mut EntryKind.elem) 2) (List._∷_ (
-      14,
-      Rows'.any-gone ty-3,
-    ) List.[]))))))))))))))
+t17 = List._∷_ (0, Rows'.any-gone type-Cutting) (List._∷_
+    (1, Rows'.sslice (Referent.rtF (Referent.fInt Syntax.w8)) (Syntax.tyRef (Syntax.named 0) Syntax.imm (Syntax.tyInt Syntax.w8)) 0) (List._∷_
+    (2, Relend.mslice-owed EntryKind.row (Syntax.tyRef (Syntax.named 1) Syntax.mut EntryKind.pointee) 1 2 Row.off) (List._∷_ (3, Rows'.any-gone type-Walk)
+    (List._∷_ (4, Rows'.sc-here (Row.sInt Syntax.w64)) (List._∷_ (5, Rows'.any-gone type-Passed) (List._∷_ (6, Rows'.any-gone EntryKind.by-value) (List._∷_
+    (7, Rows'.whole (Declared'.row Cutting.the-type)) (List._∷_ (8, Rows'.sc-here (Row.sInt Syntax.w64)) (List._∷_ (9, Rows'.any-gone Syntax.tyBool) (List._∷_
+    (10, Rows'.any-gone (Syntax.tyInt Syntax.w64)) (List._∷_ (11, Rows'.any-gone Syntax.tyPtr) (List._∷_ (12, Rows'.any-gone Syntax.tyUnit) (List._∷_
+    (13, Relend.msptr EntryKind.row (Syntax.tyRef Syntax.erased Syntax.mut EntryKind.pointee) 2) (List._∷_ (14, Rows'.any-gone type-slice) List.[]))))))))))))))
 
 abbrev pub t18 : List.List Row.Entry
-t18 = List._∷_ (0, Rows'.any-gone ty-2) (List._∷_ (
-  1,
-  Rows'.sslice (Referent.rtF (Referent.fInt Syntax.w8)) (Syntax.tyRef (Syntax.named 0) Syntax.imm
-      (Syntax.tyInt Syntax.w8)) 0,
-) (List._∷_ (2, Relend.mslice-owed EntryKind.R (Syntax.tyRef (Syntax.named 1) Syntax.mut EntryKind.elem) 1 2 Row.off) (List._∷_
-    (3, Rows'.any-gone ty-0) (List._∷_ (4, Rows'.sc-here (Row.sInt Syntax.w64)) (List._∷_ (5, Rows'.any-gone ty-1) (List._∷_ (
-      6,
-      Rows'.any-gone
-          EntryKind.spelled,
-    ) (List._∷_ (7, Rows'.whole (Declared'.row Cutting.the-type)) (List._∷_ (8, Rows'.sc-here (Row.sInt Syntax.w64)) (List._∷_ (
-      9,
-      Rows'.any-gone Syntax.tyBool,
-    ) (List._∷_ (10, Rows'.any-gone (Syntax.tyInt Syntax.w64)) (List._∷_ (11, Rows'.any-gone Syntax.tyPtr) (List._∷_ (
-      12,
-      Rows'.any-gone Syntax.tyUnit,
-    ) (List._∷_ (13, Rows'.any-gone (Syntax.tyRef Syntax.erased Syntax.mut EntryKind.elem)) (List._∷_ (
-      14,
-      Mut.mslice EntryKind.R
-          (Syntax.tyRef Syntax.erased Syntax.mut EntryKind.elem) 2,
-    ) List.[]))))))))))))))
+t18 = List._∷_ (0, Rows'.any-gone type-Cutting) (List._∷_
+    (1, Rows'.sslice (Referent.rtF (Referent.fInt Syntax.w8)) (Syntax.tyRef (Syntax.named 0) Syntax.imm (Syntax.tyInt Syntax.w8)) 0) (List._∷_
+    (2, Relend.mslice-owed EntryKind.row (Syntax.tyRef (Syntax.named 1) Syntax.mut EntryKind.pointee) 1 2 Row.off) (List._∷_ (3, Rows'.any-gone type-Walk)
+    (List._∷_ (4, Rows'.sc-here (Row.sInt Syntax.w64)) (List._∷_ (5, Rows'.any-gone type-Passed) (List._∷_ (6, Rows'.any-gone EntryKind.by-value) (List._∷_
+    (7, Rows'.whole (Declared'.row Cutting.the-type)) (List._∷_ (8, Rows'.sc-here (Row.sInt Syntax.w64)) (List._∷_ (9, Rows'.any-gone Syntax.tyBool) (List._∷_
+    (10, Rows'.any-gone (Syntax.tyInt Syntax.w64)) (List._∷_ (11, Rows'.any-gone Syntax.tyPtr) (List._∷_ (12, Rows'.any-gone Syntax.tyUnit) (List._∷_
+    (13, Rows'.any-gone (Syntax.tyRef Syntax.erased Syntax.mut EntryKind.pointee)) (List._∷_
+    (14, Mut.mslice EntryKind.row (Syntax.tyRef Syntax.erased Syntax.mut EntryKind.pointee) 2) List.[]))))))))))))))
 
 abbrev pub t19 : List.List Row.Entry
-t19 = List._∷_ (0, Rows'.any-gone ty-2) (List._∷_ (
-  1,
-  Rows'.sslice (Referent.rtF (Referent.fInt Syntax.w8)) (Syntax.tyRef (Syntax.named 0) Syntax.imm
-      (Syntax.tyInt Syntax.w8)) 0,
-) (List._∷_ (2, Relend.mslice-owed EntryKind.R (Syntax.tyRef (Syntax.named 1) Syntax.mut EntryKind.elem) 1 2 Row.off) (List._∷_
-    (3, Rows'.any-gone ty-0) (List._∷_ (4, Rows'.sc-here (Row.sInt Syntax.w64)) (List._∷_ (5, Rows'.any-gone ty-1) (List._∷_ (
-      6,
-      Rows'.any-gone
-          EntryKind.spelled,
-    ) (List._∷_ (7, Rows'.whole (Declared'.row Cutting.the-type)) (List._∷_ (8, Rows'.sc-here (Row.sInt Syntax.w64)) (List._∷_ (
-      9,
-      Rows'.any-gone Syntax.tyBool,
-    ) (List._∷_ (10, Rows'.any-gone (Syntax.tyInt Syntax.w64)) (List._∷_ (11, Rows'.any-gone Syntax.tyPtr) (List._∷_ (
-      12,
-      Rows'.sc-here Row.sUnit,
-    ) (List._∷_ (13, Rows'.any-gone (Syntax.tyRef Syntax.erased Syntax.mut EntryKind.elem)) (List._∷_ (
-      14,
-      Mut.msleft EntryKind.R
-          (Syntax.tyRef Syntax.erased Syntax.mut EntryKind.elem),
-    ) List.[]))))))))))))))
+t19 = List._∷_ (0, Rows'.any-gone type-Cutting) (List._∷_
+    (1, Rows'.sslice (Referent.rtF (Referent.fInt Syntax.w8)) (Syntax.tyRef (Syntax.named 0) Syntax.imm (Syntax.tyInt Syntax.w8)) 0) (List._∷_
+    (2, Relend.mslice-owed EntryKind.row (Syntax.tyRef (Syntax.named 1) Syntax.mut EntryKind.pointee) 1 2 Row.off) (List._∷_ (3, Rows'.any-gone type-Walk)
+    (List._∷_ (4, Rows'.sc-here (Row.sInt Syntax.w64)) (List._∷_ (5, Rows'.any-gone type-Passed) (List._∷_ (6, Rows'.any-gone EntryKind.by-value) (List._∷_
+    (7, Rows'.whole (Declared'.row Cutting.the-type)) (List._∷_ (8, Rows'.sc-here (Row.sInt Syntax.w64)) (List._∷_ (9, Rows'.any-gone Syntax.tyBool) (List._∷_
+    (10, Rows'.any-gone (Syntax.tyInt Syntax.w64)) (List._∷_ (11, Rows'.any-gone Syntax.tyPtr) (List._∷_ (12, Rows'.sc-here Row.sUnit) (List._∷_
+    (13, Rows'.any-gone (Syntax.tyRef Syntax.erased Syntax.mut EntryKind.pointee)) (List._∷_
+    (14, Mut.msleft EntryKind.row (Syntax.tyRef Syntax.erased Syntax.mut EntryKind.pointee)) List.[]))))))))))))))
 
 abbrev pub t20 : List.List Row.Entry
-t20 = List._∷_ (0, Rows'.any-gone ty-2) (List._∷_ (
-  1,
-  Rows'.sslice (Referent.rtF (Referent.fInt Syntax.w8)) (Syntax.tyRef (Syntax.named 0) Syntax.imm
-      (Syntax.tyInt Syntax.w8)) 0,
-) (List._∷_ (2, Relend.mslice-owed EntryKind.R (Syntax.tyRef (Syntax.named 1) Syntax.mut EntryKind.elem) 1 2 Row.off) (List._∷_
-    (3, Rows'.any-gone ty-0) (List._∷_ (4, Rows'.sc-here (Row.sInt Syntax.w64)) (List._∷_ (5, Rows'.any-gone ty-1) (List._∷_ (
-      6,
-      Rows'.any-gone
-          EntryKind.spelled,
-    ) (List._∷_ (7, Rows'.whole (Declared'.row Cutting.the-type)) (List._∷_ (8, Rows'.sc-here (Row.sInt Syntax.w64)) (List._∷_ (
-      9,
-      Rows'.any-gone Syntax.tyBool,
-    ) (List._∷_ (10, Rows'.any-gone (Syntax.tyInt Syntax.w64)) (List._∷_ (11, Rows'.any-gone Syntax.tyPtr) (List._∷_ (
-      12,
-      Rows'.any-gone Syntax.tyUnit,
-    ) (List._∷_ (13, Rows'.any-gone (Syntax.tyRef Syntax.erased Syntax.mut EntryKind.elem)) (List._∷_ (
-      14,
-      Mut.msleft EntryKind.R
-          (Syntax.tyRef Syntax.erased Syntax.mut EntryKind.elem),
-    ) List.[]))))))))))))))
+t20 = List._∷_ (0, Rows'.any-gone type-Cutting) (List._∷_
+    (1, Rows'.sslice (Referent.rtF (Referent.fInt Syntax.w8)) (Syntax.tyRef (Syntax.named 0) Syntax.imm (Syntax.tyInt Syntax.w8)) 0) (List._∷_
+    (2, Relend.mslice-owed EntryKind.row (Syntax.tyRef (Syntax.named 1) Syntax.mut EntryKind.pointee) 1 2 Row.off) (List._∷_ (3, Rows'.any-gone type-Walk)
+    (List._∷_ (4, Rows'.sc-here (Row.sInt Syntax.w64)) (List._∷_ (5, Rows'.any-gone type-Passed) (List._∷_ (6, Rows'.any-gone EntryKind.by-value) (List._∷_
+    (7, Rows'.whole (Declared'.row Cutting.the-type)) (List._∷_ (8, Rows'.sc-here (Row.sInt Syntax.w64)) (List._∷_ (9, Rows'.any-gone Syntax.tyBool) (List._∷_
+    (10, Rows'.any-gone (Syntax.tyInt Syntax.w64)) (List._∷_ (11, Rows'.any-gone Syntax.tyPtr) (List._∷_ (12, Rows'.any-gone Syntax.tyUnit) (List._∷_
+    (13, Rows'.any-gone (Syntax.tyRef Syntax.erased Syntax.mut EntryKind.pointee)) (List._∷_
+    (14, Mut.msleft EntryKind.row (Syntax.tyRef Syntax.erased Syntax.mut EntryKind.pointee)) List.[]))))))))))))))
 
 abbrev pub t21 : List.List Row.Entry
-t21 = List._∷_ (0, Rows'.whole (Declared'.row Cutting.the-type)) (List._∷_ (
-  1,
-  Rows'.sslice (Referent.rtF (Referent.fInt Syntax.w8)) (Syntax.tyRef (Syntax.named
-      0) Syntax.imm (Syntax.tyInt Syntax.w8)) 0,
-) (List._∷_ (2, Mut.mslice EntryKind.R (Syntax.tyRef (Syntax.named 1) Syntax.mut EntryKind.elem) 1) (List._∷_ (
-  3,
-  Rows'.any-gone ty-0,
-) (List._∷_ (4, Rows'.sc-here (Row.sInt Syntax.w64)) (List._∷_ (5, Rows'.any-gone ty-1) (List._∷_ (6, Rows'.any-gone EntryKind.spelled)
-    (List._∷_ (7, Rows'.whole (Declared'.row Cutting.the-type)) (List._∷_ (8, Rows'.sc-here (Row.sInt Syntax.w64)) (List._∷_ (9, Rows'.any-gone Syntax.tyBool)
-    (List._∷_ (10, Rows'.any-gone (Syntax.tyInt Syntax.w64)) (List._∷_ (11, Rows'.any-gone Syntax.tyPtr) (List._∷_ (12, Rows'.any-gone Syntax.tyUnit) (List._∷_
-    (13, Rows'.any-gone (Syntax.tyRef Syntax.erased Syntax.mut EntryKind.elem)) (List._∷_ (14, Rows'.any-gone ty-3) List.[]))))))))))))))
+t21 = List._∷_ (0, Rows'.whole (Declared'.row Cutting.the-type)) (List._∷_
+    (1, Rows'.sslice (Referent.rtF (Referent.fInt Syntax.w8)) (Syntax.tyRef (Syntax.named 0) Syntax.imm (Syntax.tyInt Syntax.w8)) 0) (List._∷_
+    (2, Mut.mslice EntryKind.row (Syntax.tyRef (Syntax.named 1) Syntax.mut EntryKind.pointee) 1) (List._∷_ (3, Rows'.any-gone type-Walk) (List._∷_
+    (4, Rows'.sc-here (Row.sInt Syntax.w64)) (List._∷_ (5, Rows'.any-gone type-Passed) (List._∷_ (6, Rows'.any-gone EntryKind.by-value) (List._∷_
+    (7, Rows'.whole (Declared'.row Cutting.the-type)) (List._∷_ (8, Rows'.sc-here (Row.sInt Syntax.w64)) (List._∷_ (9, Rows'.any-gone Syntax.tyBool) (List._∷_
+    (10, Rows'.any-gone (Syntax.tyInt Syntax.w64)) (List._∷_ (11, Rows'.any-gone Syntax.tyPtr) (List._∷_ (12, Rows'.any-gone Syntax.tyUnit) (List._∷_
+    (13, Rows'.any-gone (Syntax.tyRef Syntax.erased Syntax.mut EntryKind.pointee)) (List._∷_ (14, Rows'.any-gone type-slice) List.[]))))))))))))))
 
 abbrev pub t22 : List.List Row.Entry
-t22 = List._∷_ (0, Rows'.whole (Declared'.row Cutting.the-type)) (List._∷_ (
-  1,
-  Rows'.sslice (Referent.rtF (Referent.fInt Syntax.w8)) (Syntax.tyRef (Syntax.named
-      0) Syntax.imm (Syntax.tyInt Syntax.w8)) 0,
-) (List._∷_ (2, Mut.mslice EntryKind.R (Syntax.tyRef (Syntax.named 1) Syntax.mut EntryKind.elem) 1) (List._∷_ (
-  3,
-  Rows'.any-gone ty-0,
-) (List._∷_ (4, Rows'.any-gone (Syntax.tyInt Syntax.w64)) (List._∷_ (5, Rows'.any-gone ty-1) (List._∷_ (
-  6,
-  Rows'.any-gone
-      EntryKind.spelled,
-) (List._∷_ (7, Rows'.whole (Declared'.row Cutting.the-type)) (List._∷_ (8, Rows'.sc-here (Row.sInt Syntax.w64)) (List._∷_ (
-  9,
-  Rows'.any-gone Syntax.tyBool,
-) (List._∷_ (10, Rows'.any-gone (Syntax.tyInt Syntax.w64)) (List._∷_ (11, Rows'.any-gone Syntax.tyPtr) (List._∷_ (
-  12,
-  Rows'.any-gone Syntax.tyUnit,
-) (List._∷_ (13, Rows'.any-gone (Syntax.tyRef Syntax.erased Syntax.mut EntryKind.elem)) (List._∷_ (14, Rows'.any-gone ty-3)
-    List.[]))))))))))))))
+t22 = List._∷_ (0, Rows'.whole (Declared'.row Cutting.the-type)) (List._∷_
+    (1, Rows'.sslice (Referent.rtF (Referent.fInt Syntax.w8)) (Syntax.tyRef (Syntax.named 0) Syntax.imm (Syntax.tyInt Syntax.w8)) 0) (List._∷_
+    (2, Mut.mslice EntryKind.row (Syntax.tyRef (Syntax.named 1) Syntax.mut EntryKind.pointee) 1) (List._∷_ (3, Rows'.any-gone type-Walk) (List._∷_
+    (4, Rows'.any-gone (Syntax.tyInt Syntax.w64)) (List._∷_ (5, Rows'.any-gone type-Passed) (List._∷_ (6, Rows'.any-gone EntryKind.by-value) (List._∷_
+    (7, Rows'.whole (Declared'.row Cutting.the-type)) (List._∷_ (8, Rows'.sc-here (Row.sInt Syntax.w64)) (List._∷_ (9, Rows'.any-gone Syntax.tyBool) (List._∷_
+    (10, Rows'.any-gone (Syntax.tyInt Syntax.w64)) (List._∷_ (11, Rows'.any-gone Syntax.tyPtr) (List._∷_ (12, Rows'.any-gone Syntax.tyUnit) (List._∷_
+    (13, Rows'.any-gone (Syntax.tyRef Syntax.erased Syntax.mut EntryKind.pointee)) (List._∷_ (14, Rows'.any-gone type-slice) List.[]))))))))))))))
 
 abbrev pub t23 : List.List Row.Entry
-t23 = List._∷_ (0, Rows'.whole (Declared'.row Cutting.the-type)) (List._∷_ (
-  1,
-  Rows'.sslice (Referent.rtF (Referent.fInt Syntax.w8)) (Syntax.tyRef (Syntax.named
-      0) Syntax.imm (Syntax.tyInt Syntax.w8)) 0,
-) (List._∷_ (2, Mut.mslice EntryKind.R (Syntax.tyRef (Syntax.named 1) Syntax.mut EntryKind.elem) 1) (List._∷_ (
-  3,
-  Rows'.any-gone ty-0,
-) (List._∷_ (4, Rows'.any-gone (Syntax.tyInt Syntax.w64)) (List._∷_ (5, Rows'.any-gone ty-1) (List._∷_ (
-  6,
-  Rows'.any-gone
-      EntryKind.spelled,
-) (List._∷_ (7, Rows'.any-gone ty-2) (List._∷_ (8, Rows'.sc-here (Row.sInt Syntax.w64)) (List._∷_ (9, Rows'.any-gone Syntax.tyBool)
-    (List._∷_ (10, Rows'.any-gone (Syntax.tyInt Syntax.w64)) (List._∷_ (11, Rows'.any-gone Syntax.tyPtr) (List._∷_ (12, Rows'.any-gone Syntax.tyUnit) (List._∷_
-    (13, Rows'.any-gone (Syntax.tyRef Syntax.erased Syntax.mut EntryKind.elem)) (List._∷_ (14, Rows'.any-gone ty-3) List.[]))))))))))))))
+t23 = List._∷_ (0, Rows'.whole (Declared'.row Cutting.the-type)) (List._∷_
+    (1, Rows'.sslice (Referent.rtF (Referent.fInt Syntax.w8)) (Syntax.tyRef (Syntax.named 0) Syntax.imm (Syntax.tyInt Syntax.w8)) 0) (List._∷_
+    (2, Mut.mslice EntryKind.row (Syntax.tyRef (Syntax.named 1) Syntax.mut EntryKind.pointee) 1) (List._∷_ (3, Rows'.any-gone type-Walk) (List._∷_
+    (4, Rows'.any-gone (Syntax.tyInt Syntax.w64)) (List._∷_ (5, Rows'.any-gone type-Passed) (List._∷_ (6, Rows'.any-gone EntryKind.by-value) (List._∷_
+    (7, Rows'.any-gone type-Cutting) (List._∷_ (8, Rows'.sc-here (Row.sInt Syntax.w64)) (List._∷_ (9, Rows'.any-gone Syntax.tyBool) (List._∷_
+    (10, Rows'.any-gone (Syntax.tyInt Syntax.w64)) (List._∷_ (11, Rows'.any-gone Syntax.tyPtr) (List._∷_ (12, Rows'.any-gone Syntax.tyUnit) (List._∷_
+    (13, Rows'.any-gone (Syntax.tyRef Syntax.erased Syntax.mut EntryKind.pointee)) (List._∷_ (14, Rows'.any-gone type-slice) List.[]))))))))))))))
 
 abbrev pub T0 : Row.Cx
 T0 = record { locals = t0; slots = List.[] }
@@ -1089,13 +798,13 @@ abbrev pub O4 : Typed.Outs
 O4 = Typed.withNext (Option.some T8) O3
 
 abbrev pub InvT-loop : Type 1
-InvT-loop = List.List (Referent.rtF (Referent.fInt Syntax.w8) .Denot) → List.List (EntryKind.R .Denot) → Rows'.whole (Declared.row Walk.the-type) .Mod →
-    Rows'.sc-here (Row.sInt Syntax.w64) .Mod → List.List (EntryKind.R .Denot) → Rows'.whole (Declared.row Walk.the-type) .Mod → Rows'.sc-here (Row.sInt
+InvT-loop = List.List (Referent.rtF (Referent.fInt Syntax.w8) .Denot) → List.List (EntryKind.row .Denot) → Rows'.whole (Declared.row Walk.the-type) .Mod →
+    Rows'.sc-here (Row.sInt Syntax.w64) .Mod → List.List (EntryKind.row .Denot) → Rows'.whole (Declared.row Walk.the-type) .Mod → Rows'.sc-here (Row.sInt
     Syntax.w64) .Mod → Type 0
 
 abbrev pub MeasureT-loop : Type 0
-MeasureT-loop = List.List (Referent.rtF (Referent.fInt Syntax.w8) .Denot) → List.List (EntryKind.R .Denot) → Rows'.whole (Declared.row Walk.the-type) .Mod →
-    Rows'.sc-here (Row.sInt Syntax.w64) .Mod → List.List (EntryKind.R .Denot) → Rows'.whole (Declared.row Walk.the-type) .Mod → Rows'.sc-here (Row.sInt
+MeasureT-loop = List.List (Referent.rtF (Referent.fInt Syntax.w8) .Denot) → List.List (EntryKind.row .Denot) → Rows'.whole (Declared.row Walk.the-type) .Mod →
+    Rows'.sc-here (Row.sInt Syntax.w64) .Mod → List.List (EntryKind.row .Denot) → Rows'.whole (Declared.row Walk.the-type) .Mod → Rows'.sc-here (Row.sInt
     Syntax.w64) .Mod → Nat.ℕ
 
 module _ (claims· : Claims) where
@@ -1103,14 +812,8 @@ module _ (claims· : Claims) where
   s0 = Know.k-shs-known (Referent.fInt Syntax.w8) T0 1 0 (Syntax.tyRef (Syntax.named 0) Syntax.imm (Syntax.tyInt Syntax.w8)) Row.off 0 λ x. x
 
   abbrev s1 : Typed.Both T2 T3
-  s1 = Call.callB ps·0 r·0 (claims· .0) (claims· .1) T2 (
-    record {
-      pos = 1;
-      ty = Syntax.tyRef (Syntax.named 0) Syntax.imm (Syntax.tyInt Syntax.w8);
-      ref = λ x. x;
-    },
-    tt,
-  ) 3 (List._∷_ 0 List.[]) ty-0
+  s1 = Call.callB ps·0 r·0 (claims· .0) (claims· .1) T2
+      (record { pos = 1; ty = Syntax.tyRef (Syntax.named 0) Syntax.imm (Syntax.tyInt Syntax.w8); ref = λ x. x }, tt) 3 (List._∷_ 0 List.[]) type-Walk
 
   abbrev s2 : Typed.Mo T3 → Typed.Mo T4
   s2 = Scalar.n-use T3 (Scalar.oInt Syntax.w64 0) 4 (Rows'.sc-here (Row.sInt Syntax.w64)) (Row.sInt Syntax.w64 .of)
@@ -1134,34 +837,30 @@ module _ (claims· : Claims) where
 
   abbrev s8 : Typed.Both T8 T12
   s8 = Call.callB ps·2 r·2 (claims· .4) (claims· .5) T8 (
-    record {
-      pos = 1;
-      ty = Syntax.tyRef (Syntax.named 0) Syntax.imm (Syntax.tyInt Syntax.w8);
-      ref = λ x. x;
-    },
+    record { pos = 1; ty = Syntax.tyRef (Syntax.named 0) Syntax.imm (Syntax.tyInt Syntax.w8); ref = λ x. x },
     (record { pos = 3; st = List.[]; d = 0; at = λ x. x }, tt),
-  ) 5 (List._∷_ 0 List.[]) ty-1
+  ) 5 (List._∷_ 0 List.[]) type-Passed
 
   abbrev s9 : Typed.Mo T12 → Typed.Mo T13
-  s9 = Scalar.n-room T12 3 ty-0
+  s9 = Scalar.n-room T12 3 type-Walk
 
   abbrev s10 : Typed.Both T13 T14
-  s10 = Call.callB ps·3 r·3 (claims· .6) (claims· .7) T13 (record { pos = 5; st = List.[]; d = 0; at = λ x. x }, tt) 6 List.[] EntryKind.spelled
+  s10 = Call.callB ps·3 r·3 (claims· .6) (claims· .7) T13 (record { pos = 5; st = List.[]; d = 0; at = λ x. x }, tt) 6 List.[] EntryKind.by-value
 
   abbrev s11 : Typed.Asks T14 T15
   s11 = Scalar.k-op2 T14 (Syntax.mul Syntax.unsigned) (Scalar.oAt 4 (Syntax.tyInt Syntax.w64) (Row.valS (Row.sInt Syntax.w64))) (Scalar.oInt Syntax.w64 56) 10
       (Rows'.sc-here (Row.sInt Syntax.w64)) (Row.sInt Syntax.w64 .of)
 
   abbrev s12 : Typed.Asks T15 T16
-  s12 = Scalar.k-op2 T15 Syntax.offset (Scalar.oFld 2 (List._∷_ (Syntax.field 0) List.[]) (Syntax.tyRef (Syntax.named 1) Syntax.mut EntryKind.elem) 0
+  s12 = Scalar.k-op2 T15 Syntax.offset (Scalar.oFld 2 (List._∷_ (Syntax.field 0) List.[]) (Syntax.tyRef (Syntax.named 1) Syntax.mut EntryKind.pointee) 0
       Reads.ptrVal) (Scalar.oAt 10 (Syntax.tyInt Syntax.w64) (Row.valS (Row.sInt Syntax.w64))) 11 (Rows'.sc-here Row.sPtr) (Row.sPtr .of)
 
   abbrev s13 : Typed.Asks T16 T17
-  s13 = Move.k-sl-set-from EntryKind.R T16 2 11 6 1 (Syntax.tyRef (Syntax.named 1) Syntax.mut EntryKind.elem) Row.off EntryKind.whole (Shared.bySize 56) (λ u. u
-      .1 .1 .1 .1 .0) (λ x. x) (λ x. x) (λ x. x) λ x. x
+  s13 = Move.k-sl-set-from EntryKind.row T16 2 11 6 1 (Syntax.tyRef (Syntax.named 1) Syntax.mut EntryKind.pointee) Row.off EntryKind.local (Shared.bySize 56) (λ
+      u. u .1 .1 .1 .1 .0) (λ x. x) (λ x. x) (λ x. x) λ x. x
 
   abbrev s14 : Typed.Mo T17 → Typed.Mo T18
-  s14 = Scalar.n-room T17 6 EntryKind.spelled
+  s14 = Scalar.n-room T17 6 EntryKind.by-value
 
   abbrev s15 : Typed.Mo T18 → Typed.Mo T19
   s15 = Scalar.n-room T18 10 (Syntax.tyInt Syntax.w64)
@@ -1170,10 +869,10 @@ module _ (claims· : Claims) where
   s16 = Scalar.n-room T19 11 Syntax.tyPtr
 
   abbrev s17 : Typed.Both T20 T21
-  s17 = Call.callB ps·4 r·4 (claims· .8) (claims· .9) T20 (record { pos = 5; st = List.[]; d = 0; at = λ x. x }, tt) 3 List.[] ty-0
+  s17 = Call.callB ps·4 r·4 (claims· .8) (claims· .9) T20 (record { pos = 5; st = List.[]; d = 0; at = λ x. x }, tt) 3 List.[] type-Walk
 
   abbrev s18 : Typed.Mo T21 → Typed.Mo T22
-  s18 = Scalar.n-room T21 5 ty-1
+  s18 = Scalar.n-room T21 5 type-Passed
 
   abbrev s19 : Typed.Asks T22 T23
   s19 = Scalar.k-op2 T22 (Syntax.add Syntax.unsigned) (Scalar.oAt 4 (Syntax.tyInt Syntax.w64) (Row.valS (Row.sInt Syntax.w64))) (Scalar.oInt Syntax.w64 1) 4
@@ -1181,41 +880,36 @@ module _ (claims· : Claims) where
 
   abbrev s20 : Typed.Both T5 T24
   s20 = Call.callB ps·5 r·5 (claims· .10) (claims· .11) T5 (
-    record {
-      pos = 1;
-      ty = Syntax.tyRef (Syntax.named 0) Syntax.imm (Syntax.tyInt Syntax.w8);
-      ref = λ x.
-          x;
-    },
+    record { pos = 1; ty = Syntax.tyRef (Syntax.named 0) Syntax.imm (Syntax.tyInt Syntax.w8); ref = λ x. x },
     (record { pos = 3; st = List.[]; d = 0; at = λ x. x }, (Num.vAt 4 λ x. x, tt)),
-  ) 7 (List._∷_ 0 List.[]) ty-2
+  ) 7 (List._∷_ 0 List.[]) type-Cutting
 
   abbrev s21 : Typed.Mo T24 → Typed.Mo T25
-  s21 = Scalar.n-room T24 3 ty-0
+  s21 = Scalar.n-room T24 3 type-Walk
 
   abbrev s22 : Typed.Both T25 T26
   s22 = Call.callB ps·6 r·6 (claims· .12) (claims· .13) T25 (record { pos = 7; st = List.[]; d = 0; at = λ x. x }, tt) 8 List.[] (Syntax.tyInt Syntax.w64)
 
   abbrev s24 : Typed.Gives T26 T28
-  s24 = Relend.k-sl-relend EntryKind.R T26 2 13 1 2 (Syntax.tyRef (Syntax.named 1) Syntax.mut EntryKind.elem) (Syntax.tyRef Syntax.erased Syntax.mut
-      EntryKind.elem) Row.off λ x. x
+  s24 = Relend.k-sl-relend EntryKind.row T26 2 13 1 2 (Syntax.tyRef (Syntax.named 1) Syntax.mut EntryKind.pointee) (Syntax.tyRef Syntax.erased Syntax.mut
+      EntryKind.pointee) Row.off λ x. x
 
   abbrev s25 : Typed.Asks T28 T29
-  s25 = Relend.k-sl-aggregate EntryKind.R (Relend.asMut EntryKind.R) T28 13 14 2 (Syntax.tyRef Syntax.erased Syntax.mut EntryKind.elem) (Syntax.tyRef
-      Syntax.erased Syntax.mut EntryKind.elem) (λ x. x) (Scalar.oFld 2 (List._∷_ (Syntax.field 1) List.[]) (Syntax.tyInt Syntax.w64) 8 λ v. Shared.lenV (v .0))
+  s25 = Relend.k-sl-aggregate EntryKind.row (Relend.asMut EntryKind.row) T28 13 14 2 (Syntax.tyRef Syntax.erased Syntax.mut EntryKind.pointee) (Syntax.tyRef
+      Syntax.erased Syntax.mut EntryKind.pointee) (λ x. x) (Scalar.oFld 2 (List._∷_ (Syntax.field 1) List.[]) (Syntax.tyInt Syntax.w64) 8 λ v. Shared.lenV (v
+      .0))
 
   abbrev s26 : Typed.Both T29 T30
-  s26 = Call.callB ps·7 r·7 (claims· .14) (claims· .15) T29 (
-    record { pos = 14; ty = Syntax.tyRef Syntax.erased Syntax.mut EntryKind.elem; ref = λ x. x },
-    (Num.vAt 8 λ x. x, tt),
-  ) 12 (List._∷_ 2 List.[]) Syntax.tyUnit
+  s26 = Call.callB ps·7 r·7 (claims· .14) (claims· .15) T29
+      (record { pos = 14; ty = Syntax.tyRef Syntax.erased Syntax.mut EntryKind.pointee; ref = λ x. x }, (Num.vAt 8 λ x. x, tt)) 12 (List._∷_ 2 List.[])
+      Syntax.tyUnit
 
   abbrev s27 : Typed.Mo T30 → Typed.Mo T31
   s27 = Scalar.n-room T30 12 Syntax.tyUnit
 
   abbrev s29 : Typed.Both T31 T33
-  s29 = Relend.k-back-sl EntryKind.R T31 14 2 1 2 (Syntax.tyRef (Syntax.named 1) Syntax.mut EntryKind.elem) (Syntax.tyRef Syntax.erased Syntax.mut
-      EntryKind.elem) Row.off (λ x. x) λ x. x
+  s29 = Relend.k-back-sl EntryKind.row T31 14 2 1 2 (Syntax.tyRef (Syntax.named 1) Syntax.mut EntryKind.pointee) (Syntax.tyRef Syntax.erased Syntax.mut
+      EntryKind.pointee) Row.off (λ x. x) λ x. x
 
   abbrev s31 : Typed.Mo T33 → Typed.Mo T35
   s31 = LocalCopy.n-val-copy T33 7 0 (Declared'.row Cutting.the-type) (Rows'.whole (Declared'.row Cutting.the-type)) (Rows'.whole (Declared'.row
@@ -1225,19 +919,16 @@ module _ (claims· : Claims) where
   s32 = Scalar.n-room T35 4 (Syntax.tyInt Syntax.w64)
 
   abbrev s33 : Typed.Mo T36 → Typed.Mo T37
-  s33 = Scalar.n-room T36 7 ty-2
+  s33 = Scalar.n-room T36 7 type-Cutting
 
   abbrev s34 : Typed.Mo T37 → Typed.Mo T38
   s34 = Scalar.n-room T37 8 (Syntax.tyInt Syntax.w64)
 
-  abbrev put0 : List.List (EntryKind.R .Denot) × Rows'.whole (Declared.row Walk.the-type) .Mod × Rows'.sc-here (Row.sInt Syntax.w64) .Mod → Typed.Mo T4 →
+  abbrev put0 : List.List (EntryKind.row .Denot) × Rows'.whole (Declared.row Walk.the-type) .Mod × Rows'.sc-here (Row.sInt Syntax.w64) .Mod → Typed.Mo T4 →
       Typed.Mo T4
   put0 = λ vs u. Row.set 4 (4, Rows'.sc-here (Row.sInt Syntax.w64)) (vs .2) (T4 .locals) (Row.set 3 (3, Rows'.whole (Declared.row Walk.the-type)) (vs .1) (T4
-      .locals) (Row.set 2 (2, Mut.mslice EntryKind.R (Syntax.tyRef (Syntax.named 1) Syntax.mut EntryKind.elem) 1) record {
-        ptr = Row.get 2 (T4 .locals) u .ptr;
-        name = Row.get 2 (T4 .locals) u .name;
-        now = vs .0;
-      } (T4 .locals) u))
+      .locals) (Row.set 2 (2, Mut.mslice EntryKind.row (Syntax.tyRef (Syntax.named 1) Syntax.mut EntryKind.pointee) 1)
+      record { ptr = Row.get 2 (T4 .locals) u .ptr; name = Row.get 2 (T4 .locals) u .name; now = vs .0 } (T4 .locals) u))
 
   module _ (Pre· : (κs : Lifetimes.Lfts 2) → Kinds.Dens κs ps → Type 0) (Post· : (κs : Lifetimes.Lfts 2) → (a : Kinds.Dens κs ps) → Kinds.Plain 2 ps r κs) where
     module _ (M : Type 1) where
@@ -1395,91 +1086,48 @@ module _ (claims· : Claims) where
 
       module _ (κs : Lifetimes.Lfts 2) (qs : Lifetimes.Shares 2) where
         abbrev g17 : List.List Row.Entry
-        g17 = List._∷_ (0, Rows'.any-gone ty-2) (List._∷_ (
-          1,
-          Rows'.sslice (Referent.rtF (Referent.fInt Syntax.w8)) (Syntax.tyRef (Syntax.named 0) Syntax.imm
-              (Syntax.tyInt Syntax.w8)) 0,
-        ) (List._∷_ (
-          2,
-          Relend.mslice-owed EntryKind.R (Syntax.tyRef (Syntax.named 1) Syntax.mut EntryKind.elem) 1 2 (Row.lease
-              (κs .1 .0) (qs .1 .0)),
-        ) (List._∷_ (3, Rows'.any-gone ty-0) (List._∷_ (4, Rows'.sc-here (Row.sInt Syntax.w64)) (List._∷_ (5, Rows'.any-gone ty-1)
-            (List._∷_ (6, Rows'.any-gone EntryKind.spelled) (List._∷_ (7, Rows'.whole (Declared'.row Cutting.the-type)) (List._∷_ (
-              8,
-              Rows'.sc-here (Row.sInt
-                  Syntax.w64),
-            ) (List._∷_ (9, Rows'.any-gone Syntax.tyBool) (List._∷_ (10, Rows'.any-gone (Syntax.tyInt Syntax.w64)) (List._∷_ (
-              11,
-              Rows'.any-gone
-                  Syntax.tyPtr,
-            ) (List._∷_ (12, Rows'.any-gone Syntax.tyUnit) (List._∷_ (
-              13,
-              Relend.msptr EntryKind.R (Syntax.tyRef Syntax.erased Syntax.mut
-                  EntryKind.elem) 2,
-            ) (List._∷_ (14, Rows'.any-gone ty-3) List.[]))))))))))))))
+        g17 = List._∷_ (0, Rows'.any-gone type-Cutting) (List._∷_
+            (1, Rows'.sslice (Referent.rtF (Referent.fInt Syntax.w8)) (Syntax.tyRef (Syntax.named 0) Syntax.imm (Syntax.tyInt Syntax.w8)) 0) (List._∷_
+            (2, Relend.mslice-owed EntryKind.row (Syntax.tyRef (Syntax.named 1) Syntax.mut EntryKind.pointee) 1 2 (Row.lease (κs .1 .0) (qs .1 .0))) (List._∷_
+            (3, Rows'.any-gone type-Walk) (List._∷_ (4, Rows'.sc-here (Row.sInt Syntax.w64)) (List._∷_ (5, Rows'.any-gone type-Passed) (List._∷_
+            (6, Rows'.any-gone EntryKind.by-value) (List._∷_ (7, Rows'.whole (Declared'.row Cutting.the-type)) (List._∷_
+            (8, Rows'.sc-here (Row.sInt Syntax.w64)) (List._∷_ (9, Rows'.any-gone Syntax.tyBool) (List._∷_ (10, Rows'.any-gone (Syntax.tyInt Syntax.w64))
+            (List._∷_ (11, Rows'.any-gone Syntax.tyPtr) (List._∷_ (12, Rows'.any-gone Syntax.tyUnit) (List._∷_
+            (13, Relend.msptr EntryKind.row (Syntax.tyRef Syntax.erased Syntax.mut EntryKind.pointee) 2) (List._∷_ (14, Rows'.any-gone type-slice)
+            List.[]))))))))))))))
 
         abbrev g18 : List.List Row.Entry
-        g18 = List._∷_ (0, Rows'.any-gone ty-2) (List._∷_ (
-          1,
-          Rows'.sslice (Referent.rtF (Referent.fInt Syntax.w8)) (Syntax.tyRef (Syntax.named 0) Syntax.imm
-              (Syntax.tyInt Syntax.w8)) 0,
-        ) (List._∷_ (
-          2,
-          Relend.mslice-owed EntryKind.R (Syntax.tyRef (Syntax.named 1) Syntax.mut EntryKind.elem) 1 2 (Row.lease
-              (κs .1 .0) (qs .1 .0)),
-        ) (List._∷_ (3, Rows'.any-gone ty-0) (List._∷_ (4, Rows'.sc-here (Row.sInt Syntax.w64)) (List._∷_ (5, Rows'.any-gone ty-1)
-            (List._∷_ (6, Rows'.any-gone EntryKind.spelled) (List._∷_ (7, Rows'.whole (Declared'.row Cutting.the-type)) (List._∷_ (
-              8,
-              Rows'.sc-here (Row.sInt
-                  Syntax.w64),
-            ) (List._∷_ (9, Rows'.any-gone Syntax.tyBool) (List._∷_ (10, Rows'.any-gone (Syntax.tyInt Syntax.w64)) (List._∷_ (
-              11,
-              Rows'.any-gone
-                  Syntax.tyPtr,
-            ) (List._∷_ (12, Rows'.any-gone Syntax.tyUnit) (List._∷_ (13, Rows'.any-gone (Syntax.tyRef Syntax.erased Syntax.mut EntryKind.elem))
-            (List._∷_ (14, Mut.mslice EntryKind.R (Syntax.tyRef Syntax.erased Syntax.mut EntryKind.elem) 2) List.[]))))))))))))))
+        g18 = List._∷_ (0, Rows'.any-gone type-Cutting) (List._∷_
+            (1, Rows'.sslice (Referent.rtF (Referent.fInt Syntax.w8)) (Syntax.tyRef (Syntax.named 0) Syntax.imm (Syntax.tyInt Syntax.w8)) 0) (List._∷_
+            (2, Relend.mslice-owed EntryKind.row (Syntax.tyRef (Syntax.named 1) Syntax.mut EntryKind.pointee) 1 2 (Row.lease (κs .1 .0) (qs .1 .0))) (List._∷_
+            (3, Rows'.any-gone type-Walk) (List._∷_ (4, Rows'.sc-here (Row.sInt Syntax.w64)) (List._∷_ (5, Rows'.any-gone type-Passed) (List._∷_
+            (6, Rows'.any-gone EntryKind.by-value) (List._∷_ (7, Rows'.whole (Declared'.row Cutting.the-type)) (List._∷_
+            (8, Rows'.sc-here (Row.sInt Syntax.w64)) (List._∷_ (9, Rows'.any-gone Syntax.tyBool) (List._∷_ (10, Rows'.any-gone (Syntax.tyInt Syntax.w64))
+            (List._∷_ (11, Rows'.any-gone Syntax.tyPtr) (List._∷_ (12, Rows'.any-gone Syntax.tyUnit) (List._∷_
+            (13, Rows'.any-gone (Syntax.tyRef Syntax.erased Syntax.mut EntryKind.pointee)) (List._∷_
+            (14, Mut.mslice EntryKind.row (Syntax.tyRef Syntax.erased Syntax.mut EntryKind.pointee) 2) List.[]))))))))))))))
 
         abbrev g19 : List.List Row.Entry
-        g19 = List._∷_ (0, Rows'.any-gone ty-2) (List._∷_ (
-          1,
-          Rows'.sslice (Referent.rtF (Referent.fInt Syntax.w8)) (Syntax.tyRef (Syntax.named 0) Syntax.imm
-              (Syntax.tyInt Syntax.w8)) 0,
-        ) (List._∷_ (
-          2,
-          Relend.mslice-owed EntryKind.R (Syntax.tyRef (Syntax.named 1) Syntax.mut EntryKind.elem) 1 2 (Row.lease
-              (κs .1 .0) (qs .1 .0)),
-        ) (List._∷_ (3, Rows'.any-gone ty-0) (List._∷_ (4, Rows'.sc-here (Row.sInt Syntax.w64)) (List._∷_ (5, Rows'.any-gone ty-1)
-            (List._∷_ (6, Rows'.any-gone EntryKind.spelled) (List._∷_ (7, Rows'.whole (Declared'.row Cutting.the-type)) (List._∷_ (
-              8,
-              Rows'.sc-here (Row.sInt
-                  Syntax.w64),
-            ) (List._∷_ (9, Rows'.any-gone Syntax.tyBool) (List._∷_ (10, Rows'.any-gone (Syntax.tyInt Syntax.w64)) (List._∷_ (
-              11,
-              Rows'.any-gone
-                  Syntax.tyPtr,
-            ) (List._∷_ (12, Rows'.sc-here Row.sUnit) (List._∷_ (13, Rows'.any-gone (Syntax.tyRef Syntax.erased Syntax.mut EntryKind.elem))
-            (List._∷_ (14, Mut.msleft EntryKind.R (Syntax.tyRef Syntax.erased Syntax.mut EntryKind.elem)) List.[]))))))))))))))
+        g19 = List._∷_ (0, Rows'.any-gone type-Cutting) (List._∷_
+            (1, Rows'.sslice (Referent.rtF (Referent.fInt Syntax.w8)) (Syntax.tyRef (Syntax.named 0) Syntax.imm (Syntax.tyInt Syntax.w8)) 0) (List._∷_
+            (2, Relend.mslice-owed EntryKind.row (Syntax.tyRef (Syntax.named 1) Syntax.mut EntryKind.pointee) 1 2 (Row.lease (κs .1 .0) (qs .1 .0))) (List._∷_
+            (3, Rows'.any-gone type-Walk) (List._∷_ (4, Rows'.sc-here (Row.sInt Syntax.w64)) (List._∷_ (5, Rows'.any-gone type-Passed) (List._∷_
+            (6, Rows'.any-gone EntryKind.by-value) (List._∷_ (7, Rows'.whole (Declared'.row Cutting.the-type)) (List._∷_
+            (8, Rows'.sc-here (Row.sInt Syntax.w64)) (List._∷_ (9, Rows'.any-gone Syntax.tyBool) (List._∷_ (10, Rows'.any-gone (Syntax.tyInt Syntax.w64))
+            (List._∷_ (11, Rows'.any-gone Syntax.tyPtr) (List._∷_ (12, Rows'.sc-here Row.sUnit) (List._∷_
+            (13, Rows'.any-gone (Syntax.tyRef Syntax.erased Syntax.mut EntryKind.pointee)) (List._∷_
+            (14, Mut.msleft EntryKind.row (Syntax.tyRef Syntax.erased Syntax.mut EntryKind.pointee)) List.[]))))))))))))))
 
         abbrev g20 : List.List Row.Entry
-        g20 = List._∷_ (0, Rows'.any-gone ty-2) (List._∷_ (
-          1,
-          Rows'.sslice (Referent.rtF (Referent.fInt Syntax.w8)) (Syntax.tyRef (Syntax.named 0) Syntax.imm
-              (Syntax.tyInt Syntax.w8)) 0,
-        ) (List._∷_ (
-          2,
-          Relend.mslice-owed EntryKind.R (Syntax.tyRef (Syntax.named 1) Syntax.mut EntryKind.elem) 1 2 (Row.lease
-              (κs .1 .0) (qs .1 .0)),
-        ) (List._∷_ (3, Rows'.any-gone ty-0) (List._∷_ (4, Rows'.sc-here (Row.sInt Syntax.w64)) (List._∷_ (5, Rows'.any-gone ty-1)
-            (List._∷_ (6, Rows'.any-gone EntryKind.spelled) (List._∷_ (7, Rows'.whole (Declared'.row Cutting.the-type)) (List._∷_ (
-              8,
-              Rows'.sc-here (Row.sInt
-                  Syntax.w64),
-            ) (List._∷_ (9, Rows'.any-gone Syntax.tyBool) (List._∷_ (10, Rows'.any-gone (Syntax.tyInt Syntax.w64)) (List._∷_ (
-              11,
-              Rows'.any-gone
-                  Syntax.tyPtr,
-            ) (List._∷_ (12, Rows'.any-gone Syntax.tyUnit) (List._∷_ (13, Rows'.any-gone (Syntax.tyRef Syntax.erased Syntax.mut EntryKind.elem))
-            (List._∷_ (14, Mut.msleft EntryKind.R (Syntax.tyRef Syntax.erased Syntax.mut EntryKind.elem)) List.[]))))))))))))))
+        g20 = List._∷_ (0, Rows'.any-gone type-Cutting) (List._∷_
+            (1, Rows'.sslice (Referent.rtF (Referent.fInt Syntax.w8)) (Syntax.tyRef (Syntax.named 0) Syntax.imm (Syntax.tyInt Syntax.w8)) 0) (List._∷_
+            (2, Relend.mslice-owed EntryKind.row (Syntax.tyRef (Syntax.named 1) Syntax.mut EntryKind.pointee) 1 2 (Row.lease (κs .1 .0) (qs .1 .0))) (List._∷_
+            (3, Rows'.any-gone type-Walk) (List._∷_ (4, Rows'.sc-here (Row.sInt Syntax.w64)) (List._∷_ (5, Rows'.any-gone type-Passed) (List._∷_
+            (6, Rows'.any-gone EntryKind.by-value) (List._∷_ (7, Rows'.whole (Declared'.row Cutting.the-type)) (List._∷_
+            (8, Rows'.sc-here (Row.sInt Syntax.w64)) (List._∷_ (9, Rows'.any-gone Syntax.tyBool) (List._∷_ (10, Rows'.any-gone (Syntax.tyInt Syntax.w64))
+            (List._∷_ (11, Rows'.any-gone Syntax.tyPtr) (List._∷_ (12, Rows'.any-gone Syntax.tyUnit) (List._∷_
+            (13, Rows'.any-gone (Syntax.tyRef Syntax.erased Syntax.mut EntryKind.pointee)) (List._∷_
+            (14, Mut.msleft EntryKind.row (Syntax.tyRef Syntax.erased Syntax.mut EntryKind.pointee)) List.[]))))))))))))))
 
         abbrev G0 : Row.Cx
         G0 = record { locals = t0; slots = List._∷_ (Row.lease (κs .0) (qs .0)) (List._∷_ (Row.lease (κs .1 .0) (qs .1 .0)) (List._∷_ Row.off List.[])) }
@@ -1563,7 +1211,10 @@ module _ (claims· : Claims) where
         G26 = record { locals = t16; slots = List._∷_ (Row.lease (κs .0) (qs .0)) (List._∷_ (Row.lease (κs .1 .0) (qs .1 .0)) (List._∷_ Row.off List.[])) }
 
         abbrev G27 : Row.Cx
-        G27 = record { locals = t16; slots = List._∷_ (Row.lease (κs .0) (qs .0)) (List._∷_ (Row.lease (κs .1 .0) (qs .1 .0)) (List._∷_ Row.alive List.[])) }
+        G27 = record {
+          locals = t16;
+          slots = List._∷_ (Row.lease (κs .0) (qs .0)) (List._∷_ (Row.lease (κs .1 .0) (qs .1 .0)) (List._∷_ Row.alive List.[]));
+        }
 
         abbrev G28 : Row.Cx
         G28 = record { locals = g17; slots = List._∷_ (Row.lease (κs .0) (qs .0)) (List._∷_ Row.off (List._∷_ Row.alive List.[])) }
@@ -1646,22 +1297,21 @@ module _ (claims· : Claims) where
               (Row.sInt Syntax.w64)) (Scalar.holds-sc 𝓤 H A W (Row.sInt Syntax.w64)) Path'.refl (λ u. Path'.refl) λ u. tt)
 
           d7 : Typed.Typed 𝓤 H A 𝓣 E G21 b13 Δ3 at7
-          d7 = Typed.g-pre 𝓤 H A W 𝓣 E G21 G22 b13 Δ3 (Typed.pass T21 T22 s18) at6 (Scalar.g-room 𝓤 H A W E G21 5 ty-1 (Local.room-whole 𝓤 H A W (Declared'.row
-              Passed.the-type) ty-1 Path'.refl)) d6
+          d7 = Typed.g-pre 𝓤 H A W 𝓣 E G21 G22 b13 Δ3 (Typed.pass T21 T22 s18) at6 (Scalar.g-room 𝓤 H A W E G21 5 type-Passed (Local.room-whole 𝓤 H A W
+              (Declared'.row Passed.the-type) type-Passed Path'.refl)) d6
 
           d8 : Typed.Typed 𝓤 H A 𝓣 E G20 b14 Δ3 at8
           d8 = Typed.s-seq 𝓤 H A W 𝓣 E G20 G21 b12 b13 Δ3 (Typed.both s17) at7 (Plain.t-call-plain 𝓤 H A W 𝓣 0 ps·4 r·4 (claims· .8) (claims· .9)
               "packet::walk::walk_in" (known .4) E (λ pos β. β) G20 (record { pos = 5; st = List.[]; d = 0; at = λ x. x }, tt) 3 List.[] (Call.sub-id 𝓤 H A W
               (G20 .slots)) (
                 (
-                  Yields.yields-copy 𝓤 H A W (λ ρ. Unit) (Declared'.row Passed.the-type) Path'.refl (Copies.cStruct Passed.the-type Laws'.the-laws
-                      Laws'.the-copy .copy 𝓤 H A W) (Rows'.whole (Declared'.row Passed.the-type)) (λ x. x) (λ x. x) (λ ρ told. Local.mem-whole 𝓤 H A W (Declared'.row
+                  Yields.yields-copy 𝓤 H A W (λ ρ. Unit) (Declared'.row Passed.the-type) Path'.refl (Copies.cStruct Passed.the-type Laws'.the-laws Laws'.the-copy
+                      .copy 𝓤 H A W) (Rows'.whole (Declared'.row Passed.the-type)) (λ x. x) (λ x. x) (λ ρ told. Local.mem-whole 𝓤 H A W (Declared'.row
                       Passed.the-type) ρ) λ ρ told. Local.whole-mem 𝓤 H A W (Declared'.row Passed.the-type) ρ,
                   Path'.refl,
                 ),
                 tt,
-              ) (Reads.room-gone 𝓤 H A ty-0) tt
-              Path'.refl) d7
+              ) (Reads.room-gone 𝓤 H A type-Walk) tt Path'.refl) d7
 
           d9 : Typed.Typed 𝓤 H A 𝓣 E G19 b14 Δ3 at9
           d9 = Typed.g-pre 𝓤 H A W 𝓣 E G19 G20 b14 Δ3 (Typed.pass T19 T20 s16) at8 (Scalar.g-room 𝓤 H A W E G19 11 Syntax.tyPtr (Scalar.room-sc 𝓤 H A W
@@ -1672,29 +1322,25 @@ module _ (claims· : Claims) where
               H A W (Row.sInt Syntax.w64))) d9
 
           d11 : Typed.Typed 𝓤 H A 𝓣 E G17 b14 Δ3 at11
-          d11 = Typed.g-pre 𝓤 H A W 𝓣 E G17 G18 b14 Δ3 (Typed.pass T17 T18 s14) at10 (Scalar.g-room 𝓤 H A W E G17 6 EntryKind.spelled (EntryKind.room 𝓤 H A W))
+          d11 = Typed.g-pre 𝓤 H A W 𝓣 E G17 G18 b14 Δ3 (Typed.pass T17 T18 s14) at10 (Scalar.g-room 𝓤 H A W E G17 6 EntryKind.by-value (EntryKind.room 𝓤 H A W))
               d10
 
           d12 : Typed.Typed 𝓤 H A 𝓣 E G16 b15 Δ3 at12
-          d12 = Typed.s-seq 𝓤 H A W 𝓣 E G16 G17 b11 b14 Δ3 (Typed.ask s13) at11 (Move.t-sl-set-from 𝓤 H A W E EntryKind.R 𝓣 Path'.refl (λ ρ. Unit) G16 2 11 6 1
-              (Syntax.tyRef (Syntax.named 1) Syntax.mut EntryKind.elem) (Row.lease (κs .1 .0) (qs .1 .0)) EntryKind.spelled EntryKind.spelled EntryKind.whole
-              (Shared.bySize 56) (λ u. u .1 .1 .1 .1 .0) (λ x. x) (λ x. x) (λ x. x) (λ x. x) (λ i o. Elements.at-mul o 56 i) Path'.refl Path'.refl
-              (Own.told-none 𝓤 H A (G16 .slots)) (Reads.as-is 𝓤 H A (Mut.mslice EntryKind.R (Syntax.tyRef (Syntax.named 1) Syntax.mut EntryKind.elem) 1))
-              (Reads.as-is 𝓤 H A (Rows'.sc-here Row.sPtr)) (Yields.yields-copy 𝓤 H A W (λ ρ. Unit) EntryKind.R Path'.refl (EntryKind.copies .copy 𝓤 H A W)
-              EntryKind.whole (λ x. x) (λ x. x) (λ ρ told. EntryKind.in-mem 𝓤 H A W ρ) λ ρ told. EntryKind.of-mem 𝓤 H A W ρ) Path'.refl tt Path'.refl
-              Path'.refl) d11
+          d12 = Typed.s-seq 𝓤 H A W 𝓣 E G16 G17 b11 b14 Δ3 (Typed.ask s13) at11 (Move.t-sl-set-from 𝓤 H A W E EntryKind.row 𝓣 Path'.refl (λ ρ. Unit) G16 2 11 6
+              1 (Syntax.tyRef (Syntax.named 1) Syntax.mut EntryKind.pointee) (Row.lease (κs .1 .0) (qs .1 .0)) EntryKind.by-value EntryKind.by-value
+              EntryKind.local (Shared.bySize 56) (λ u. u .1 .1 .1 .1 .0) (λ x. x) (λ x. x) (λ x. x) (λ x. x) (λ i o. Elements.at-mul o 56 i) Path'.refl
+              Path'.refl (Own.told-none 𝓤 H A (G16 .slots)) (Reads.as-is 𝓤 H A (Mut.mslice EntryKind.row (Syntax.tyRef (Syntax.named 1) Syntax.mut
+              EntryKind.pointee) 1)) (Reads.as-is 𝓤 H A (Rows'.sc-here Row.sPtr)) (Yields.yields-copy 𝓤 H A W (λ ρ. Unit) EntryKind.row Path'.refl
+              (EntryKind.copied .copy 𝓤 H A W) EntryKind.local (λ x. x) (λ x. x) (λ ρ told. EntryKind.in-memory 𝓤 H A W ρ) λ ρ told. EntryKind.of-memory 𝓤 H A W
+              ρ) Path'.refl tt Path'.refl Path'.refl) d11
 
           d13 : Typed.Typed 𝓤 H A 𝓣 E G15 b16 Δ3 at13
           d13 = Typed.s-seq 𝓤 H A W 𝓣 E G15 G16 b10 b15 Δ3 (Typed.ask s12) at12 (Scalar.t-op2 𝓤 H A W E 𝓣 G15 Syntax.offset (Scalar.oFld 2 (List._∷_
-              (Syntax.field 0) List.[]) (Syntax.tyRef (Syntax.named 1) Syntax.mut EntryKind.elem) 0 Reads.ptrVal) (Scalar.oAt 10 (Syntax.tyInt Syntax.w64)
-              (Row.valS (Row.sInt Syntax.w64))) 11 (Rows'.sc-here Row.sPtr) Syntax.tyPtr (Row.valS Row.sPtr) (Row.sPtr .of) (
-                Mut.reads-mslice-ptr 𝓤 H A W
-                    EntryKind.R (Syntax.tyRef (Syntax.named 1) Syntax.mut EntryKind.elem) 1 0 Path'.refl,
-                Path'.refl,
-              ) (
-                Scalar.reads-sc 𝓤 H A W (Row.sInt Syntax.w64),
-                Path'.refl,
-              ) (Reads.room-gone 𝓤 H A Syntax.tyPtr) (Scalar.holds-sc 𝓤 H A W Row.sPtr) Path'.refl (λ u. Path'.refl) λ u. tt) d12
+              (Syntax.field 0) List.[]) (Syntax.tyRef (Syntax.named 1) Syntax.mut EntryKind.pointee) 0 Reads.ptrVal) (Scalar.oAt 10 (Syntax.tyInt Syntax.w64)
+              (Row.valS (Row.sInt Syntax.w64))) 11 (Rows'.sc-here Row.sPtr) Syntax.tyPtr (Row.valS Row.sPtr) (Row.sPtr .of)
+              (Mut.reads-mslice-ptr 𝓤 H A W EntryKind.row (Syntax.tyRef (Syntax.named 1) Syntax.mut EntryKind.pointee) 1 0 Path'.refl, Path'.refl)
+              (Scalar.reads-sc 𝓤 H A W (Row.sInt Syntax.w64), Path'.refl) (Reads.room-gone 𝓤 H A Syntax.tyPtr) (Scalar.holds-sc 𝓤 H A W Row.sPtr) Path'.refl (λ
+              u. Path'.refl) λ u. tt) d12
 
           d14 : Typed.Typed 𝓤 H A 𝓣 E G14 b17 Δ3 at14
           d14 = Typed.s-seq 𝓤 H A W 𝓣 E G14 G15 b9 b16 Δ3 (Typed.ask s11) at13 (Scalar.t-op2 𝓤 H A W E 𝓣 G14 (Syntax.mul Syntax.unsigned) (Scalar.oAt 4
@@ -1707,28 +1353,22 @@ module _ (claims· : Claims) where
               "packet::walk::entry_in" (known .3) E (λ pos β. β) G13 (record { pos = 5; st = List.[]; d = 0; at = λ x. x }, tt) 6 List.[] (Call.sub-id 𝓤 H A W
               (G13 .slots)) (
                 (
-                  Yields.yields-copy 𝓤 H A W (λ ρ. Unit) (Declared'.row Passed.the-type) Path'.refl (Copies.cStruct Passed.the-type Laws'.the-laws
-                      Laws'.the-copy .copy 𝓤 H A W) (Rows'.whole (Declared'.row Passed.the-type)) (λ x. x) (λ x. x) (λ ρ told. Local.mem-whole 𝓤 H A W (Declared'.row
+                  Yields.yields-copy 𝓤 H A W (λ ρ. Unit) (Declared'.row Passed.the-type) Path'.refl (Copies.cStruct Passed.the-type Laws'.the-laws Laws'.the-copy
+                      .copy 𝓤 H A W) (Rows'.whole (Declared'.row Passed.the-type)) (λ x. x) (λ x. x) (λ ρ told. Local.mem-whole 𝓤 H A W (Declared'.row
                       Passed.the-type) ρ) λ ρ told. Local.whole-mem 𝓤 H A W (Declared'.row Passed.the-type) ρ,
                   Path'.refl,
                 ),
                 tt,
-              ) (Reads.room-gone 𝓤 H A
-              EntryKind.spelled) tt Path'.refl) d14
+              ) (Reads.room-gone 𝓤 H A EntryKind.by-value) tt Path'.refl) d14
 
           d16 : Typed.Typed 𝓤 H A 𝓣 E G12 b18 Δ3 at16
-          d16 = Typed.g-pre 𝓤 H A W 𝓣 E G12 G13 b18 Δ3 (Typed.pass T12 T13 s9) at15 (Scalar.g-room 𝓤 H A W E G12 3 ty-0 (Local.room-whole 𝓤 H A W (Declared.row
-              Walk.the-type) ty-0 Path'.refl)) d15
+          d16 = Typed.g-pre 𝓤 H A W 𝓣 E G12 G13 b18 Δ3 (Typed.pass T12 T13 s9) at15 (Scalar.g-room 𝓤 H A W E G12 3 type-Walk (Local.room-whole 𝓤 H A W
+              (Declared.row Walk.the-type) type-Walk Path'.refl)) d15
 
           d17 : Typed.Typed 𝓤 H A 𝓣 E G8 b19 Δ3 at17
           d17 = Typed.s-seq 𝓤 H A W 𝓣 E G8 G12 b7 b18 Δ3 (Typed.both s8) at16 (Plain.t-call-plain 𝓤 H A W 𝓣 1 ps·2 r·2 (claims· .4) (claims· .5)
               "packet::walk::step" (known .2) E (λ pos β. β) G8 (
-                record {
-                  pos = 1;
-                  ty = Syntax.tyRef (Syntax.named 0) Syntax.imm (Syntax.tyInt Syntax.w8);
-                  ref =
-                      λ x. x;
-                },
+                record { pos = 1; ty = Syntax.tyRef (Syntax.named 0) Syntax.imm (Syntax.tyInt Syntax.w8); ref = λ x. x },
                 (record { pos = 3; st = List.[]; d = 0; at = λ x. x }, tt),
               ) 5 (List._∷_ 0 List.[]) (Call.sub-id 𝓤 H A W (G8 .slots)) (
                 ShrSlice.spares-sslice 𝓤 H A W (Referent.rtF (Referent.fInt Syntax.w8)) (Syntax.tyRef (Syntax.named 0) Syntax.imm (Syntax.tyInt Syntax.w8)) 0,
@@ -1736,50 +1376,37 @@ module _ (claims· : Claims) where
                 Path'.refl,
                 (
                   (
-                    Yields.yields-copy 𝓤 H A W (λ ρ. Unit) (Declared.row Walk.the-type) Path'.refl (Copies.cEnum Walk.the-type Laws''.the-laws
-                        Laws''.the-copy .copy 𝓤 H A W) (Rows'.whole (Declared.row Walk.the-type)) (λ x. x) (λ x. x) (λ ρ told. Local.mem-whole 𝓤 H A W (Declared.row
-                        Walk.the-type) ρ) λ ρ told. Local.whole-mem 𝓤 H A W (Declared.row Walk.the-type) ρ,
+                    Yields.yields-copy 𝓤 H A W (λ ρ. Unit) (Declared.row Walk.the-type) Path'.refl (Copies.cEnum Walk.the-type Laws''.the-laws Laws''.the-copy .copy
+                        𝓤 H A W) (Rows'.whole (Declared.row Walk.the-type)) (λ x. x) (λ x. x) (λ ρ told. Local.mem-whole 𝓤 H A W (Declared.row Walk.the-type) ρ) λ ρ
+                        told. Local.whole-mem 𝓤 H A W (Declared.row Walk.the-type) ρ,
                     Path'.refl,
                   ),
                   tt,
                 ),
-              ) (Reads.room-gone 𝓤 H A ty-1) (tt, tt)
-              Path'.refl) d16
+              ) (Reads.room-gone 𝓤 H A type-Passed) (tt, tt) Path'.refl) d16
 
           d18 : Typed.Typed 𝓤 H A 𝓣 E G7 b20 Δ3 at18
           d18 = Typed.t-seq 𝓤 H A W 𝓣 E G7 G8 b6 b19 Δ3 at5 at17 d5 d17
 
           d19 : Typed.Typed 𝓤 H A 𝓣 E G6 b21 Δ3 at19
           d19 = Typed.s-seq 𝓤 H A W 𝓣 E G6 G7 b3 b20 Δ3 (Typed.both s4) at18 (Plain.t-call-plain 𝓤 H A W 𝓣 0 ps·1 r·1 (claims· .2) (claims· .3)
-              "packet::walk::below" (known .1) E (λ pos β. β) G6 (
-                record { pos = 3; st = List.[]; d = 0; at = λ x. x },
+              "packet::walk::below" (known .1) E (λ pos β. β) G6
+              (record { pos = 3; st = List.[]; d = 0; at = λ x. x }, (Num.vAt 4 λ x. x, (Num.vAt 10 λ x. x, tt))) 9 List.[] (Call.sub-id 𝓤 H A W (G6 .slots)) (
                 (
-                  Num.vAt 4 λ x. x,
-                  (
-                    Num.vAt 10 λ x. x,
-                    tt,
-                  ),
-                ),
-              ) 9 List.[] (Call.sub-id 𝓤 H A W (G6 .slots)) (
-                (
-                  Yields.yields-copy 𝓤 H A W (λ ρ. Unit) (Declared.row Walk.the-type) Path'.refl (Copies.cEnum
-                      Walk.the-type Laws''.the-laws Laws''.the-copy .copy 𝓤 H A W) (Rows'.whole (Declared.row Walk.the-type)) (λ x. x) (λ x. x) (λ ρ told.
-                      Local.mem-whole 𝓤 H A W (Declared.row Walk.the-type) ρ) λ ρ told. Local.whole-mem 𝓤 H A W (Declared.row Walk.the-type) ρ,
+                  Yields.yields-copy 𝓤 H A W (λ ρ. Unit) (Declared.row Walk.the-type) Path'.refl (Copies.cEnum Walk.the-type Laws''.the-laws Laws''.the-copy .copy 𝓤
+                      H A W) (Rows'.whole (Declared.row Walk.the-type)) (λ x. x) (λ x. x) (λ ρ told. Local.mem-whole 𝓤 H A W (Declared.row Walk.the-type) ρ) λ ρ
+                      told. Local.whole-mem 𝓤 H A W (Declared.row Walk.the-type) ρ,
                   Path'.refl,
                 ),
                 ((Scalar.reads-sc 𝓤 H A W (Row.sInt Syntax.w64), Path'.refl), ((Scalar.reads-sc 𝓤 H A W (Row.sInt Syntax.w64), Path'.refl), tt)),
-              ) (Reads.room-gone
-              𝓤 H A Syntax.tyBool) tt Path'.refl) d18
+              ) (Reads.room-gone 𝓤 H A Syntax.tyBool) tt Path'.refl) d18
 
           d20 : Typed.Typed 𝓤 H A 𝓣 E G4 b22 Δ3 at20
           d20 = Typed.s-seq 𝓤 H A W 𝓣 E G4 G6 b2 b21 Δ3 (Typed.pass T4 T6 s3) at19 (Scalar.t-use 𝓤 H A W E 𝓣 G4 (Scalar.oFld 2 (List._∷_ (Syntax.field 1)
               List.[]) (Syntax.tyInt Syntax.w64) 8 Shared.lenV) 10 (Rows'.sc-here (Row.sInt Syntax.w64)) (Syntax.tyInt Syntax.w64) (Row.valS (Row.sInt
-              Syntax.w64)) (Row.sInt Syntax.w64 .of) (
-                Mut.reads-mslice-len 𝓤 H A W EntryKind.R (Syntax.tyRef (Syntax.named 1) Syntax.mut EntryKind.elem) 1 8
-                    Path'.refl,
-                Path'.refl,
-              ) (Reads.room-gone 𝓤 H A (Syntax.tyInt Syntax.w64)) (Scalar.holds-sc 𝓤 H A W (Row.sInt Syntax.w64)) Path'.refl (λ u.
-              Path'.refl) λ u. tt) d19
+              Syntax.w64)) (Row.sInt Syntax.w64 .of)
+              (Mut.reads-mslice-len 𝓤 H A W EntryKind.row (Syntax.tyRef (Syntax.named 1) Syntax.mut EntryKind.pointee) 1 8 Path'.refl, Path'.refl)
+              (Reads.room-gone 𝓤 H A (Syntax.tyInt Syntax.w64)) (Scalar.holds-sc 𝓤 H A W (Row.sInt Syntax.w64)) Path'.refl (λ u. Path'.refl) λ u. tt) d19
 
           d21 : Typed.Typed 𝓤 H A 𝓣 E G4 b23 Δ2 at21
           d21 = Typed.t-loop-by 𝓤 H A W 𝓣 E G4 b22 Δ2 put0 (λ u vs. Inv·0 (Row.get 1 (T4 .locals) u .now) (Row.get 2 (T4 .locals) u .now) (Row.get 3 (T4
@@ -1797,8 +1424,8 @@ module _ (claims· : Claims) where
               H A W (Row.sInt Syntax.w64))) d23
 
           d25 : Typed.Typed 𝓤 H A 𝓣 E G36 b31 Δ0 at25
-          d25 = Typed.g-pre 𝓤 H A W 𝓣 E G36 G37 b31 Δ0 (Typed.pass T36 T37 s33) at24 (Scalar.g-room 𝓤 H A W E G36 7 ty-2 (Local.room-whole 𝓤 H A W
-              (Declared'.row Cutting.the-type) ty-2 Path'.refl)) d24
+          d25 = Typed.g-pre 𝓤 H A W 𝓣 E G36 G37 b31 Δ0 (Typed.pass T36 T37 s33) at24 (Scalar.g-room 𝓤 H A W E G36 7 type-Cutting (Local.room-whole 𝓤 H A W
+              (Declared'.row Cutting.the-type) type-Cutting Path'.refl)) d24
 
           d26 : Typed.Typed 𝓤 H A 𝓣 E G35 b31 Δ0 at26
           d26 = Typed.g-pre 𝓤 H A W 𝓣 E G35 G36 b31 Δ0 (Typed.pass T35 T36 s32) at25 (Scalar.g-room 𝓤 H A W E G35 4 (Syntax.tyInt Syntax.w64) (Scalar.room-sc 𝓤
@@ -1806,21 +1433,21 @@ module _ (claims· : Claims) where
 
           d27 : Typed.Typed 𝓤 H A 𝓣 E G34 b32 Δ0 at27
           d27 = Typed.s-seq 𝓤 H A W 𝓣 E G34 G35 b30 b31 Δ0 (Typed.pass T33 T35 s31) at26 (LocalCopy.t-val-copy 𝓤 H A W E 𝓣 (λ ρ. Unit) G34 7 0 (Declared'.row
-              Cutting.the-type) ty-2 ty-2 (Rows'.whole (Declared'.row Cutting.the-type)) (Rows'.whole (Declared'.row Cutting.the-type)) (λ x. x) (λ x. x) (λ x.
-              x) Path'.refl (Own.told-none 𝓤 H A (G34 .slots)) (Yields.yields-copy 𝓤 H A W (λ ρ. Unit) (Declared'.row Cutting.the-type) Path'.refl
-              (Copies.cStruct Cutting.the-type Laws.the-laws Laws.the-copy .copy 𝓤 H A W) (Rows'.whole (Declared'.row Cutting.the-type)) (λ x. x) (λ x. x) (λ ρ
-              told. Local.mem-whole 𝓤 H A W (Declared'.row Cutting.the-type) ρ) λ ρ told. Local.whole-mem 𝓤 H A W (Declared'.row Cutting.the-type) ρ)
-              (Reads.room-gone 𝓤 H A ty-2) (Yields.makes-mem 𝓤 H A W (λ ρ. Unit) (Declared'.row Cutting.the-type) Path'.refl (Rows'.whole (Declared'.row
+              Cutting.the-type) type-Cutting type-Cutting (Rows'.whole (Declared'.row Cutting.the-type)) (Rows'.whole (Declared'.row Cutting.the-type)) (λ x. x)
+              (λ x. x) (λ x. x) Path'.refl (Own.told-none 𝓤 H A (G34 .slots)) (Yields.yields-copy 𝓤 H A W (λ ρ. Unit) (Declared'.row Cutting.the-type)
+              Path'.refl (Copies.cStruct Cutting.the-type Laws.the-laws Laws.the-copy .copy 𝓤 H A W) (Rows'.whole (Declared'.row Cutting.the-type)) (λ x. x) (λ
+              x. x) (λ ρ told. Local.mem-whole 𝓤 H A W (Declared'.row Cutting.the-type) ρ) λ ρ told. Local.whole-mem 𝓤 H A W (Declared'.row Cutting.the-type) ρ)
+              (Reads.room-gone 𝓤 H A type-Cutting) (Yields.makes-mem 𝓤 H A W (λ ρ. Unit) (Declared'.row Cutting.the-type) Path'.refl (Rows'.whole (Declared'.row
               Cutting.the-type)) (λ x. x) λ ρ told. Local.whole-mem 𝓤 H A W (Declared'.row Cutting.the-type) ρ) Path'.refl Path'.refl) d26
 
           d28 : Typed.Typed 𝓤 H A 𝓣 E G33 b32 Δ0 at28
           d28 = Typed.g-pre 𝓤 H A W 𝓣 E G33 G34 b32 Δ0 (λ Ψ. Ψ) at27 (Lifetime.g-forget 𝓤 H A W E G33 2 Row.dead Path'.refl) d27
 
           d29 : Typed.Typed 𝓤 H A 𝓣 E G32 b32 Δ0 at29
-          d29 = Typed.g-pre 𝓤 H A W 𝓣 E G32 G33 b32 Δ0 (Typed.both s29) at28 (Relend.g-back-sl 𝓤 H A W E EntryKind.R G32 14 2 1 2 (Syntax.tyRef (Syntax.named 1)
-              Syntax.mut EntryKind.elem) (Syntax.tyRef Syntax.erased Syntax.mut EntryKind.elem) (Row.lease (κs .1 .0) (qs .1 .0)) (λ x. x) (λ x. x) (Reads.as-is
-              𝓤 H A (Mut.msleft EntryKind.R (Syntax.tyRef Syntax.erased Syntax.mut EntryKind.elem))) (Reads.as-is 𝓤 H A (Relend.mslice-owed EntryKind.R
-              (Syntax.tyRef (Syntax.named 1) Syntax.mut EntryKind.elem) 1 2 (Row.lease (κs .1 .0) (qs .1 .0)))) Path'.refl Path'.refl) d28
+          d29 = Typed.g-pre 𝓤 H A W 𝓣 E G32 G33 b32 Δ0 (Typed.both s29) at28 (Relend.g-back-sl 𝓤 H A W E EntryKind.row G32 14 2 1 2 (Syntax.tyRef (Syntax.named
+              1) Syntax.mut EntryKind.pointee) (Syntax.tyRef Syntax.erased Syntax.mut EntryKind.pointee) (Row.lease (κs .1 .0) (qs .1 .0)) (λ x. x) (λ x. x)
+              (Reads.as-is 𝓤 H A (Mut.msleft EntryKind.row (Syntax.tyRef Syntax.erased Syntax.mut EntryKind.pointee))) (Reads.as-is 𝓤 H A (Relend.mslice-owed
+              EntryKind.row (Syntax.tyRef (Syntax.named 1) Syntax.mut EntryKind.pointee) 1 2 (Row.lease (κs .1 .0) (qs .1 .0)))) Path'.refl Path'.refl) d28
 
           d30 : Typed.Typed 𝓤 H A 𝓣 E G31 b32 Δ0 at30
           d30 = Typed.g-pre 𝓤 H A W 𝓣 E G31 G32 b32 Δ0 (λ Ψ. Ψ) at29 (Lifetime.g-end 𝓤 H A W E G31 2 Path'.refl) d29
@@ -1831,124 +1458,71 @@ module _ (claims· : Claims) where
 
           d32 : Typed.Typed 𝓤 H A 𝓣 E G29 b33 Δ0 at32
           d32 = Typed.s-seq 𝓤 H A W 𝓣 E G29 G30 b29 b32 Δ0 (Typed.both s26) at31 (Plain.t-call-plain 𝓤 H A W 𝓣 1 ps·7 r·7 (claims· .14) (claims· .15)
-              "packet::entry::clear" (known .7) E (λ pos β. β) G29 (
-                record {
-                  pos = 14;
-                  ty = Syntax.tyRef Syntax.erased Syntax.mut EntryKind.elem;
-                  ref = λ x. x;
-                },
-                (Num.vAt 8 λ x. x, tt),
-              ) 12 (List._∷_ 2 List.[]) (Call.sub-id 𝓤 H A W (G29 .slots)) (
-                Reads.as-is 𝓤 H A (Mut.mslice EntryKind.R (Syntax.tyRef
-                    Syntax.erased Syntax.mut EntryKind.elem) 2),
-                Mut.reads-mslice 𝓤 H A W EntryKind.R (Syntax.tyRef Syntax.erased Syntax.mut EntryKind.elem) 2,
+              "packet::entry::clear" (known .7) E (λ pos β. β) G29
+              (record { pos = 14; ty = Syntax.tyRef Syntax.erased Syntax.mut EntryKind.pointee; ref = λ x. x }, (Num.vAt 8 λ x. x, tt)) 12 (List._∷_ 2 List.[])
+              (Call.sub-id 𝓤 H A W (G29 .slots)) (
+                Reads.as-is 𝓤 H A (Mut.mslice EntryKind.row (Syntax.tyRef Syntax.erased Syntax.mut EntryKind.pointee) 2),
+                Mut.reads-mslice 𝓤 H A W EntryKind.row (Syntax.tyRef Syntax.erased Syntax.mut EntryKind.pointee) 2,
                 Path'.refl,
                 ((Scalar.reads-sc 𝓤 H A W (Row.sInt Syntax.w64), Path'.refl), tt),
               ) (Reads.room-gone 𝓤 H A Syntax.tyUnit) (tt, tt) Path'.refl) d31
 
           d33 : Typed.Typed 𝓤 H A 𝓣 E G28 b34 Δ0 at33
-          d33 = Typed.s-seq 𝓤 H A W 𝓣 E G28 G29 b28 b33 Δ0 (Typed.ask s25) at32 (Relend.t-sl-aggregate 𝓤 H A W E EntryKind.R 𝓣 (Relend.asMut EntryKind.R) G28 13
-              14 2 (Syntax.tyRef Syntax.erased Syntax.mut EntryKind.elem) (Syntax.tyRef Syntax.erased Syntax.mut EntryKind.elem) (λ x. x) (Scalar.oFld 2
-              (List._∷_ (Syntax.field 1) List.[]) (Syntax.tyInt Syntax.w64) 8 λ v. Shared.lenV (v .0)) (Reads.as-is 𝓤 H A (Relend.msptr EntryKind.R
-              (Syntax.tyRef Syntax.erased Syntax.mut EntryKind.elem) 2)) (Reads.room-gone 𝓤 H A ty-3) (
-                Relend.reads-owed-len 𝓤 H A W EntryKind.R (Syntax.tyRef
-                    (Syntax.named 1) Syntax.mut EntryKind.elem) 1 2 (Row.lease (κs .1 .0) (qs .1 .0)) 8 Path'.refl,
+          d33 = Typed.s-seq 𝓤 H A W 𝓣 E G28 G29 b28 b33 Δ0 (Typed.ask s25) at32 (Relend.t-sl-aggregate 𝓤 H A W E EntryKind.row 𝓣 (Relend.asMut EntryKind.row)
+              G28 13 14 2 (Syntax.tyRef Syntax.erased Syntax.mut EntryKind.pointee) (Syntax.tyRef Syntax.erased Syntax.mut EntryKind.pointee) (λ x. x)
+              (Scalar.oFld 2 (List._∷_ (Syntax.field 1) List.[]) (Syntax.tyInt Syntax.w64) 8 λ v. Shared.lenV (v .0)) (Reads.as-is 𝓤 H A (Relend.msptr
+              EntryKind.row (Syntax.tyRef Syntax.erased Syntax.mut EntryKind.pointee) 2)) (Reads.room-gone 𝓤 H A type-slice) (
+                Relend.reads-owed-len 𝓤 H A W EntryKind.row (Syntax.tyRef (Syntax.named 1) Syntax.mut EntryKind.pointee) 1 2 (Row.lease (κs .1 .0) (qs .1 .0)) 8
+                    Path'.refl,
                 Path'.refl,
               ) Path'.refl Path'.refl λ b o k. tt) d32
 
           d34 : Typed.Typed 𝓤 H A 𝓣 E G27 b35 Δ0 at34
-          d34 = Typed.s-seq 𝓤 H A W 𝓣 E G27 G28 b27 b34 Δ0 (Typed.give s24) at33 (Relend.t-sl-relend 𝓤 H A W E EntryKind.R 𝓣 G27 2 13 1 2 (Syntax.tyRef
-              (Syntax.named 1) Syntax.mut EntryKind.elem) (Syntax.tyRef Syntax.erased Syntax.mut EntryKind.elem) (Row.lease (κs .1 .0) (qs .1 .0)) 0 (λ x. x)
-              (Reads.as-is 𝓤 H A (Mut.mslice EntryKind.R (Syntax.tyRef (Syntax.named 1) Syntax.mut EntryKind.elem) 1)) (Reads.room-gone 𝓤 H A (Syntax.tyRef
-              Syntax.erased Syntax.mut EntryKind.elem)) Path'.refl tt Path'.refl Path'.refl Path'.refl λ b o. tt) d33
+          d34 = Typed.s-seq 𝓤 H A W 𝓣 E G27 G28 b27 b34 Δ0 (Typed.give s24) at33 (Relend.t-sl-relend 𝓤 H A W E EntryKind.row 𝓣 G27 2 13 1 2 (Syntax.tyRef
+              (Syntax.named 1) Syntax.mut EntryKind.pointee) (Syntax.tyRef Syntax.erased Syntax.mut EntryKind.pointee) (Row.lease (κs .1 .0) (qs .1 .0)) 0 (λ x.
+              x) (Reads.as-is 𝓤 H A (Mut.mslice EntryKind.row (Syntax.tyRef (Syntax.named 1) Syntax.mut EntryKind.pointee) 1)) (Reads.room-gone 𝓤 H A
+              (Syntax.tyRef Syntax.erased Syntax.mut EntryKind.pointee)) Path'.refl tt Path'.refl Path'.refl Path'.refl λ b o. tt) d33
 
           d35 : Typed.Typed 𝓤 H A 𝓣 E G26 b35 Δ0 at35
-          d35 = Typed.g-pre 𝓤 H A W 𝓣 E G26 G27 b35 Δ0 (λ Ψ. Ψ) at34 (Lifetime.g-begin 𝓤 H A W E G26 2 (
-            tt,
-            (
-              tt,
-              (
-                tt,
-                (
-                  tt,
-                  (
-                    tt,
-                    (
-                      tt,
-                      (
-                        tt,
-                        (
-                          tt,
-                          (
-                            tt,
-                            (
-                              tt,
-                              (
-                                tt,
-                                (tt, (tt, (tt, (tt, tt)))),
-                              ),
-                            ),
-                          ),
-                        ),
-                      ),
-                    ),
-                  ),
-                ),
-              ),
-            ),
-          )) d34
+          d35 = Typed.g-pre 𝓤 H A W 𝓣 E G26 G27 b35 Δ0 (λ Ψ. Ψ) at34 (Lifetime.g-begin 𝓤 H A W E G26 2
+              (tt, (tt, (tt, (tt, (tt, (tt, (tt, (tt, (tt, (tt, (tt, (tt, (tt, (tt, (tt, tt)))))))))))))))) d34
 
           d36 : Typed.Typed 𝓤 H A 𝓣 E G25 b36 Δ0 at36
           d36 = Typed.s-seq 𝓤 H A W 𝓣 E G25 G26 b26 b35 Δ0 (Typed.both s22) at35 (Plain.t-call-plain 𝓤 H A W 𝓣 0 ps·6 r·6 (claims· .12) (claims· .13)
               "packet::entry::count_in" (known .6) E (λ pos β. β) G25 (record { pos = 7; st = List.[]; d = 0; at = λ x. x }, tt) 8 List.[] (Call.sub-id 𝓤 H A W
               (G25 .slots)) (
                 (
-                  Yields.yields-copy 𝓤 H A W (λ ρ. Unit) (Declared'.row Cutting.the-type) Path'.refl (Copies.cStruct Cutting.the-type Laws.the-laws
-                      Laws.the-copy .copy 𝓤 H A W) (Rows'.whole (Declared'.row Cutting.the-type)) (λ x. x) (λ x. x) (λ ρ told. Local.mem-whole 𝓤 H A W (Declared'.row
+                  Yields.yields-copy 𝓤 H A W (λ ρ. Unit) (Declared'.row Cutting.the-type) Path'.refl (Copies.cStruct Cutting.the-type Laws.the-laws Laws.the-copy
+                      .copy 𝓤 H A W) (Rows'.whole (Declared'.row Cutting.the-type)) (λ x. x) (λ x. x) (λ ρ told. Local.mem-whole 𝓤 H A W (Declared'.row
                       Cutting.the-type) ρ) λ ρ told. Local.whole-mem 𝓤 H A W (Declared'.row Cutting.the-type) ρ,
                   Path'.refl,
                 ),
                 tt,
-              ) (Reads.room-gone 𝓤 H A (Syntax.tyInt
-              Syntax.w64)) tt Path'.refl) d35
+              ) (Reads.room-gone 𝓤 H A (Syntax.tyInt Syntax.w64)) tt Path'.refl) d35
 
           d37 : Typed.Typed 𝓤 H A 𝓣 E G24 b36 Δ0 at37
-          d37 = Typed.g-pre 𝓤 H A W 𝓣 E G24 G25 b36 Δ0 (Typed.pass T24 T25 s21) at36 (Scalar.g-room 𝓤 H A W E G24 3 ty-0 (Local.room-whole 𝓤 H A W (Declared.row
-              Walk.the-type) ty-0 Path'.refl)) d36
+          d37 = Typed.g-pre 𝓤 H A W 𝓣 E G24 G25 b36 Δ0 (Typed.pass T24 T25 s21) at36 (Scalar.g-room 𝓤 H A W E G24 3 type-Walk (Local.room-whole 𝓤 H A W
+              (Declared.row Walk.the-type) type-Walk Path'.refl)) d36
 
           d38 : Typed.Typed 𝓤 H A 𝓣 E G5 b37 Δ0 at38
           d38 = Typed.s-seq 𝓤 H A W 𝓣 E G5 G24 b25 b36 Δ0 (Typed.both s20) at37 (Plain.t-call-plain 𝓤 H A W 𝓣 1 ps·5 r·5 (claims· .10) (claims· .11)
               "packet::entry::counted" (known .5) E (λ pos β. β) G5 (
-                record {
-                  pos = 1;
-                  ty = Syntax.tyRef (Syntax.named 0) Syntax.imm (Syntax.tyInt Syntax.w8);
-                  ref = λ x. x;
-                },
+                record { pos = 1; ty = Syntax.tyRef (Syntax.named 0) Syntax.imm (Syntax.tyInt Syntax.w8); ref = λ x. x },
                 (record { pos = 3; st = List.[]; d = 0; at = λ x. x }, (Num.vAt 4 λ x. x, tt)),
-              ) 7 (List._∷_ 0 List.[]) (Call.sub-id 𝓤 H A W (G5
-              .slots)) (
-                ShrSlice.spares-sslice 𝓤 H A W (Referent.rtF (Referent.fInt Syntax.w8)) (Syntax.tyRef (Syntax.named 0) Syntax.imm (Syntax.tyInt
-                    Syntax.w8)) 0,
-                Shared.reads-sslice 𝓤 H A W (Referent.rtF (Referent.fInt Syntax.w8)) (Syntax.tyRef (Syntax.named 0) Syntax.imm (Syntax.tyInt
-                    Syntax.w8)) 0,
+              ) 7 (List._∷_ 0 List.[]) (Call.sub-id 𝓤 H A W (G5 .slots)) (
+                ShrSlice.spares-sslice 𝓤 H A W (Referent.rtF (Referent.fInt Syntax.w8)) (Syntax.tyRef (Syntax.named 0) Syntax.imm (Syntax.tyInt Syntax.w8)) 0,
+                Shared.reads-sslice 𝓤 H A W (Referent.rtF (Referent.fInt Syntax.w8)) (Syntax.tyRef (Syntax.named 0) Syntax.imm (Syntax.tyInt Syntax.w8)) 0,
                 Path'.refl,
                 (
                   (
-                    Yields.yields-copy 𝓤 H A W (λ ρ. Unit) (Declared.row Walk.the-type) Path'.refl (Copies.cEnum Walk.the-type
-                        Laws''.the-laws Laws''.the-copy .copy 𝓤 H A W) (Rows'.whole (Declared.row Walk.the-type)) (λ x. x) (λ x. x) (λ ρ told. Local.mem-whole 𝓤 H A W
-                        (Declared.row Walk.the-type) ρ) λ ρ told. Local.whole-mem 𝓤 H A W (Declared.row Walk.the-type) ρ,
+                    Yields.yields-copy 𝓤 H A W (λ ρ. Unit) (Declared.row Walk.the-type) Path'.refl (Copies.cEnum Walk.the-type Laws''.the-laws Laws''.the-copy .copy
+                        𝓤 H A W) (Rows'.whole (Declared.row Walk.the-type)) (λ x. x) (λ x. x) (λ ρ told. Local.mem-whole 𝓤 H A W (Declared.row Walk.the-type) ρ) λ ρ
+                        told. Local.whole-mem 𝓤 H A W (Declared.row Walk.the-type) ρ,
                     Path'.refl,
                   ),
-                  (
-                    (
-                      Scalar.reads-sc 𝓤 H A W (Row.sInt
-                          Syntax.w64),
-                      Path'.refl,
-                    ),
-                    tt,
-                  ),
+                  ((Scalar.reads-sc 𝓤 H A W (Row.sInt Syntax.w64), Path'.refl), tt),
                 ),
-              ) (Reads.room-gone 𝓤 H A ty-2) (tt, tt) Path'.refl) d37
+              ) (Reads.room-gone 𝓤 H A type-Cutting) (tt, tt) Path'.refl) d37
 
           d39 : Typed.Typed 𝓤 H A 𝓣 E G4 b38 Δ0 at39
           d39 = Typed.t-seq 𝓤 H A W 𝓣 E G4 G5 b24 b37 Δ0 at22 at38 d22 d38
@@ -1960,22 +1534,14 @@ module _ (claims· : Claims) where
 
           d41 : Typed.Typed 𝓤 H A 𝓣 E G2 b40 Δ0 at41
           d41 = Typed.s-seq 𝓤 H A W 𝓣 E G2 G3 b0 b39 Δ0 (Typed.both s1) at40 (Plain.t-call-plain 𝓤 H A W 𝓣 1 ps·0 r·0 (claims· .0) (claims· .1)
-              "packet::walk::begin" (known .0) E (λ pos β. β) G2 (
-                record {
-                  pos = 1;
-                  ty = Syntax.tyRef (Syntax.named 0) Syntax.imm (Syntax.tyInt Syntax.w8);
-                  ref
-                      = λ x. x;
-                },
-                tt,
-              ) 3 (List._∷_ 0 List.[]) (Call.sub-id 𝓤 H A W (G2 .slots)) (
-                ShrSlice.spares-sslice 𝓤 H A W (Referent.rtF (Referent.fInt Syntax.w8))
-                    (Syntax.tyRef (Syntax.named 0) Syntax.imm (Syntax.tyInt Syntax.w8)) 0,
-                Shared.reads-sslice 𝓤 H A W (Referent.rtF (Referent.fInt Syntax.w8))
-                    (Syntax.tyRef (Syntax.named 0) Syntax.imm (Syntax.tyInt Syntax.w8)) 0,
+              "packet::walk::begin" (known .0) E (λ pos β. β) G2
+              (record { pos = 1; ty = Syntax.tyRef (Syntax.named 0) Syntax.imm (Syntax.tyInt Syntax.w8); ref = λ x. x }, tt) 3 (List._∷_ 0 List.[]) (Call.sub-id
+              𝓤 H A W (G2 .slots)) (
+                ShrSlice.spares-sslice 𝓤 H A W (Referent.rtF (Referent.fInt Syntax.w8)) (Syntax.tyRef (Syntax.named 0) Syntax.imm (Syntax.tyInt Syntax.w8)) 0,
+                Shared.reads-sslice 𝓤 H A W (Referent.rtF (Referent.fInt Syntax.w8)) (Syntax.tyRef (Syntax.named 0) Syntax.imm (Syntax.tyInt Syntax.w8)) 0,
                 Path'.refl,
                 tt,
-              ) (Reads.room-gone 𝓤 H A ty-0) (tt, tt) Path'.refl) d40
+              ) (Reads.room-gone 𝓤 H A type-Walk) (tt, tt) Path'.refl) d40
 
           d42 : Typed.Typed 𝓤 H A 𝓣 E G0 b40 Δ0 at42
           d42 = Typed.g-pre 𝓤 H A W 𝓣 E G0 G2 b40 Δ0 (Typed.give s0) at41 (Know.g-shs-known 𝓤 H A W (Referent.fInt Syntax.w8) E G0 1 0 (Syntax.tyRef
@@ -1988,7 +1554,7 @@ module _ (claims· : Claims) where
       module _ (κs : Lifetimes.Lfts 2) where
         pub record Args : Type 0 where
           pub packet : Kinds.Den {n = 2} κs (ShrSlice.pShrS (Referent.rtF (Referent.fInt Syntax.w8)) 0 tt)
-          pub list : Kinds.Den {n = 2} κs (MutSlice.pMutS EntryKind.R 1 tt)
+          pub list : Kinds.Den {n = 2} κs (MutSlice.pMutS EntryKind.row 1 tt)
 
         abbrev pub dens : (a : Args) → Kinds.Dens κs ps
         dens = λ a. (a .packet, (a .list, tt))
@@ -2000,8 +1566,8 @@ module _ (claims· : Claims) where
       W0 = λ κs args. (
         λ u. ⊥,
         tt,
-        λ u. Enter.Fixs κs 1 ps xs (dens κs args) (u .1) × Post· κs (dens κs args) (Function.resV r κs (u .0)) (Clauses.atExit
-            (Kinds.endedOf 2 ps r) κs (dens κs args) (Enter.lastsP κs 1 ps xs (dens κs args) (u .1))),
+        λ u. Enter.Fixs κs 1 ps xs (dens κs args) (u .1) × Post· κs (dens κs args) (Function.resV r κs (u .0)) (Clauses.atExit (Kinds.endedOf 2 ps r) κs (dens
+            κs args) (Enter.lastsP κs 1 ps xs (dens κs args) (u .1))),
       )
 
       pub record Start : Type 0 where
@@ -2029,29 +1595,18 @@ module _ (claims· : Claims) where
 
       module _ (before· : After-shared-slice-known) where
         abbrev pub After-begin·own : Type 0
-        After-begin·own = Called.Called ps·0 r·0 (claims· .1) T2 (
-          record {
-            pos = 1;
-            ty = Syntax.tyRef (Syntax.named 0) Syntax.imm (Syntax.tyInt Syntax.w8);
-            ref
-                = λ x. x;
-          },
-          tt,
-        ) (m1 (before· .before) (before· .shared-slice-known .given))
+        After-begin·own = Called.Called ps·0 r·0 (claims· .1) T2
+            (record { pos = 1; ty = Syntax.tyRef (Syntax.named 0) Syntax.imm (Syntax.tyInt Syntax.w8); ref = λ x. x }, tt) (m1 (before· .before) (before·
+            .shared-slice-known .given))
 
       pub record After-begin : Type 0 where
         pub before : After-shared-slice-known
         pub begin : After-begin·own before
 
       abbrev pub After-begin·gave : (c : After-begin) → s1 .gives (m1 (c .before .before) (c .before .shared-slice-known .given))
-      After-begin·gave = λ c. Called.given ps·0 r·0 (claims· .1) T2 (
-        record {
-          pos = 1;
-          ty = Syntax.tyRef (Syntax.named 0) Syntax.imm (Syntax.tyInt Syntax.w8);
-          ref = λ x. x;
-        },
-        tt,
-      ) (m1 (c .before .before) (c .before .shared-slice-known .given)) (c .begin)
+      After-begin·gave = λ c. Called.given ps·0 r·0 (claims· .1) T2
+          (record { pos = 1; ty = Syntax.tyRef (Syntax.named 0) Syntax.imm (Syntax.tyInt Syntax.w8); ref = λ x. x }, tt) (m1 (c .before .before) (c .before
+          .shared-slice-known .given)) (c .begin)
 
       abbrev pub m3 : (before : After-shared-slice-known) → (given : s1 .gives (m1 (before .before) (before .shared-slice-known .given))) → Typed.Mo T4
       m3 = λ before given. s2 (m2 before given)
@@ -2068,40 +1623,32 @@ module _ (claims· : Claims) where
           c))) (Row.get 2 (T4 .locals) (m3 (c .before) (After-begin·gave c)) .now) (Row.get 3 (T4 .locals) (m3 (c .before) (After-begin·gave c))) (Row.get 4 (T4
           .locals) (m3 (c .before) (After-begin·gave c)))
 
-      abbrev pub m4 : (before : After-begin) → (list : List.List (EntryKind.R .Denot)) → (w : Rows'.whole (Declared.row Walk.the-type) .Mod) → (n :
+      abbrev pub m4 : (before : After-begin) → (list : List.List (EntryKind.row .Denot)) → (w : Rows'.whole (Declared.row Walk.the-type) .Mod) → (n :
           Rows'.sc-here (Row.sInt Syntax.w64) .Mod) → Typed.Mo T4
-      m4 = λ before list w n. Row.set 4 (4, Rows'.sc-here (Row.sInt Syntax.w64)) n (Row.setRow 3 (3, Rows'.whole (Declared.row Walk.the-type)) (Row.setRow 2 (
-        2,
-        Mut.mslice EntryKind.R (Syntax.tyRef (Syntax.named 1) Syntax.mut EntryKind.elem) 1,
-      ) (T4 .locals))) (Row.set 3 (
-        3,
-        Rows'.whole (Declared.row
-            Walk.the-type),
-      ) w (Row.setRow 2 (2, Mut.mslice EntryKind.R (Syntax.tyRef (Syntax.named 1) Syntax.mut EntryKind.elem) 1) (T4 .locals)) (Row.set 2 (
-        2,
-        Mut.mslice EntryKind.R (Syntax.tyRef (Syntax.named 1) Syntax.mut EntryKind.elem) 1,
-      ) record {
-        ptr = Row.get 2 (T4 .locals) (m3 (before .before)
-            (After-begin·gave before)) .ptr;
-        name = Row.get 2 (T4 .locals) (m3 (before .before) (After-begin·gave before)) .name;
-        now = list;
-      } (T4 .locals) (m3
-          (before .before) (After-begin·gave before))))
+      m4 = λ before list w n. Row.set 4 (4, Rows'.sc-here (Row.sInt Syntax.w64)) n (Row.setRow 3 (3, Rows'.whole (Declared.row Walk.the-type)) (Row.setRow 2
+          (2, Mut.mslice EntryKind.row (Syntax.tyRef (Syntax.named 1) Syntax.mut EntryKind.pointee) 1) (T4 .locals))) (Row.set 3
+          (3, Rows'.whole (Declared.row Walk.the-type)) w (Row.setRow 2
+          (2, Mut.mslice EntryKind.row (Syntax.tyRef (Syntax.named 1) Syntax.mut EntryKind.pointee) 1) (T4 .locals)) (Row.set 2
+          (2, Mut.mslice EntryKind.row (Syntax.tyRef (Syntax.named 1) Syntax.mut EntryKind.pointee) 1) record {
+            ptr = Row.get 2 (T4 .locals) (m3 (before .before) (After-begin·gave before)) .ptr;
+            name = Row.get 2 (T4 .locals) (m3 (before .before) (After-begin·gave before)) .name;
+            now = list;
+          } (T4 .locals) (m3 (before .before) (After-begin·gave before))))
 
-      abbrev W3 : (before : After-begin) → (list : List.List (EntryKind.R .Denot)) → (w : Rows'.whole (Declared.row Walk.the-type) .Mod) → (n : Rows'.sc-here
+      abbrev W3 : (before : After-begin) → (list : List.List (EntryKind.row .Denot)) → (w : Rows'.whole (Declared.row Walk.the-type) .Mod) → (n : Rows'.sc-here
           (Row.sInt Syntax.w64) .Mod) → Typed.Want O3
       W3 = λ before list w n. Typed.inLoop T4 O2 (Typed.Round T4 O2 put0 (λ u vs. Inv·0 (Row.get 1 (T4 .locals) u .now) (Row.get 2 (T4 .locals) u .now) (Row.get
           3 (T4 .locals) u) (Row.get 4 (T4 .locals) u) (vs .0) (vs .1) (vs .2)) (λ u vs. μ·0 (Row.get 1 (T4 .locals) u .now) (Row.get 2 (T4 .locals) u .now)
           (Row.get 3 (T4 .locals) u) (Row.get 4 (T4 .locals) u) (vs .0) (vs .1) (vs .2)) at20 (m3 (before .before) (After-begin·gave before)) (list, w, n)) (W2
           (before .before) (After-begin·gave before))
 
-      abbrev pub m5 : (before : After-begin) → (list : List.List (EntryKind.R .Denot)) → (w : Rows'.whole (Declared.row Walk.the-type) .Mod) → (n :
+      abbrev pub m5 : (before : After-begin) → (list : List.List (EntryKind.row .Denot)) → (w : Rows'.whole (Declared.row Walk.the-type) .Mod) → (n :
           Rows'.sc-here (Row.sInt Syntax.w64) .Mod) → Typed.Mo T6
       m5 = λ before list w n. s3 (m4 before list w n)
 
       module _ (before· : After-begin) where
         pub record At-loop·own : Type 0 where
-          pub list : List.List (EntryKind.R .Denot)
+          pub list : List.List (EntryKind.row .Denot)
           pub w : Rows'.whole (Declared.row Walk.the-type) .Mod
           pub n : Rows'.sc-here (Row.sInt Syntax.w64) .Mod
           pub inv : Inv·0 (Row.get 1 (T4 .locals) (m3 (before· .before) (After-begin·gave before·)) .now) (Row.get 2 (T4 .locals) (m3 (before· .before)
@@ -2120,33 +1667,18 @@ module _ (claims· : Claims) where
 
       module _ (before· : At-loop) where
         abbrev pub After-below·own : Type 0
-        After-below·own = Called.Called ps·1 r·1 (claims· .3) T6 (
-          record { pos = 3; st = List.[]; d = 0; at = λ x. x },
-          (
-            Num.vAt 4 λ x. x,
-            (
-              Num.vAt 10 λ x. x,
-              tt,
-            ),
-          ),
-        ) (m5 (before· .before) (before· .loop .list) (before· .loop .w) (before· .loop .n))
+        After-below·own = Called.Called ps·1 r·1 (claims· .3) T6
+            (record { pos = 3; st = List.[]; d = 0; at = λ x. x }, (Num.vAt 4 λ x. x, (Num.vAt 10 λ x. x, tt))) (m5 (before· .before) (before· .loop .list)
+            (before· .loop .w) (before· .loop .n))
 
       pub record After-below : Type 0 where
         pub before : At-loop
         pub below : After-below·own before
 
       abbrev pub After-below·gave : (c : After-below) → s4 .gives (m5 (c .before .before) (c .before .loop .list) (c .before .loop .w) (c .before .loop .n))
-      After-below·gave = λ c. Called.given ps·1 r·1 (claims· .3) T6 (
-        record { pos = 3; st = List.[]; d = 0; at = λ x. x },
-        (
-          Num.vAt 4 λ x. x,
-          (
-            Num.vAt 10 λ x.
-                x,
-            tt,
-          ),
-        ),
-      ) (m5 (c .before .before) (c .before .loop .list) (c .before .loop .w) (c .before .loop .n)) (c .below)
+      After-below·gave = λ c. Called.given ps·1 r·1 (claims· .3) T6
+          (record { pos = 3; st = List.[]; d = 0; at = λ x. x }, (Num.vAt 4 λ x. x, (Num.vAt 10 λ x. x, tt))) (m5 (c .before .before) (c .before .loop .list) (c
+          .before .loop .w) (c .before .loop .n)) (c .below)
 
       abbrev W4 : (before : At-loop) → (given : s4 .gives (m5 (before .before) (before .loop .list) (before .loop .w) (before .loop .n))) → Typed.Want O4
       W4 = λ before given. Typed.wantNext T8 O3 (at17 (W3 (before .before) (before .loop .list) (before .loop .w) (before .loop .n))) (W3 (before .before)
@@ -2186,12 +1718,7 @@ module _ (claims· : Claims) where
       module _ (before· : Then1) where
         abbrev pub After-step·own : Type 0
         After-step·own = Called.Called ps·2 r·2 (claims· .5) T8 (
-          record {
-            pos = 1;
-            ty = Syntax.tyRef (Syntax.named 0) Syntax.imm (Syntax.tyInt Syntax.w8);
-            ref =
-                λ x. x;
-          },
+          record { pos = 1; ty = Syntax.tyRef (Syntax.named 0) Syntax.imm (Syntax.tyInt Syntax.w8); ref = λ x. x },
           (record { pos = 3; st = List.[]; d = 0; at = λ x. x }, tt),
         ) (m8 (before· .before))
 
@@ -2201,11 +1728,7 @@ module _ (claims· : Claims) where
 
       abbrev pub After-step·gave : (c : After-step) → s8 .gives (m8 (c .before .before))
       After-step·gave = λ c. Called.given ps·2 r·2 (claims· .5) T8 (
-        record {
-          pos = 1;
-          ty = Syntax.tyRef (Syntax.named 0) Syntax.imm (Syntax.tyInt Syntax.w8);
-          ref = λ x. x;
-        },
+        record { pos = 1; ty = Syntax.tyRef (Syntax.named 0) Syntax.imm (Syntax.tyInt Syntax.w8); ref = λ x. x },
         (record { pos = 3; st = List.[]; d = 0; at = λ x. x }, tt),
       ) (m8 (c .before .before)) (c .step)
 
@@ -2315,11 +1838,7 @@ module _ (claims· : Claims) where
       module _ (before· : Else1) where
         abbrev pub After-counted·own : Type 0
         After-counted·own = Called.Called ps·5 r·5 (claims· .11) T5 (
-          record {
-            pos = 1;
-            ty = Syntax.tyRef (Syntax.named 0) Syntax.imm (Syntax.tyInt Syntax.w8);
-            ref = λ x. x;
-          },
+          record { pos = 1; ty = Syntax.tyRef (Syntax.named 0) Syntax.imm (Syntax.tyInt Syntax.w8); ref = λ x. x },
           (record { pos = 3; st = List.[]; d = 0; at = λ x. x }, (Num.vAt 4 λ x. x, tt)),
         ) (m9 (before· .before))
 
@@ -2329,12 +1848,7 @@ module _ (claims· : Claims) where
 
       abbrev pub After-counted·gave : (c : After-counted) → s20 .gives (m9 (c .before .before))
       After-counted·gave = λ c. Called.given ps·5 r·5 (claims· .11) T5 (
-        record {
-          pos = 1;
-          ty = Syntax.tyRef (Syntax.named 0) Syntax.imm (Syntax.tyInt
-              Syntax.w8);
-          ref = λ x. x;
-        },
+        record { pos = 1; ty = Syntax.tyRef (Syntax.named 0) Syntax.imm (Syntax.tyInt Syntax.w8); ref = λ x. x },
         (record { pos = 3; st = List.[]; d = 0; at = λ x. x }, (Num.vAt 4 λ x. x, tt)),
       ) (m9 (c .before .before)) (c .counted)
 
@@ -2382,29 +1896,18 @@ module _ (claims· : Claims) where
 
       module _ (before· : After-clear-arg) where
         abbrev pub After-clear·own : Type 0
-        After-clear·own = Called.Called ps·7 r·7 (claims· .15) T29 (
-          record {
-            pos = 14;
-            ty = Syntax.tyRef Syntax.erased Syntax.mut EntryKind.elem;
-            ref = λ x. x;
-          },
-          (Num.vAt 8 λ x. x, tt),
-        ) (m26 (before· .before) (before· .clear-arg .given))
+        After-clear·own = Called.Called ps·7 r·7 (claims· .15) T29
+            (record { pos = 14; ty = Syntax.tyRef Syntax.erased Syntax.mut EntryKind.pointee; ref = λ x. x }, (Num.vAt 8 λ x. x, tt)) (m26 (before· .before)
+            (before· .clear-arg .given))
 
       pub record After-clear : Type 0 where
         pub before : After-clear-arg
         pub clear : After-clear·own before
 
       abbrev pub After-clear·gave : (c : After-clear) → s26 .gives (m26 (c .before .before) (c .before .clear-arg .given))
-      After-clear·gave = λ c. Called.given ps·7 r·7 (claims· .15) T29 (
-        record {
-          pos = 14;
-          ty = Syntax.tyRef Syntax.erased Syntax.mut EntryKind.elem;
-          ref = λ x.
-              x;
-        },
-        (Num.vAt 8 λ x. x, tt),
-      ) (m26 (c .before .before) (c .before .clear-arg .given)) (c .clear)
+      After-clear·gave = λ c. Called.given ps·7 r·7 (claims· .15) T29
+          (record { pos = 14; ty = Syntax.tyRef Syntax.erased Syntax.mut EntryKind.pointee; ref = λ x. x }, (Num.vAt 8 λ x. x, tt)) (m26 (c .before .before) (c
+          .before .clear-arg .given)) (c .clear)
 
       abbrev pub m28 : (before : After-clear-arg) → (given : s26 .gives (m26 (before .before) (before .clear-arg .given))) → Typed.Mo T31
       m28 = λ before given. s27 (m27 before given)
@@ -2459,15 +1962,11 @@ module _ (claims· : Claims) where
             (
               Path'.refl,
               (
-                MutSlice.fix-len (Row.get 2 (T38 .locals) (m33 record { before = c .before; clear = c .clear } g) .ptr)
-                    (Row.get 2 (T38 .locals) (m33 record { before = c .before; clear = c .clear } g) .name) (Row.get 2 (T38 .locals) (m33 record {
-                      before = c .before;
-                      clear = c .clear;
-                    } g) .now) (dens (c .before .before .before .before .before .before .before .before .before .κs) (c .before .before .before
-                    .before .before .before .before .before .before .args) .1 .0 .now) (same-length record {
-                      before = record { before = c .before; clear = c .clear };
-                      list = record { given = g };
-                    }),
+                MutSlice.fix-len (Row.get 2 (T38 .locals) (m33 record { before = c .before; clear = c .clear } g) .ptr) (Row.get 2 (T38 .locals) (m33
+                    record { before = c .before; clear = c .clear } g) .name) (Row.get 2 (T38 .locals) (m33 record { before = c .before; clear = c .clear } g)
+                    .now) (dens (c .before .before .before .before .before .before .before .before .before .κs) (c .before .before .before .before .before
+                    .before .before .before .before .args) .1 .0 .now) (same-length
+                    record { before = record { before = c .before; clear = c .clear }; list = record { given = g } }),
                 tt,
               ),
             ),
@@ -2480,21 +1979,12 @@ module _ (claims· : Claims) where
         lay9 = λ c. λ g. (
           Path'.refl,
           (
-            clear-requires record {
-              before = record { before = c .before; count-in = c .count-in };
-              clear-arg = record { given = g };
-            },
+            clear-requires record { before = record { before = c .before; count-in = c .count-in }; clear-arg = record { given = g } },
             λ g'. lay10 record {
               before = record { before = record { before = c .before; count-in = c .count-in }; clear-arg = record { given = g } };
-              clear
-                  = Called.called ps·7 r·7 (claims· .15) T29 (
-                    record { pos = 14; ty = Syntax.tyRef Syntax.erased Syntax.mut EntryKind.elem; ref = λ x. x },
-                    (
-                      Num.vAt
-                          8 λ x. x,
-                      tt,
-                    ),
-                  ) (m26 record { before = c .before; count-in = c .count-in } g) g';
+              clear = Called.called ps·7 r·7 (claims· .15) T29
+                  (record { pos = 14; ty = Syntax.tyRef Syntax.erased Syntax.mut EntryKind.pointee; ref = λ x. x }, (Num.vAt 8 λ x. x, tt)) (m26
+                  record { before = c .before; count-in = c .count-in } g) g';
             },
           ),
         )
@@ -2504,13 +1994,9 @@ module _ (claims· : Claims) where
         lay8 = λ c. (
           count-in-requires record { before = c .before; counted = c .counted },
           λ g. lay9 record {
-            before = record {
-              before = c .before;
-              counted = c
-                  .counted;
-            };
-            count-in = Called.called ps·6 r·6 (claims· .13) T25 (record { pos = 7; st = List.[]; d = 0; at = λ x. x }, tt) (m23 (c .before)
-                (After-counted·gave c)) g;
+            before = record { before = c .before; counted = c .counted };
+            count-in = Called.called ps·6 r·6 (claims· .13) T25 (record { pos = 7; st = List.[]; d = 0; at = λ x. x }, tt) (m23 (c .before) (After-counted·gave
+                c)) g;
           },
         )
 
@@ -2520,12 +2006,7 @@ module _ (claims· : Claims) where
           λ g. lay8 record {
             before = record { before = c .before; if1 = c .if1 };
             counted = Called.called ps·5 r·5 (claims· .11) T5 (
-              record {
-                pos = 1;
-                ty = Syntax.tyRef (Syntax.named 0) Syntax.imm (Syntax.tyInt Syntax.w8);
-                ref = λ
-                    x. x;
-              },
+              record { pos = 1; ty = Syntax.tyRef (Syntax.named 0) Syntax.imm (Syntax.tyInt Syntax.w8); ref = λ x. x },
               (record { pos = 3; st = List.[]; d = 0; at = λ x. x }, (Num.vAt 4 λ x. x, tt)),
             ) (m9 (c .before)) g;
           },
@@ -2536,31 +2017,29 @@ module _ (claims· : Claims) where
         lay6 = λ c. (
           add-n record { before = c .before; walk-in = c .walk-in },
           (
-            μ·0 (Row.get 1 (T4 .locals) (m3 (c .before .before .before .before .before
-                .before .before) (After-begin·gave (c .before .before .before .before .before .before))) .now) (Row.get 2 (T4 .locals) (m3 (c .before .before
-                .before .before .before .before .before) (After-begin·gave (c .before .before .before .before .before .before))) .now) (Row.get 3 (T4 .locals) (m3
-                (c .before .before .before .before .before .before .before) (After-begin·gave (c .before .before .before .before .before .before)))) (Row.get 4 (T4
-                .locals) (m3 (c .before .before .before .before .before .before .before) (After-begin·gave (c .before .before .before .before .before .before))))
-                (Row.get 2 (T4 .locals) (m21 (c .before) (After-walk-in·gave c)) .now) (Row.get 3 (T4 .locals) (m21 (c .before) (After-walk-in·gave c))) (Row.get 4
-                (T4 .locals) (m21 (c .before) (After-walk-in·gave c))),
+            μ·0 (Row.get 1 (T4 .locals) (m3 (c .before .before .before .before .before .before .before) (After-begin·gave (c .before .before .before .before
+                .before .before))) .now) (Row.get 2 (T4 .locals) (m3 (c .before .before .before .before .before .before .before) (After-begin·gave (c .before
+                .before .before .before .before .before))) .now) (Row.get 3 (T4 .locals) (m3 (c .before .before .before .before .before .before .before)
+                (After-begin·gave (c .before .before .before .before .before .before)))) (Row.get 4 (T4 .locals) (m3 (c .before .before .before .before .before
+                .before .before) (After-begin·gave (c .before .before .before .before .before .before)))) (Row.get 2 (T4 .locals) (m21 (c .before)
+                (After-walk-in·gave c)) .now) (Row.get 3 (T4 .locals) (m21 (c .before) (After-walk-in·gave c))) (Row.get 4 (T4 .locals) (m21 (c .before)
+                (After-walk-in·gave c))),
             loop-less record { before = c .before; walk-in = c .walk-in },
             (
               (
-                Row.get 2 (T4 .locals) (m21
-                    (c .before) (After-walk-in·gave c)) .now,
+                Row.get 2 (T4 .locals) (m21 (c .before) (After-walk-in·gave c)) .now,
                 Row.get 3 (T4 .locals) (m21 (c .before) (After-walk-in·gave c)),
-                Row.get 4 (T4 .locals) (m21 (c .before)
-                    (After-walk-in·gave c)),
+                Row.get 4 (T4 .locals) (m21 (c .before) (After-walk-in·gave c)),
               ),
               Path'.refl {a = m21 (c .before) (After-walk-in·gave c)},
               loop-again record { before = c .before; walk-in = c .walk-in },
               Path'.refl {a = μ·0 (Row.get 1 (T4 .locals) (m3 (c .before .before .before .before .before .before .before) (After-begin·gave (c .before .before
-                  .before .before .before .before))) .now) (Row.get 2 (T4 .locals) (m3 (c .before .before .before .before .before .before .before) (After-begin·gave
-                  (c .before .before .before .before .before .before))) .now) (Row.get 3 (T4 .locals) (m3 (c .before .before .before .before .before .before .before)
-                  (After-begin·gave (c .before .before .before .before .before .before)))) (Row.get 4 (T4 .locals) (m3 (c .before .before .before .before .before
-                  .before .before) (After-begin·gave (c .before .before .before .before .before .before)))) (Row.get 2 (T4 .locals) (m21 (c .before)
-                  (After-walk-in·gave c)) .now) (Row.get 3 (T4 .locals) (m21 (c .before) (After-walk-in·gave c))) (Row.get 4 (T4 .locals) (m21 (c .before)
-                  (After-walk-in·gave c)))},
+                  .before .before .before .before))) .now) (Row.get 2 (T4 .locals) (m3 (c .before .before .before .before .before .before .before)
+                  (After-begin·gave (c .before .before .before .before .before .before))) .now) (Row.get 3 (T4 .locals) (m3 (c .before .before .before .before
+                  .before .before .before) (After-begin·gave (c .before .before .before .before .before .before)))) (Row.get 4 (T4 .locals) (m3 (c .before
+                  .before .before .before .before .before .before) (After-begin·gave (c .before .before .before .before .before .before)))) (Row.get 2 (T4
+                  .locals) (m21 (c .before) (After-walk-in·gave c)) .now) (Row.get 3 (T4 .locals) (m21 (c .before) (After-walk-in·gave c))) (Row.get 4 (T4
+                  .locals) (m21 (c .before) (After-walk-in·gave c)))},
             ),
           ),
         )
@@ -2572,24 +2051,13 @@ module _ (claims· : Claims) where
           (
             tt,
             (
-              (
-                Path'.refl,
-                Path'.refl,
-                slice-set-from-e record {
-                  before = c .before;
-                  entry-in = c .entry-in;
-                },
-              ),
+              (Path'.refl, Path'.refl, slice-set-from-e record { before = c .before; entry-in = c .entry-in }),
               (
                 walk-in-requires record { before = c .before; entry-in = c .entry-in },
                 λ g. lay6 record {
-                  before = record {
-                    before = c
-                        .before;
-                    entry-in = c .entry-in;
-                  };
-                  walk-in = Called.called ps·4 r·4 (claims· .9) T20 (record { pos = 5; st = List.[]; d = 0; at = λ x. x }, tt) (m18
-                      (c .before) (After-entry-in·gave c)) g;
+                  before = record { before = c .before; entry-in = c .entry-in };
+                  walk-in = Called.called ps·4 r·4 (claims· .9) T20 (record { pos = 5; st = List.[]; d = 0; at = λ x. x }, tt) (m18 (c .before)
+                      (After-entry-in·gave c)) g;
                 },
               ),
             ),
@@ -2613,11 +2081,10 @@ module _ (claims· : Claims) where
           step-requires record { before = c .before; if1 = c .if1 },
           λ g. lay4 record {
             before = record { before = c .before; if1 = c .if1 };
-            step =
-                Called.called ps·2 r·2 (claims· .5) T8 (
-                  record { pos = 1; ty = Syntax.tyRef (Syntax.named 0) Syntax.imm (Syntax.tyInt Syntax.w8); ref = λ x. x },
-                  (record { pos = 3; st = List.[]; d = 0; at = λ x. x }, tt),
-                ) (m8 (c .before)) g;
+            step = Called.called ps·2 r·2 (claims· .5) T8 (
+              record { pos = 1; ty = Syntax.tyRef (Syntax.named 0) Syntax.imm (Syntax.tyInt Syntax.w8); ref = λ x. x },
+              (record { pos = 3; st = List.[]; d = 0; at = λ x. x }, tt),
+            ) (m8 (c .before)) g;
           },
         )
 
@@ -2625,10 +2092,7 @@ module _ (claims· : Claims) where
             (After-below·gave c))
         lay2 = λ c. (
           λ taken. lay3 record { before = record { before = c .before; below = c .below }; if1 = record { taken = taken } },
-          λ left. lay7 record {
-            before = record { before = c .before; below = c .below };
-            if1 = record { left = left };
-          },
+          λ left. lay7 record { before = record { before = c .before; below = c .below }; if1 = record { left = left } },
         )
 
         lay1 : (c : After-begin) → at40 (W0 (c .before .before .κs) (c .before .before .args)) (m2 (c .before) (After-begin·gave c))
@@ -2637,46 +2101,17 @@ module _ (claims· : Claims) where
             (
               Row.get 2 (T4 .locals) (m3 (c .before) (After-begin·gave c)) .now,
               Row.get 3 (T4 .locals) (m3 (c .before) (After-begin·gave c)),
-              Row.get
-                  4 (T4 .locals) (m3 (c .before) (After-begin·gave c)),
+              Row.get 4 (T4 .locals) (m3 (c .before) (After-begin·gave c)),
             ),
             Path'.refl {a = m3 (c .before) (After-begin·gave c)},
-            loop-holds record {
-              before = c .before;
-              begin = c .begin;
-            },
+            loop-holds record { before = c .before; begin = c .begin },
           ),
           λ vs inv. (
-            below-requires record {
-              before = record { before = c .before; begin = c .begin };
-              loop = record {
-                list = vs .0;
-                w =
-                    vs .1;
-                n = vs .2;
-                inv = inv;
-              };
-            },
+            below-requires record { before = record { before = c .before; begin = c .begin }; loop = record { list = vs .0; w = vs .1; n = vs .2; inv = inv } },
             λ g. lay2 record {
-              before = record {
-                before = record { before = c .before; begin = c .begin };
-                loop = record {
-                  list = vs .0;
-                  w = vs .1;
-                  n = vs .2;
-                  inv = inv;
-                };
-              };
-              below = Called.called ps·1 r·1 (claims· .3) T6 (
-                record {
-                  pos = 3;
-                  st = List.[];
-                  d = 0;
-                  at = λ x.
-                      x;
-                },
-                (Num.vAt 4 λ x. x, (Num.vAt 10 λ x. x, tt)),
-              ) (m5 record { before = c .before; begin = c .begin } (vs .0) (vs .1) (vs .2)) g;
+              before = record { before = record { before = c .before; begin = c .begin }; loop = record { list = vs .0; w = vs .1; n = vs .2; inv = inv } };
+              below = Called.called ps·1 r·1 (claims· .3) T6 (record { pos = 3; st = List.[]; d = 0; at = λ x. x }, (Num.vAt 4 λ x. x, (Num.vAt 10 λ x. x, tt)))
+                  (m5 record { before = c .before; begin = c .begin } (vs .0) (vs .1) (vs .2)) g;
             },
           ),
         )
@@ -2685,19 +2120,9 @@ module _ (claims· : Claims) where
         laid = λ c. λ g. (
           begin-requires record { before = c; shared-slice-known = record { given = g } },
           λ g'. lay1 record {
-            before = record {
-              before = c;
-              shared-slice-known = record { given = g };
-            };
-            begin = Called.called ps·0 r·0 (claims· .1) T2 (
-              record {
-                pos = 1;
-                ty = Syntax.tyRef (Syntax.named 0)
-                    Syntax.imm (Syntax.tyInt Syntax.w8);
-                ref = λ x. x;
-              },
-              tt,
-            ) (m1 c g) g';
+            before = record { before = c; shared-slice-known = record { given = g } };
+            begin = Called.called ps·0 r·0 (claims· .1) T2
+                (record { pos = 1; ty = Syntax.tyRef (Syntax.named 0) Syntax.imm (Syntax.tyInt Syntax.w8); ref = λ x. x }, tt) (m1 c g) g';
           },
         )
 
@@ -2714,13 +2139,5 @@ module _ (claims· : Claims) where
             A W 𝓣 0 ps·6 r·6 (claims· .12) (claims· .13) "packet::entry::count_in") (known7 : Plain.Known 𝓤 H A W 𝓣 1 ps·7 r·7 (claims· .14) (claims· .15)
             "packet::entry::clear") where
           pub spec : Statement.Triple 𝓤 (Wp.WpFn 𝓤 H (𝓣 .C) (𝓣 .Λ) (Function.fnOf 2 ps r xs m hs body)) (Function.plainOf 𝓤 H A 2 ps r Pre· Post·)
-          spec = Plain.t-fn-plain 𝓤 H A W 𝓣 2 ps r xs m hs body (λ κs qs bs. Φ) (λ κs qs bs bd. typed κs qs 𝓤 H A W 𝓣 (
-            known0,
-            known1,
-            known2,
-            known3,
-            known4,
-            known5,
-            known6,
-            known7,
-          ) bs bd) Pre· Post· asked
+          spec = Plain.t-fn-plain 𝓤 H A W 𝓣 2 ps r xs m hs body (λ κs qs bs. Φ) (λ κs qs bs bd. typed κs qs 𝓤 H A W 𝓣
+              (known0, known1, known2, known3, known4, known5, known6, known7) bs bd) Pre· Post· asked
