@@ -20,10 +20,10 @@ use Rattle.image.specs.declared.reading.Step.{Step}
 use Rattle.image.specs.declared.reading.Step.the-variants.{Next, Stop}
 use Rattle.image.specs.declared.taking.Taken.the-variants.{Found, Bad}
 use Rattle.image.specs.Taking.{recordAt}
-use Rattle.image.specs.Out.{Out, end, stop, _>>=_, row, pour, poured, Grown, bytes, settled, Written, written, unwritten}
+use Rattle.image.specs.Out.{Out, end, stop, put, _>>=_, row, numberBytes, pour, poured, Grown, bytes, settled, Written, written, unwritten}
 use Rattle.image.proofs.Laws.{size-some}
 use Rattle.image.proofs.Found.{found-stood}
-use Rattle.image.proofs.Pouring.{Slim, pour-then, pour-halt, pour-stop, pour-end, went, bytes-bind, settled-stop, settled-halt, settled-over, settled-full, settled-fits}
+use Rattle.image.proofs.Pouring.{Slim, row-number, pour-then, pour-halt, pour-stop, pour-end, went, bytes-bind, settled-stop, settled-halt, settled-over, settled-full, settled-fits}
 use Rattle.amf0.specs.declared.write.Rest.the-variants.{Nothing, Pairs, Dense, Values}
 use Rattle.amf0.specs.declared.write.Shape.{Shape}
 use Rattle.amf0.specs.declared.write.Shape.the-variants as S
@@ -121,6 +121,12 @@ module _ (image text : List ℕ) (at : ℕ) where
   unfolding value
   value-shaped zero z e f = absurd (z refl)
   value-shaped (suc left) z e f = rw (e, f, sub-one (suc left))
+
+  -- a number, whatever the text
+  pub value-number : (left : ℕ) {n : ℕ} {c : Cursor} → (left ≡ 0 → ⊥) → recordAt image at ≡ Found (Number n) c
+      → value left image text at ≡ put (numberBytes n) (end (c .at))
+  unfolding rest
+  value-number left {n} {c} z e = value-shaped left z e refl ∙ row-number text _ n at (end (c .at)) refl
 
   -- ---- pairs
 

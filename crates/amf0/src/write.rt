@@ -3,10 +3,12 @@ use image::reading::Step;
 use image::record::Field;
 use image::record::Record;
 use image::taking::Taken;
+use image::taking::number_here;
 use image::taking::record_at;
 use image::writing::Row;
 use image::writing::Writing;
 use image::writing::emit;
+use image::writing::emit_number;
 use wire::answer::ACCEPTED;
 use wire::answer::NO_ROOM;
 use wire::answer::NO_TREE;
@@ -16,6 +18,7 @@ use wire::bytes::decimal_width;
 use wire::bytes::write_decimal;
 use wire::cursor::Cursor;
 use wire::cursor::U8;
+use wire::cursor::U64;
 use wire::limit;
 use wire::number::write_number;
 ghost use mathlib.Core.Path.{_≡_};
@@ -198,6 +201,9 @@ fn value(out: &mut [u8], image: &[u8], text: &[u8], c: Cursor, count: usize, lef
             return Step::Stop(TOO_DEEP, at);
         }
         return Step::Stop(NO_TREE, at);
+    }
+    if let U64::Got(n, e) = number_here(image, c) {
+        return emit_number(out, count, n, e);
     }
     match record_at(image, c) {
         Taken::Bad => Step::Stop(NO_TREE, at),

@@ -7,11 +7,12 @@ use native.Mathlib.Nat.{add-zero, add-assoc, zero-add}
 use native.Mathlib.Omega.{arith}
 use lib.ListN.{length, length-append, length-take, length-drop}
 use lib.Seq.{sets, sets-eq, length-sets}
-use borrow.Author.Tests.{leb-true}
+use borrow.Author.Tests.{leb-true, le-leb}
 use Rattle.wire.specs.Choice.{pick}
 use Rattle.wire.specs.Bytes.{laid}
 use Rattle.wire.specs.Field.{to}
 use Rattle.wire.specs.Text.{insideOf}
+use Rattle.wire.specs.Utf8.{ends}
 use Rattle.wire.specs.Limit as limit
 use Rattle.wire.specs.declared.cursor.Cursor.{Cursor}
 use Rattle.wire.proofs.Laws.{pick-yes, pick-no, picked, length-digits, length-laid, laid-room, sets-append, then-sets, false-true}
@@ -19,7 +20,7 @@ use Rattle.image.specs.declared.reading.Step.{Step}
 use Rattle.image.specs.declared.reading.Step.the-variants.{Next, Stop}
 use Rattle.image.specs.declared.writing.Row.{Row}
 use Rattle.image.specs.Record.{fieldBytes}
-use Rattle.image.specs.Out.{Out, end, stop, put, _>>=_, textOf, rowBytes, namedOf, row, most, rowIn, Poured, poured, pour, Grown, bytes, written, unwritten, sized, ended, settled, onto}
+use Rattle.image.specs.Out.{Out, end, stop, put, _>>=_, textOf, rowBytes, namedOf, row, most, rowIn, numberBytes, numberIn, Poured, poured, pour, Grown, bytes, written, unwritten, sized, ended, settled, onto}
 use Rattle.image.proofs.Laws.{Laid}
 
 -- ---- one writing and then another
@@ -277,3 +278,22 @@ module _ (text : List ℕ) (r : Row) (at q count : ℕ) (out : List ℕ) (s : Sl
   pub row-halt : (k : ℕ → Out) {a p : ℕ} {o : List ℕ} → poured (Stop a p) o ≡ pour (rowIn count text r at (end q)) count out
       → pour (row text r at (k q)) count out ≡ poured (Stop a p) o
   row-halt k e = rw (row-bind text r at q k) (pour-halt (row text r at (end q)) k count out (e ∙ rw row-in))
+
+-- ---- a number
+
+pub numberIn-over : (count n : ℕ) (d : Out) → most < count → numberIn count n d ≡ stop 1 0
+unfolding numberIn
+numberIn-over count n d h = pick-no count most _ _ h
+
+pub numberIn-in : (count n : ℕ) (d : Out) → count ≤ most → numberIn count n d ≡ put (numberBytes n) d
+unfolding numberIn
+numberIn-in count n d h = pick-yes count most _ _ h
+
+pub length-number : (n : ℕ) → length (numberBytes n) ≡ 9
+length-number n = refl
+
+-- a row of a number and no text
+pub row-number : (text : List ℕ) (r : Row) (n at : ℕ) (d : Out)
+    → r ≡ record { mark = record { width = 1; number = 0x00 }; a = record { width = 8; number = n }; b = record { width = 0; number = 0 }; place = 0; length = 0 } → row text r at d ≡ put (numberBytes n) d
+unfolding row ends
+row-number text r n at d e = rw (e, le-leb 0 (length text) (omega arith))

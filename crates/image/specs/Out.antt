@@ -1,11 +1,12 @@
 -- A writing, with no word of room: the rows of bytes in the order in which they are put out, and how the writing ends.
 use Prim.Native.Nat.{ℕ, _+_, _≤_}
 use mathlib.Core.Path.{_≡_}
-use mathlib.Core.List.{List, [], _++_}
+use mathlib.Core.List.{List, [], _∷_, _++_}
 use mathlib.Core.Bool.{Bool, false}
 use lib.ListN.{length, drop}
 use lib.Dec.{leb}
 use Rattle.wire.specs.Choice.{pick}
+use Rattle.wire.specs.Number.{digits}
 use Rattle.wire.specs.Bytes.{laid}
 use Rattle.wire.specs.Field.{to}
 use Rattle.wire.specs.Text.{insideOf, partOf}
@@ -64,6 +65,13 @@ rowIn count text r at d =
     (stop 1 0))
     (stop 1 0))
     (stop 1 0)
+
+-- a number in eight bytes behind the marker 00, behind so many bytes: a row without a text
+abbrev pub numberBytes : ℕ → List ℕ
+numberBytes n = 0x00 ∷ digits 8 n
+
+unfoldable pub numberIn : ℕ → ℕ → Out → Out
+numberIn count n d = pick (leb count most) (put (numberBytes n) d) (stop 1 0)
 
 -- ---- a writing carried out
 

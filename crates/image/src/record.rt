@@ -138,7 +138,7 @@ pub fn layout_of(r: Record) -> Layout
 }
 
 // How many image bytes a record takes.
-pub fn record_size(r: Record) -> usize
+pub(crate) fn record_size(r: Record) -> usize
     ensures { λ n. ⌜ n ≡ size r ⌝ }
 {
     let l = layout_of(r);

@@ -1,12 +1,11 @@
 -- The laws of a row of entries' numbers.
-use Prim.Native.Nat.{ℕ, suc, _+_, _*_, _-_, _≤_, _<_}
+use Prim.Native.Nat.{ℕ, suc, _+_, _*_, _-_, _≤_}
 use mathlib.Core.Path.{_≡_, refl, sym, ap, _∙_}
 use mathlib.Core.List.{List, [], _∷_, _++_, append-assoc, append-nil}
 use native.Mathlib.Omega.{arith}
-use lib.ListN.{length, take, drop, replicate, length-append, length-take}
+use lib.ListN.{length, take, drop, replicate, length-append}
 use lib.Seq.{sets, sets-eq, take-at, length-take-le}
 use borrow.Author.Tests.{le-leb, lt-leb}
-use Rattle.image.specs.Whole.{padded}
 use Rattle.packet.specs.declared.head.Entry.{Entry}
 use Rattle.packet.specs.Entry.{Cut, found, stops, listed}
 use Rattle.packet.specs.Code.{ahead, aheads, countedIn}

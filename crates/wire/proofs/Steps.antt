@@ -1,23 +1,25 @@
 -- What one more byte does: to the UTF-8 check, and to the comparison of two rows.
-use Prim.Native.Nat.{ℕ, zero, suc, _+_, _≤_, _<_}
-use mathlib.Core.Path.{_≡_, refl, ap, _∙_}
+use Prim.Native.Nat.{ℕ, zero, suc, _+_, _-_, _≤_, _<_}
+use mathlib.Core.Path.{_≡_, refl, sym, ap, _∙_}
 use mathlib.Core.List.{List, [], _∷_}
-use mathlib.Core.Bool.{Bool, true, false}
+use mathlib.Core.Bool.{Bool, true, false, _&&_, _||_, Bool·beq}
 use mathlib.Core.Logic.{_⊎_, ⊎-elim}
 use native.Mathlib.Numerals.{add-one}
 use native.Mathlib.Omega.{arith}
 use lib.ListN.{length, getD, drop, drop-of-length-le}
 use lib.Seq.{drop-cons}
 use lib.Bits.{bitOr, or-add-and, and-le-l, and-le-r}
-use lib.Dec.{leb, eqb, T}
-use borrow.Author.Tests.{le-leb, lt-leb, leb-true, eq-eqb, ne-eqb}
+use lib.Dec.{leb, ltb, eqb, T}
+use borrow.Author.Tests.{le-leb, lt-leb, leb-true, leb-false, eq-eqb, ne-eqb, eqb-true, eqb-false, ltb-true, ltb-false, lt-ltb, le-ltb}
 use Rattle.wire.specs.declared.utf8.Lead.{Lead}
 use Rattle.wire.specs.declared.utf8.Lead.the-variants.{Bad}
+use Rattle.wire.specs.declared.utf8.Step.{Step}
 use Rattle.wire.specs.declared.utf8.Step.the-variants.{To, Stuck}
 use Rattle.wire.specs.Choice.{pick}
-use Rattle.wire.specs.Utf8.{Range, Form, _to_, has, forms, begun, ends}
-use Rattle.wire.specs.Code.{goes, Asked, Over, Stepped, Run}
+use Rattle.wire.specs.Utf8.{Range, Form, _to_, has, tail, forms, begun, ends}
+use Rattle.wire.specs.Code.{goes, Asked, Over, Onward, Stepped, Run, need, owed, Fits, Owed, Paid}
 use Rattle.wire.specs.Field.{equal}
+use Rattle.wire.proofs.Laws.{false-true}
 
 alike : (t : Bool) → pick t false false ≡ false
 alike true = refl
@@ -117,6 +119,9 @@ over-stuck = record { same = λ rs. refl; ahead = λ k a. tt }
 pub run-on : {s : List ℕ} {i j k : ℕ} → Run s i j → Run s j k → Run s i k
 run-on f g = record { from = omega arith; within = g .within; same = f .same ∙ g .same }
 
+pub run-none : (s : List ℕ) (i j : ℕ) → j ≡ i → i ≤ length s → Run s i j
+run-none s i j e h = record { from = omega arith; within = omega arith; same = rw e }
+
 pub run-one : (s : List ℕ) (i j : ℕ) → i < length s → getD s i 0 < 0x80 → j ≡ i + 1 → Run s i j
 run-one s i j h b e =
     record {
@@ -134,6 +139,193 @@ run-or {s} {i} {j} {a} k f h e o =
     let b = getD s j 0 in
     let sum = or-add-and a b in
     run-on (f (omega (arith, and-le-r a b))) (run-one s j k h (omega (arith, and-le-l a b)) e)
+
+-- ---- text looked at byte by byte
+
+-- the one way or the other
+split : {A : Type 0} (m n : ℕ) → (m < n → A) → (n ≤ m → A) → A
+split {A} m n f g = go (ltb m n) refl
+  where
+    go : (t : Bool) → ltb m n ≡ t → A
+    go true h = f (ltb-true m n h)
+    go false h = g (ltb-false m n h)
+
+module _ (q p : ℕ) where
+  need-none : p < 0xC0 → q < 0xE0 → need q p ≡ []
+  need-none h g = rw (lt-ltb p 0xC0 h, lt-ltb q 0xE0 g)
+
+  need-last : p < 0xC0 → 0xE0 ≤ q → need q p ≡ tail ∷ []
+  need-last h g = rw (lt-ltb p 0xC0 h, le-ltb q 0xE0 g)
+
+  need-two : 0xC0 ≤ p → p < 0xE0 → need q p ≡ tail ∷ []
+  need-two h g = rw (le-ltb p 0xC0 h, lt-ltb p 0xE0 g)
+
+  need-e0 : p ≡ 0xE0 → need q p ≡ 0xA0 to 0xBF ∷ tail ∷ []
+  need-e0 e = rw e
+
+  need-ed : p ≡ 0xED → need q p ≡ 0x80 to 0x9F ∷ tail ∷ []
+  need-ed e = rw e
+
+  need-three : 0xE0 ≤ p → (p ≡ 0xE0 → ⊥) → (p ≡ 0xED → ⊥) → need q p ≡ tail ∷ tail ∷ []
+  need-three h f g = rw (le-ltb p 0xC0 (omega arith), le-ltb p 0xE0 h, ne-eqb p 0xE0 f, ne-eqb p 0xED g)
+
+-- a byte in the range that is due
+ends-one : (low high b : ℕ) (rs : List Range) (s : List ℕ) → low ≤ b → b ≤ high → ends (low to high ∷ rs) (b ∷ s) ≡ ends rs s
+unfolding ends
+ends-one low high b rs s g h = rw (has-yes low high b g h)
+
+module _ (q p b : ℕ) where
+  fits-by : {x y : List Range} → need q p ≡ x → need p b ≡ y → ((s : List ℕ) → ends x (b ∷ s) ≡ ends y s) → Fits q p b
+  fits-by e f g = record { same = λ s. rw (e, f) (g s) }
+
+  -- a first byte, where nothing is due
+  fits-lead : p < 0xC0 → q < 0xE0 → 0xC2 ≤ b → b < 0xF0 → Fits q p b
+  fits-lead h g l m =
+      let n = need-none q p h g in
+      split b 0xE0
+      (λ x. fits-by n (need-two p b (omega arith) x) (begins-at b 1 refl tt l (omega arith)))
+      (λ x. split b 0xE1
+      (λ y. fits-by n (need-e0 p b (omega arith)) (begins-at b 2 refl tt x (omega arith)))
+      (λ y. split b 0xED
+      (λ z. fits-by n (need-three p b x (λ e. omega arith) (λ e. omega arith)) (begins-at b 3 refl tt y (omega arith)))
+      (λ z. split b 0xEE
+      (λ w. fits-by n (need-ed p b (omega arith)) (begins-at b 4 refl tt z (omega arith)))
+      (λ w. fits-by n (need-three p b x (λ e. omega arith) (λ e. omega arith)) (begins-at b 5 refl tt w (omega arith))))))
+
+  -- a byte of ASCII
+  fits-ascii : p < 0xC0 → q < 0xE0 → b < 0x80 → Fits q p b
+  fits-ascii h g l = fits-by (need-none q p h g) (need-none p b (omega arith) (omega arith)) (begins-at b 0 refl tt (omega arith) (omega arith))
+
+  -- a byte that is due
+  fits-last : p < 0xC0 → 0xE0 ≤ q → 0x80 ≤ b → b < 0xC0 → Fits q p b
+  fits-last h g l m =
+      fits-by (need-last q p h g) (need-none p b m (omega arith)) (λ s. ends-one 0x80 0xBF b [] s l (omega arith))
+
+  fits-two : 0xC0 ≤ p → p < 0xE0 → 0x80 ≤ b → b < 0xC0 → Fits q p b
+  fits-two h g l m =
+      fits-by (need-two q p h g) (need-none p b m g) (λ s. ends-one 0x80 0xBF b [] s l (omega arith))
+
+  fits-three : 0xE0 ≤ p → 0x80 ≤ b → b < 0xC0 → (p ≡ 0xE0 → 0xA0 ≤ b) → (p ≡ 0xED → b < 0xA0) → Fits q p b
+  fits-three h l m f g =
+      let y = need-last p b m h in
+      split p 0xE1
+      (λ x.
+      let e : p ≡ 0xE0 = omega arith in
+      fits-by (need-e0 q p e) y (λ s. ends-one 0xA0 0xBF b (tail ∷ []) s (f e) (omega arith)))
+      (λ x. split p 0xED
+      (λ z. fits-by (need-three q p h (λ e. omega arith) (λ e. omega arith)) y (λ s. ends-one 0x80 0xBF b (tail ∷ []) s l (omega arith)))
+      (λ z. split p 0xEE
+      (λ w.
+      let e : p ≡ 0xED = omega arith in
+      let k = g e in
+      fits-by (need-ed q p e) y (λ s. ends-one 0x80 0x9F b (tail ∷ []) s l (omega arith)))
+      (λ w. fits-by (need-three q p h (λ e. omega arith) (λ e. omega arith)) y (λ s. ends-one 0x80 0xBF b (tail ∷ []) s l (omega arith)))))
+
+pub both-true : (t u : Bool) → (t && u) ≡ true → (t ≡ true) × (u ≡ true)
+both-true true u h = (refl, h)
+both-true false u h = absurd (false-true h)
+
+same-true : (t u : Bool) → Bool·beq t u ≡ true → t ≡ u
+same-true true true h = refl
+same-true true false h = absurd (false-true h)
+same-true false true h = absurd (false-true h)
+same-true false false h = refl
+
+module _ (q p b : ℕ) where
+  -- the byte is due
+  due-in : true ≡ (leb 0x80 b && ltb b 0xC0) → (0x80 ≤ b) × (b < 0xC0)
+  due-in e =
+      let h = both-true (leb 0x80 b) (ltb b 0xC0) (sym e) in
+      (leb-true 0x80 b (h .0), ltb-true b 0xC0 (h .1))
+
+  -- the test of `fits`
+  pub fits-test :
+      ((((Bool·beq (leb 0xC0 p || leb 0xE0 q) (leb 0x80 b && ltb b 0xC0) && Bool·beq (eqb p 0xE0 && ltb b 0xA0) false) && Bool·beq (eqb p 0xED && leb 0xA0 b) false) && (ltb b 0xC0 || leb 0xC2 b)) && ltb b 0xF0) ≡ true
+      → Fits q p b
+  fits-test t =
+      let t5 = both-true _ _ t in
+      let t4 = both-true _ _ (t5 .0) in
+      let t3 = both-true _ _ (t4 .0) in
+      let t2 = both-true _ _ (t3 .0) in
+      let top : b < 0xF0 = ltb-true b 0xF0 (t5 .1) in
+      let due : (leb 0xC0 p || leb 0xE0 q) ≡ (leb 0x80 b && ltb b 0xC0) = same-true _ _ (t2 .0) in
+      let low : (eqb p 0xE0 && ltb b 0xA0) ≡ false = same-true _ _ (t2 .1) in
+      let high : (eqb p 0xED && leb 0xA0 b) ≡ false = same-true _ _ (t3 .1) in
+      let lead : (ltb b 0xC0 || leb 0xC2 b) ≡ true = t4 .1 in
+      split p 0xC0
+      (λ h. split q 0xE0
+      (λ g.
+      let d : false ≡ (leb 0x80 b && ltb b 0xC0) = rw (lt-leb 0xC0 p h, lt-leb 0xE0 q g) at due in
+      split b 0x80
+      (λ x. fits-ascii q p b h g x)
+      (λ x. split b 0xC0
+      (λ y. absurd (false-true (rw (le-leb 0x80 b x, lt-ltb b 0xC0 y) at d)))
+      (λ y. let l : leb 0xC2 b ≡ true = rw (le-ltb b 0xC0 y) at lead in fits-lead q p b h g (leb-true 0xC2 b l) top)))
+      (λ g.
+      let d = due-in (rw (lt-leb 0xC0 p h, le-leb 0xE0 q g) at due) in
+      fits-last q p b h g (d .0) (d .1)))
+      (λ h.
+      let d = due-in (rw (le-leb 0xC0 p h) at due) in
+      split p 0xE0
+      (λ g. fits-two q p b h g (d .0) (d .1))
+      (λ g. fits-three q p b g (d .0) (d .1)
+      (λ e. ltb-false b 0xA0 (rw (eq-eqb p 0xE0 e) at low))
+      (λ e. leb-false 0xA0 b (rw (eq-eqb p 0xED e) at high))))
+
+-- one byte more
+pub owed-on : {s : List ℕ} {i j : ℕ} (k : ℕ) → Owed s i j → j + 3 ≤ length s → Fits (getD s j 0) (getD s (j + 1) 0) (getD s (j + 2) 0) → k ≡ j + 1 → Owed s i k
+owed-on {s} {i} {j} k o h f e =
+    let e1 : k + 1 ≡ j + 2 = omega arith in
+    let e2 : k + 2 ≡ suc (j + 2) = omega arith in
+    record {
+      from = omega arith;
+      within = omega arith;
+      same = o .same ∙ rw (e1, e2, e, drop-cons s (j + 2) 0 (omega arith)) (f .same (drop (suc (j + 2)) s));
+    }
+
+pub owed-none : (s : List ℕ) (i j : ℕ) → j ≡ i → i + 2 ≤ length s → Owed s i j
+owed-none s i j e h = record { from = omega arith; within = omega arith; same = rw e }
+
+pub owed-trans : {s : List ℕ} {i j k : ℕ} → Owed s i j → Owed s j k → Owed s i k
+owed-trans f g = record { from = omega arith; within = g .within; same = f .same ∙ g .same }
+
+module _ (s : List ℕ) (i : ℕ) (h : i + 2 ≤ length s) where
+  pub paid-none : getD s (i + 1) 0 < 0xC0 → getD s i 0 < 0xE0 → Paid s i (To (i + 2))
+  paid-none f g = record { same = rw (need-none (getD s i 0) (getD s (i + 1) 0) f g); ahead = λ k l. (l, h) }
+
+  paid-one : {r : Step} → need (getD s i 0) (getD s (i + 1) 0) ≡ tail ∷ [] → Over s (To (i + 2)) 0x80 0xBF r → Paid s i r
+  paid-one e o = record { same = rw e (o .same []); ahead = λ k l. o .ahead k (l, h) }
+
+  paid-two : {x r : Step} (low high : ℕ) → need (getD s i 0) (getD s (i + 1) 0) ≡ low to high ∷ tail ∷ []
+      → Over s (To (i + 2)) low high x → Over s x 0x80 0xBF r → Paid s i r
+  paid-two low high e o p =
+      record { same = rw e (o .same (tail ∷ []) ∙ p .same []); ahead = λ k l. p .ahead k (o .ahead k (l, h)) }
+
+  pub paid-last : {r : Step} → getD s (i + 1) 0 < 0xC0 → 0xE0 ≤ getD s i 0 → Over s (To (i + 2)) 0x80 0xBF r → Paid s i r
+  paid-last f g = paid-one (need-last (getD s i 0) (getD s (i + 1) 0) f g)
+
+  pub paid-pair : {r : Step} → 0xC0 ≤ getD s (i + 1) 0 → getD s (i + 1) 0 < 0xE0 → Over s (To (i + 2)) 0x80 0xBF r → Paid s i r
+  paid-pair f g = paid-one (need-two (getD s i 0) (getD s (i + 1) 0) f g)
+
+  pub paid-e0 : {x r : Step} → getD s (i + 1) 0 ≡ 0xE0 → Over s (To (i + 2)) 0xA0 0xBF x → Over s x 0x80 0xBF r → Paid s i r
+  paid-e0 e = paid-two 0xA0 0xBF (need-e0 (getD s i 0) (getD s (i + 1) 0) e)
+
+  pub paid-ed : {x r : Step} → getD s (i + 1) 0 ≡ 0xED → Over s (To (i + 2)) 0x80 0x9F x → Over s x 0x80 0xBF r → Paid s i r
+  paid-ed e = paid-two 0x80 0x9F (need-ed (getD s i 0) (getD s (i + 1) 0) e)
+
+  pub paid-three : {x r : Step} → 0xE0 ≤ getD s (i + 1) 0 → (getD s (i + 1) 0 ≡ 0xE0 → ⊥) → (getD s (i + 1) 0 ≡ 0xED → ⊥)
+      → Over s (To (i + 2)) 0x80 0xBF x → Over s x 0x80 0xBF r → Paid s i r
+  paid-three h f g = paid-two 0x80 0xBF (need-three (getD s i 0) (getD s (i + 1) 0) h f g)
+
+pub onward-none : {s : List ℕ} {at : Step} → Onward s at at
+onward-none = record { same = refl; ahead = λ i a. a }
+
+pub onward-paid : (s : List ℕ) (j w : ℕ) {r : Step} → 2 ≤ j → getD s (j - 1) 0 < 0xC0 → getD s (j - 2) 0 < 0xE0 → Owed s (j - 2) w → Paid s w r → Onward s (To j) r
+onward-paid s j w h f g o p =
+    let e1 : j - 2 + 1 ≡ j - 1 = omega arith in
+    let e2 : j - 2 + 2 ≡ j = omega arith in
+    let n : owed s (j - 2) ≡ ends [] (drop j s) = rw (e1, e2, need-none (getD s (j - 2) 0) (getD s (j - 1) 0) f g) in
+    record { same = sym n ∙ o .same ∙ p .same; ahead = λ i a. p .ahead i (omega arith) }
 
 -- ---- two rows
 

@@ -2,8 +2,9 @@
 ghost use mathlib.Core.Path.{_≡_};
 ghost use Prim.Native.Nat.{_+_, _^_, _≤_, _<_};
 ghost use lib.ListN.{length};
+ghost use lib.Seq.{sets};
 ghost use lib.Dec.{leb};
-ghost use Rattle.wire.specs.Number.{number, stored};
+ghost use Rattle.wire.specs.Number.{digits, number, stored};
 ghost use Rattle.wire.specs.Field.{bytesAt};
 
 // The number in the w bytes from a place on.
@@ -20,6 +21,31 @@ pub(crate) fn number_at(s: &[u8], at: usize, w: usize) -> u64
     n
 }
 
+// The widths that most fields have, without a loop.
+fn store1(out: &mut [u8], at: usize, n: u64)
+    requires { ⌜ at + 1 ≤ length (now out) ⌝ }
+    ensures { λ _. ⌜ now (out .exit) ≡ sets (now (out .entry)) at (digits 1 n) ⌝ }
+{
+    out[at] = (n % 0x100) as u8;
+}
+
+fn store2(out: &mut [u8], at: usize, n: u64)
+    requires { ⌜ at + 2 ≤ length (now out) ⌝ }
+    ensures { λ _. ⌜ now (out .exit) ≡ sets (now (out .entry)) at (digits 2 n) ⌝ }
+{
+    out[at] = (n / 0x100 % 0x100) as u8;
+    out[at + 1] = (n % 0x100) as u8;
+}
+
+fn store3(out: &mut [u8], at: usize, n: u64)
+    requires { ⌜ at + 3 ≤ length (now out) ⌝ }
+    ensures { λ _. ⌜ now (out .exit) ≡ sets (now (out .entry)) at (digits 3 n) ⌝ }
+{
+    out[at] = (n / 0x10000 % 0x100) as u8;
+    out[at + 1] = (n / 0x100 % 0x100) as u8;
+    out[at + 2] = (n % 0x100) as u8;
+}
+
 // Stores the low w bytes of n from a place on, and says whether they have room there; where they have none it stores nothing.
 pub fn write_number(out: &mut [u8], at: usize, w: usize, n: u64) -> bool
     ensures { λ r. ⌜ r ≡ leb (at + w) (length (now (out .entry))) ⌝ }
@@ -27,6 +53,18 @@ pub fn write_number(out: &mut [u8], at: usize, w: usize, n: u64) -> bool
 {
     if at <= out.len() {
         if w <= out.len() - at {
+            if w == 1 {
+                store1(out, at, n);
+                return true;
+            }
+            if w == 2 {
+                store2(out, at, n);
+                return true;
+            }
+            if w == 3 {
+                store3(out, at, n);
+                return true;
+            }
             let mut rest = n;
             let mut k = w;
             while 0 < k {

@@ -7,12 +7,13 @@ use lib.ListN.{length}
 use denote.Ref.{now}
 use borrow.Author.Needs.{needs}
 use Rattle.image.specs.Out.{Out, pour, end, row, _>>=_}
-use Rattle.image.proofs.Pouring.{pour-then, pour-halt, pour-stop, pour-end, row-in, row-then, row-halt}
+use Rattle.image.proofs.Pouring.{pour-then, pour-halt, pour-stop, pour-end, row-in, row-then, row-halt, numberIn-in}
+use Rattle.image.proofs.Found.{number-found}
 use Rattle.amf0.specs.declared.write.Rest.{Rest}
 use Rattle.amf0.specs.declared.write.Shape.{Shape}
 use Rattle.amf0.specs.Code.{longest, growth}
 use Rattle.amf0.specs.Writing.{value as valueOf, pairs as pairsOf, dense as denseOf, items as itemsOf, rest as restOf, paired, valued}
-use Rattle.amf0.proofs.Putting.{ahead, ahead-stop, ahead-next, ahead-grown, past, thin-shape, value-deep, value-none, value-bad, value-shaped, pairs-bad, pairs-shaped, dense-value, dense-pairs, pour-indexed, items-done, items-item, rest-nothing, rest-pairs, rest-dense, rest-values}
+use Rattle.amf0.proofs.Putting.{ahead, ahead-stop, ahead-next, ahead-grown, past, thin-shape, value-deep, value-none, value-bad, value-shaped, value-number, pairs-bad, pairs-shaped, dense-value, dense-pairs, pour-indexed, items-done, items-item, rest-nothing, rest-pairs, rest-dense, rest-values}
 use borrow.Fn.Kinds.{In}
 use borrow.Fn.PlainCycle.{Measures, is, falls, and}
 use Rattle.amf0.proofs.write.dense.Reads as dense
@@ -30,8 +31,10 @@ use Rattle.amf0.proofs.write.+dense+items+pairs+value.Lts-value as valu
 use Rattle.amf0.proofs.write.index.Reads as index-reads
 use Rattle.amf0.proofs.write.shape_of.Reads as shape-of-reads
 use Rattle.amf0.proofs.write.value_at.Reads as value-at-reads
+use Rattle.image.proofs.taking.number_here.Reads as number-here-reads
 use Rattle.image.proofs.taking.record_at.Reads as record-at-reads
 use Rattle.image.proofs.writing.emit.Reads as emit-reads
+use Rattle.image.proofs.writing.emit_number.Reads as emit-number-reads
 use Rattle.amf0.proofs.write.+dense+items+pairs+value.{statement}
 use Rattle.amf0.proofs.write.+dense+items+pairs+value.Tie.{close}
 
@@ -81,7 +84,7 @@ abbrev pairs-claims : ℕ → pairs-lts.Claims
 pairs-claims t = (record-at-reads.Asked, record-at-reads.Learnt, shape-of-reads.Asked, shape-of-reads.Learnt, emit-reads.Asked, emit-reads.Learnt, value-below t, value.Post)
 
 abbrev value-claims : ℕ → value-lts.Claims
-value-claims t = (value-at-reads.Asked, value-at-reads.Learnt, record-at-reads.Asked, record-at-reads.Learnt, shape-of-reads.Asked, shape-of-reads.Learnt, emit-reads.Asked, emit-reads.Learnt, pairs-below t, pairs.Post, dense-below t, dense.Post, items-below t, items.Post)
+value-claims t = (value-at-reads.Asked, value-at-reads.Learnt, number-here-reads.Asked, number-here-reads.Learnt, emit-number-reads.Asked, emit-number-reads.Learnt, record-at-reads.Asked, record-at-reads.Learnt, shape-of-reads.Asked, shape-of-reads.Learnt, emit-reads.Asked, emit-reads.Learnt, pairs-below t, pairs.Post, dense-below t, dense.Post, items-below t, items.Post)
 
 abbrev dense-Inv-loop : dense-lts.InvT-loop
 dense-Inv-loop out₀ image text done left c₀ count₀ k₀ out c count k =
@@ -560,11 +563,42 @@ value-returns-2 t c =
     let e = sym (c .before .value-at .ensures) ∙ c .if2 .left in
     (rw (value-none (now (a .image)) (now (a .text)) (a .c .at) (a .left) (c .before .before .if1 .taken) e) (sym (pour-stop _ _ _ _)), ahead-stop)
 
-value-record-at-requires : (t : ℕ) → value-lts.Need-record-at-requires (value-claims t) (value-at t) value.Post
-value-record-at-requires t c κs = search needs
+value-number-here-requires : (t : ℕ) → value-lts.Need-number-here-requires (value-claims t) (value-at t) value.Post
+value-number-here-requires t c κs = search needs
+
+value-enum-known-n : (t : ℕ) → value-lts.Need-enum-known-n (value-claims t) (value-at t) value.Post
+value-enum-known-n t c = search needs
+
+value-emit-number-requires : (t : ℕ) → value-lts.Need-emit-number-requires (value-claims t) (value-at t) value.Post
+value-emit-number-requires t c κs = search needs
+
+value-same-length : (t : ℕ) → value-lts.Need-same-length (value-claims t) (value-at t) value.Post
+value-same-length t c = search needs
+
+-- a number, by the short way
+value-returns-3 : (t : ℕ) → value-lts.Need-returns-3 (value-claims t) (value-at t) value.Post
+value-returns-3 t c =
+    let a = c .before .before .before .before .before .before .before .before .before .before .before .before .args in
+    let i = now (a .image) in
+    let g = c .before .before .before .before .before .n .given in
+    let n = g .0 .0 in
+    let d = g .0 .1 .0 in
+    let f = number-found i (a .c .at) n d (sym (c .before .before .before .before .before .before .before .number-here .ensures) ∙ g .1) in
+    let q = past i (λ k. c .before .before .before .before .before .before .before .before .before .before .shared-slice-known .given k .fits) (a .c .at) f in
+    let p = c .before .before .before .before .before .before .before .before .before .before .before .before .pre .1 in (
+      c .before .before .emit-number .ensures .0
+          ∙ rw (numberIn-in (a .count) n (end (d .at)) (omega arith), value-number i (now (a .text)) (a .c .at) (a .left) (c .before .before .before .before .before .before .before .before .if1 .left) f),
+      ahead-grown (c .before .before .emit-number .ensures .1) (q .from) (q .fits) (omega arith),
+    )
 
 value-enum-told : (t : ℕ) → value-lts.Need-enum-told (value-claims t) (value-at t) value.Post
 value-enum-told t c = search needs
+
+value-record-at-requires : (t : ℕ) → value-lts.Need-record-at-requires (value-claims t) (value-at t) value.Post
+value-record-at-requires t c κs = search needs
+
+value-enum-told-2 : (t : ℕ) → value-lts.Need-enum-told-2 (value-claims t) (value-at t) value.Post
+value-enum-told-2 t c = search needs
 
 value-enum-known-r : (t : ℕ) → value-lts.Need-enum-known-r (value-claims t) (value-at t) value.Post
 value-enum-known-r t c = search needs
@@ -574,9 +608,9 @@ value-shape-of-requires t c κs = search needs
 
 -- the shape of a record, and the value from there on
 record Shown (t : ℕ) (c : value-lts.After-shape-of (value-claims t) (value-at t) value.Post) : Type 0 where
-  from : c .before .before .before .before .before .before .before .before .before .args .c .at + 1 ≤ c .before .before .r .given .0 .1 .0 .at
-  fits : c .before .before .r .given .0 .1 .0 .at ≤ length (now (c .before .before .before .before .before .before .before .before .before .args .image))
-  same : let a = c .before .before .before .before .before .before .before .before .before .args in
+  from : c .before .before .before .before .before .before .before .before .before .before .before .before .args .c .at + 1 ≤ c .before .before .r .given .0 .1 .0 .at
+  fits : c .before .before .r .given .0 .1 .0 .at ≤ length (now (c .before .before .before .before .before .before .before .before .before .before .before .before .args .image))
+  same : let a = c .before .before .before .before .before .before .before .before .before .before .before .before .args in
       let i = now (a .image) in
       let x = now (a .text) in
       let d = c .before .before .r .given .0 .1 .0 in
@@ -585,24 +619,24 @@ record Shown (t : ℕ) (c : value-lts.After-shape-of (value-claims t) (value-at 
 
 value-shown : (t : ℕ) (c : value-lts.After-shape-of (value-claims t) (value-at t) value.Post) → Shown t c
 value-shown t c =
-    let a = c .before .before .before .before .before .before .before .before .before .args in
+    let a = c .before .before .before .before .before .before .before .before .before .before .before .before .args in
     let i = now (a .image) in
     let e = sym (c .before .before .before .before .record-at .ensures) ∙ c .before .before .r .given .1 in
-    let p = past i (λ n. c .before .before .before .before .before .before .before .shared-slice-known .given n .fits) (a .c .at) e in
+    let p = past i (λ n. c .before .before .before .before .before .before .before .before .before .before .shared-slice-known .given n .fits) (a .c .at) e in
     record {
       from = p .from;
       fits = p .fits;
-      same = λ y h. value-shaped i (now (a .text)) (a .c .at) (a .left) (c .before .before .before .before .before .if1 .left) e (sym (c .shape-of .ensures) ∙ h);
+      same = λ y h. value-shaped i (now (a .text)) (a .c .at) (a .left) (c .before .before .before .before .before .before .before .before .if1 .left) e (sym (c .shape-of .ensures) ∙ h);
     }
-
-value-enum-told-2 : (t : ℕ) → value-lts.Need-enum-told-2 (value-claims t) (value-at t) value.Post
-value-enum-told-2 t c = search needs
 
 value-enum-told-3 : (t : ℕ) → value-lts.Need-enum-told-3 (value-claims t) (value-at t) value.Post
 value-enum-told-3 t c = search needs
 
 value-enum-told-4 : (t : ℕ) → value-lts.Need-enum-told-4 (value-claims t) (value-at t) value.Post
 value-enum-told-4 t c = search needs
+
+value-enum-told-5 : (t : ℕ) → value-lts.Need-enum-told-5 (value-claims t) (value-at t) value.Post
+value-enum-told-5 t c = search needs
 
 value-enum-known-shape : (t : ℕ) → value-lts.Need-enum-known-shape (value-claims t) (value-at t) value.Post
 value-enum-known-shape t c = search needs
@@ -617,20 +651,20 @@ value-enum-known-e : (t : ℕ) → value-lts.Need-enum-known-e (value-claims t) 
 value-enum-known-e t c = search needs
 
 -- a value's own bytes are put out, and what follows them is left
-record Bodied (t : ℕ) (c : value-lts.After-known-told4 (value-claims t) (value-at t) value.Post) : Type 0 where
-  from : c .before .before .before .before .before .before .before .before .before .before .before .before .before .before .before .before .before .before .before .args .c .at + 1 ≤ c .before .e .given .0 .0 .at
-  fits : c .before .e .given .0 .0 .at ≤ length (now (c .before .before .before .before .before .before .before .before .before .before .before .before .before .before .before .before .before .before .before .args .image))
-  most : c .before .e .given .0 .1 .0 ≤ c .before .before .before .before .before .before .before .before .before .before .before .before .before .before .before .before .before .before .before .args .count + longest
-  same : let a = c .before .before .before .before .before .before .before .before .before .before .before .before .before .before .before .before .before .before .before .args in
+record Bodied (t : ℕ) (c : value-lts.After-known-told5 (value-claims t) (value-at t) value.Post) : Type 0 where
+  from : c .before .before .before .before .before .before .before .before .before .before .before .before .before .before .before .before .before .before .before .before .before .before .args .c .at + 1 ≤ c .before .e .given .0 .0 .at
+  fits : c .before .e .given .0 .0 .at ≤ length (now (c .before .before .before .before .before .before .before .before .before .before .before .before .before .before .before .before .before .before .before .before .before .before .args .image))
+  most : c .before .e .given .0 .1 .0 ≤ c .before .before .before .before .before .before .before .before .before .before .before .before .before .before .before .before .before .before .before .before .before .before .args .count + longest
+  same : let a = c .before .before .before .before .before .before .before .before .before .before .before .before .before .before .before .before .before .before .before .before .before .before .args in
       let i = now (a .image) in
       let x = now (a .text) in
       let v = c .before .e .given .0 in
       (f : Rest) → c .before .before .before .before .before .before .before .before .shape .given .0 .1 .0 ≡ f
       → pour (valueOf (a .left) i x (a .c .at)) (a .count) (now (a .out)) ≡ pour (restOf (valueOf (a .left - 1) i x) i x f (v .0 .at)) (v .1 .0) (c .before .before .before .before .before .emit .last .0)
 
-value-bodied : (t : ℕ) (c : value-lts.After-known-told4 (value-claims t) (value-at t) value.Post) → Bodied t c
+value-bodied : (t : ℕ) (c : value-lts.After-known-told5 (value-claims t) (value-at t) value.Post) → Bodied t c
 value-bodied t c =
-    let a = c .before .before .before .before .before .before .before .before .before .before .before .before .before .before .before .before .before .before .before .args in
+    let a = c .before .before .before .before .before .before .before .before .before .before .before .before .before .before .before .before .before .before .before .before .before .before .args in
     let i = now (a .image) in
     let x = now (a .text) in
     let k = value-shown t (c .before .before .before .before .before .before .before .before .before .before) in
@@ -639,7 +673,7 @@ value-bodied t c =
     let v = c .before .e .given .0 in
     let z = thin-shape (c .before .before .before .before .before .before .before .before .before .before .before .before .r .given .0 .0) (sym (c .before .before .before .before .before .before .before .before .before .before .shape-of .ensures) ∙ c .before .before .before .before .before .before .before .before .shape .given .1) in
     let b = c .before .before .before .before .before .emit .ensures .1 .bounds (v .0) (v .1 .0) (c .before .e .given .1) in
-    let p = c .before .before .before .before .before .before .before .before .before .before .before .before .before .before .before .before .before .before .before .pre .1 in
+    let p = c .before .before .before .before .before .before .before .before .before .before .before .before .before .before .before .before .before .before .before .before .before .before .pre .1 in
     record {
       from = omega arith;
       fits = omega arith;
@@ -648,58 +682,53 @@ value-bodied t c =
           (row-then x (w .0) (a .c .at) (q .at) (a .count) (now (a .out)) z (omega arith) (restOf (valueOf (a .left - 1) i x) i x (w .1 .0)) (rw (c .before .e .given .1) at (c .before .before .before .before .before .emit .ensures .0)));
     }
 
-value-enum-told-5 : (t : ℕ) → value-lts.Need-enum-told-5 (value-claims t) (value-at t) value.Post
-value-enum-told-5 t c = search needs
-
 value-enum-told-6 : (t : ℕ) → value-lts.Need-enum-told-6 (value-claims t) (value-at t) value.Post
 value-enum-told-6 t c = search needs
-
-value-sub-pairs : (t : ℕ) → value-lts.Need-sub-pairs (value-claims t) (value-at t) value.Post
-value-sub-pairs t c = search needs
-
-value-pairs-requires : (t : ℕ) → value-lts.Need-pairs-requires (value-claims t) (value-at t) value.Post
-value-pairs-requires t c κs =
-    let k = value-bodied t (c .before .before .before) in
-    let p = c .before .before .before .before .before .before .before .before .before .before .before .before .before .before .before .before .before .before .before .before .before .before .pre in
-    let m = p .1 .3 in
-    (omega (arith, p .0, c .before .before .before .before .before .before .before .before .before .before .before .before .before .before .before .before .before .before .if1 .left), (p .1 .0, p .1 .1, k .fits, omega arith))
 
 value-enum-told-7 : (t : ℕ) → value-lts.Need-enum-told-7 (value-claims t) (value-at t) value.Post
 value-enum-told-7 t c = search needs
 
+value-sub-pairs : (t : ℕ) → value-lts.Need-sub-pairs (value-claims t) (value-at t) value.Post
+value-sub-pairs t c = omega (arith, c .before .before .before .before .before .before .before .before .before .before .before .before .before .before .before .before .before .before .before .before .before .if1 .left)
+
+value-pairs-requires : (t : ℕ) → value-lts.Need-pairs-requires (value-claims t) (value-at t) value.Post
+value-pairs-requires t c κs =
+    let k = value-bodied t (c .before .before .before) in
+    let p = c .before .before .before .before .before .before .before .before .before .before .before .before .before .before .before .before .before .before .before .before .before .before .before .before .before .pre in
+    let m = p .1 .3 in
+    (omega (arith, p .0, c .before .before .before .before .before .before .before .before .before .before .before .before .before .before .before .before .before .before .before .before .before .if1 .left), (p .1 .0, p .1 .1, k .fits, omega arith))
+
+value-enum-told-8 : (t : ℕ) → value-lts.Need-enum-told-8 (value-claims t) (value-at t) value.Post
+value-enum-told-8 t c = search needs
+
 value-sub-dense : (t : ℕ) → value-lts.Need-sub-dense (value-claims t) (value-at t) value.Post
-value-sub-dense t c = search needs
+value-sub-dense t c = omega (arith, c .before .before .before .before .before .before .before .before .before .before .before .before .before .before .before .before .before .before .before .before .before .if1 .left)
 
 value-dense-requires : (t : ℕ) → value-lts.Need-dense-requires (value-claims t) (value-at t) value.Post
 value-dense-requires t c κs =
     let k = value-bodied t (c .before .before .before) in
-    let p = c .before .before .before .before .before .before .before .before .before .before .before .before .before .before .before .before .before .before .before .before .before .before .pre in
+    let p = c .before .before .before .before .before .before .before .before .before .before .before .before .before .before .before .before .before .before .before .before .before .before .before .before .before .pre in
     let m = p .1 .3 in
-    (omega (arith, p .0, c .before .before .before .before .before .before .before .before .before .before .before .before .before .before .before .before .before .before .if1 .left), (p .1 .0, p .1 .1, k .fits, omega arith))
+    (omega (arith, p .0, c .before .before .before .before .before .before .before .before .before .before .before .before .before .before .before .before .before .before .before .before .before .if1 .left), (p .1 .0, p .1 .1, k .fits, omega arith))
 
 value-enum-known-f : (t : ℕ) → value-lts.Need-enum-known-f (value-claims t) (value-at t) value.Post
 value-enum-known-f t c = search needs
 
 value-sub-items : (t : ℕ) → value-lts.Need-sub-items (value-claims t) (value-at t) value.Post
-value-sub-items t c = search needs
+value-sub-items t c = omega (arith, c .before .before .before .before .before .before .before .before .before .before .before .before .before .before .before .before .before .before .before .before .before .before .if1 .left)
 
 value-items-requires : (t : ℕ) → value-lts.Need-items-requires (value-claims t) (value-at t) value.Post
 value-items-requires t c κs =
     let k = value-bodied t (c .before .before .before .before) in
-    let p = c .before .before .before .before .before .before .before .before .before .before .before .before .before .before .before .before .before .before .before .before .before .before .before .pre in
+    let p = c .before .before .before .before .before .before .before .before .before .before .before .before .before .before .before .before .before .before .before .before .before .before .before .before .before .before .pre in
     let m = p .1 .3 in
-    (omega (arith, p .0, c .before .before .before .before .before .before .before .before .before .before .before .before .before .before .before .before .before .before .before .if1 .left), (p .1 .0, p .1 .1, k .fits, omega arith))
-
-value-returns-3 : (t : ℕ) → value-lts.Need-returns-3 (value-claims t) (value-at t) value.Post
-value-returns-3 t c =
-    let a = c .before .before .before .before .before .before .before .args in
-    let e = sym (c .before .before .record-at .ensures) ∙ c .enum-told .given .1 in
-    (rw (value-bad (now (a .image)) (now (a .text)) (a .c .at) (a .left) (c .before .before .before .if1 .left) e) (sym (pour-stop _ _ _ _)), ahead-stop)
+    (omega (arith, p .0, c .before .before .before .before .before .before .before .before .before .before .before .before .before .before .before .before .before .before .before .before .before .before .if1 .left), (p .1 .0, p .1 .1, k .fits, omega arith))
 
 value-returns-4 : (t : ℕ) → value-lts.Need-returns-4 (value-claims t) (value-at t) value.Post
 value-returns-4 t c =
-    let k = value-shown t (c .before .before) in
-    (rw (k .same _ (c .enum-told2 .given .1)) (sym (pour-stop _ _ _ _)), ahead-stop)
+    let a = c .before .before .before .before .before .before .before .before .before .before .args in
+    let e = sym (c .before .before .record-at .ensures) ∙ c .enum-told2 .given .1 in
+    (rw (value-bad (now (a .image)) (now (a .text)) (a .c .at) (a .left) (c .before .before .before .before .before .before .if1 .left) e) (sym (pour-stop _ _ _ _)), ahead-stop)
 
 value-returns-5 : (t : ℕ) → value-lts.Need-returns-5 (value-claims t) (value-at t) value.Post
 value-returns-5 t c =
@@ -711,12 +740,17 @@ value-returns-6 t c =
     let k = value-shown t (c .before .before) in
     (rw (k .same _ (c .enum-told4 .given .1)) (sym (pour-stop _ _ _ _)), ahead-stop)
 
-value-same-length : (t : ℕ) → value-lts.Need-same-length (value-claims t) (value-at t) value.Post
-value-same-length t c = search needs
-
 value-returns-7 : (t : ℕ) → value-lts.Need-returns-7 (value-claims t) (value-at t) value.Post
 value-returns-7 t c =
-    let a = c .before .before .before .before .before .before .before .before .before .before .before .before .before .before .before .before .before .before .before .args in
+    let k = value-shown t (c .before .before) in
+    (rw (k .same _ (c .enum-told5 .given .1)) (sym (pour-stop _ _ _ _)), ahead-stop)
+
+value-same-length-2 : (t : ℕ) → value-lts.Need-same-length-2 (value-claims t) (value-at t) value.Post
+value-same-length-2 t c = search needs
+
+value-returns-8 : (t : ℕ) → value-lts.Need-returns-8 (value-claims t) (value-at t) value.Post
+value-returns-8 t c =
+    let a = c .before .before .before .before .before .before .before .before .before .before .before .before .before .before .before .before .before .before .before .before .before .before .args in
     let i = now (a .image) in
     let x = now (a .text) in
     let k = value-shown t (c .before .before .before .before .before .before .before .before .before .before) in
@@ -724,53 +758,38 @@ value-returns-7 t c =
     let w = c .before .before .before .before .before .before .before .before .shape .given .0 in
     let z = thin-shape (c .before .before .before .before .before .before .before .before .before .before .before .before .r .given .0 .0) (sym (c .before .before .before .before .before .before .before .before .before .before .shape-of .ensures) ∙ c .before .before .before .before .before .before .before .before .shape .given .1) in
     let more = restOf (valueOf (a .left - 1) i x) i x (w .1 .0) in
-    let p = c .before .before .before .before .before .before .before .before .before .before .before .before .before .before .before .before .before .before .before .pre .1 in (
+    let p = c .before .before .before .before .before .before .before .before .before .before .before .before .before .before .before .before .before .before .before .before .before .before .pre .1 in (
       rw (k .same _ (c .before .before .before .before .before .before .before .before .shape .given .1))
           (sym (row-halt x (w .0) (a .c .at) (q .at) (a .count) (now (a .out)) z (omega arith) more (rw (c .before .a .given .1) at (c .before .before .before .before .before .emit .ensures .0)))),
       ahead-stop,
     )
-
-value-same-length-2 : (t : ℕ) → value-lts.Need-same-length-2 (value-claims t) (value-at t) value.Post
-value-same-length-2 t c = search needs
-
-value-returns-8 : (t : ℕ) → value-lts.Need-returns-8 (value-claims t) (value-at t) value.Post
-value-returns-8 t c =
-    let a = c .before .before .before .before .before .before .before .before .before .before .before .before .before .before .before .before .before .before .before .before .before .args in
-    let i = now (a .image) in
-    let x = now (a .text) in
-    let inner = valueOf (a .left - 1) i x in
-    let k = value-bodied t (c .before .before) in
-    let v = c .before .before .before .e .given .0 in
-    (rw (k .same _ (c .enum-told5 .given .1), rest-nothing inner i x (v .0 .at)) (sym (pour-end _ _ _)), ahead-next (k .from) (k .fits) (omega arith))
 
 value-same-length-3 : (t : ℕ) → value-lts.Need-same-length-3 (value-claims t) (value-at t) value.Post
 value-same-length-3 t c = search needs
 
 value-returns-9 : (t : ℕ) → value-lts.Need-returns-9 (value-claims t) (value-at t) value.Post
 value-returns-9 t c =
-    let a = c .before .before .before .before .before .before .before .before .before .before .before .before .before .before .before .before .before .before .before .before .before .before .before .before .before .args in
+    let a = c .before .before .before .before .before .before .before .before .before .before .before .before .before .before .before .before .before .before .before .before .before .before .before .before .args in
     let i = now (a .image) in
     let x = now (a .text) in
     let inner = valueOf (a .left - 1) i x in
-    let k = value-bodied t (c .before .before .before .before .before .before) in
-    let v = c .before .before .before .before .before .before .before .e .given .0 in (
-      rw (k .same _ (c .before .before .before .before .enum-told6 .given .1), rest-pairs inner i x (v .0 .at)) (c .before .before .pairs .ensures .0),
-      ahead (c .before .before .pairs .ensures .1) (k .from) (le-refl _) (omega arith),
-    )
+    let k = value-bodied t (c .before .before) in
+    let v = c .before .before .before .e .given .0 in
+    (rw (k .same _ (c .enum-told6 .given .1), rest-nothing inner i x (v .0 .at)) (sym (pour-end _ _ _)), ahead-next (k .from) (k .fits) (omega arith))
 
 value-same-length-4 : (t : ℕ) → value-lts.Need-same-length-4 (value-claims t) (value-at t) value.Post
 value-same-length-4 t c = search needs
 
 value-returns-10 : (t : ℕ) → value-lts.Need-returns-10 (value-claims t) (value-at t) value.Post
 value-returns-10 t c =
-    let a = c .before .before .before .before .before .before .before .before .before .before .before .before .before .before .before .before .before .before .before .before .before .before .before .before .before .args in
+    let a = c .before .before .before .before .before .before .before .before .before .before .before .before .before .before .before .before .before .before .before .before .before .before .before .before .before .before .before .before .args in
     let i = now (a .image) in
     let x = now (a .text) in
     let inner = valueOf (a .left - 1) i x in
     let k = value-bodied t (c .before .before .before .before .before .before) in
     let v = c .before .before .before .before .before .before .before .e .given .0 in (
-      rw (k .same _ (c .before .before .before .before .enum-told7 .given .1), rest-dense inner i x (v .0 .at)) (c .before .before .dense .ensures .0),
-      ahead (c .before .before .dense .ensures .1) (k .from) (le-refl _) (omega arith),
+      rw (k .same _ (c .before .before .before .before .enum-told7 .given .1), rest-pairs inner i x (v .0 .at)) (c .before .before .pairs .ensures .0),
+      ahead (c .before .before .pairs .ensures .1) (k .from) (le-refl _) (omega arith),
     )
 
 value-same-length-5 : (t : ℕ) → value-lts.Need-same-length-5 (value-claims t) (value-at t) value.Post
@@ -778,7 +797,22 @@ value-same-length-5 t c = search needs
 
 value-returns-11 : (t : ℕ) → value-lts.Need-returns-11 (value-claims t) (value-at t) value.Post
 value-returns-11 t c =
-    let a = c .before .before .before .before .before .before .before .before .before .before .before .before .before .before .before .before .before .before .before .before .before .before .before .before .before .before .args in
+    let a = c .before .before .before .before .before .before .before .before .before .before .before .before .before .before .before .before .before .before .before .before .before .before .before .before .before .before .before .before .args in
+    let i = now (a .image) in
+    let x = now (a .text) in
+    let inner = valueOf (a .left - 1) i x in
+    let k = value-bodied t (c .before .before .before .before .before .before) in
+    let v = c .before .before .before .before .before .before .before .e .given .0 in (
+      rw (k .same _ (c .before .before .before .before .enum-told8 .given .1), rest-dense inner i x (v .0 .at)) (c .before .before .dense .ensures .0),
+      ahead (c .before .before .dense .ensures .1) (k .from) (le-refl _) (omega arith),
+    )
+
+value-same-length-6 : (t : ℕ) → value-lts.Need-same-length-6 (value-claims t) (value-at t) value.Post
+value-same-length-6 t c = search needs
+
+value-returns-12 : (t : ℕ) → value-lts.Need-returns-12 (value-claims t) (value-at t) value.Post
+value-returns-12 t c =
+    let a = c .before .before .before .before .before .before .before .before .before .before .before .before .before .before .before .before .before .before .before .before .before .before .before .before .before .before .before .before .before .args in
     let i = now (a .image) in
     let x = now (a .text) in
     let inner = valueOf (a .left - 1) i x in
@@ -881,6 +915,10 @@ pub +dense+items+pairs+value-spec : {M : Type 1} → statement M
     λ t. value-lts.spec (
       value-at-reads.Asked,
       value-at-reads.Learnt,
+      number-here-reads.Asked,
+      number-here-reads.Learnt,
+      emit-number-reads.Asked,
+      emit-number-reads.Learnt,
       record-at-reads.Asked,
       record-at-reads.Learnt,
       shape-of-reads.Asked,
@@ -899,32 +937,36 @@ pub +dense+items+pairs+value-spec : {M : Type 1} → statement M
     (value-value-at-requires t)
     (value-returns t)
     (value-returns-2 t)
-    (value-record-at-requires t)
+    (value-number-here-requires t)
+    (value-enum-known-n t)
+    (value-emit-number-requires t)
+    (value-same-length t)
+    (value-returns-3 t)
     (value-enum-told t)
+    (value-record-at-requires t)
+    (value-enum-told-2 t)
     (value-enum-known-r t)
     (value-shape-of-requires t)
-    (value-enum-told-2 t)
     (value-enum-told-3 t)
     (value-enum-told-4 t)
+    (value-enum-told-5 t)
     (value-enum-known-shape t)
     (value-emit-requires t)
     (value-enum-known-a t)
     (value-enum-known-e t)
-    (value-enum-told-5 t)
     (value-enum-told-6 t)
+    (value-enum-told-7 t)
     (value-sub-pairs t)
     (value-pairs-requires t)
-    (value-enum-told-7 t)
+    (value-enum-told-8 t)
     (value-sub-dense t)
     (value-dense-requires t)
     (value-enum-known-f t)
     (value-sub-items t)
     (value-items-requires t)
-    (value-returns-3 t)
     (value-returns-4 t)
     (value-returns-5 t)
     (value-returns-6 t)
-    (value-same-length t)
     (value-returns-7 t)
     (value-same-length-2 t)
     (value-returns-8 t)
@@ -934,3 +976,5 @@ pub +dense+items+pairs+value-spec : {M : Type 1} → statement M
     (value-returns-10 t)
     (value-same-length-5 t)
     (value-returns-11 t)
+    (value-same-length-6 t)
+    (value-returns-12 t)

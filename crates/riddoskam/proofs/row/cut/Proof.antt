@@ -3,7 +3,7 @@ use Prim.Native.Nat.{_+_, _*_, _-_, _/_, _≤_, _<_}
 use mathlib.Core.Path.{_≡_, refl, sym, ap, _∙_}
 use mathlib.Core.Bool.{true}
 use native.Mathlib.Omega.{arith}
-use lib.ListN.{length, take}
+use lib.ListN.{length}
 use lib.Seq.{length-sets}
 use denote.Ref.{now}
 use borrow.Author.Needs.{needs}

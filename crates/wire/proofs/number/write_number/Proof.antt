@@ -20,6 +20,24 @@ abbrev μ-loop : tie.MeasureT-loop
 sub-if2 : tie.Need-sub-if2 Inv-loop μ-loop
 sub-if2 c = search needs
 
+returns : tie.Need-returns Inv-loop μ-loop
+returns c =
+    let a = c .before .before .before .before .before .before .before .before .args in
+    let g = stored-room 1 (a .n) (a .at) (now (a .out)) (omega arith) in
+    rw (c .before .before .before .before .if3 .taken) (g .0, c .before .before .store1 .ensures ∙ g .1)
+
+returns-2 : tie.Need-returns-2 Inv-loop μ-loop
+returns-2 c =
+    let a = c .before .before .before .before .before .before .before .before .before .args in
+    let g = stored-room 2 (a .n) (a .at) (now (a .out)) (omega arith) in
+    rw (c .before .before .before .before .if4 .taken) (g .0, c .before .before .store2 .ensures ∙ g .1)
+
+returns-3 : tie.Need-returns-3 Inv-loop μ-loop
+returns-3 c =
+    let a = c .before .before .before .before .before .before .before .before .before .before .args in
+    let g = stored-room 3 (a .n) (a .at) (now (a .out)) (omega arith) in
+    rw (c .before .before .before .before .if5 .taken) (g .0, c .before .before .store3 .ensures ∙ g .1)
+
 loop-holds : tie.Need-loop-holds Inv-loop μ-loop
 loop-holds c = (omega arith, refl, refl)
 
@@ -41,27 +59,27 @@ loop-less c = search needs
 loop-again : tie.Need-loop-again Inv-loop μ-loop
 loop-again c =
     let l = c .before .loop in
-    let a = c .before .before .before .before .args in
+    let a = c .before .before .before .before .before .before .before .before .args in
     (omega arith, simp length-set (l .inv .1), l .inv .2 ∙ sets-last (l .out) (a .at) (l .k) (l .rest) (omega arith))
 
-same-length : tie.Need-same-length Inv-loop μ-loop
-same-length c = c .before .loop .inv .1
+same-length-4 : tie.Need-same-length-4 Inv-loop μ-loop
+same-length-4 c = c .before .loop .inv .1
 
-returns : tie.Need-returns Inv-loop μ-loop
-returns c =
-    let a = c .before .before .before .before .args in
+returns-4 : tie.Need-returns-4 Inv-loop μ-loop
+returns-4 c =
+    let a = c .before .before .before .before .before .before .before .before .args in
     let e : c .before .loop .k ≡ 0 = omega arith in
     let g = stored-room (a .w) (a .n) (a .at) (now (a .out)) (omega arith) in
     (g .0, rw e at (sym (c .before .loop .inv .2)) ∙ g .1)
 
-returns-2 : tie.Need-returns-2 Inv-loop μ-loop
-returns-2 c =
-    let a = c .before .before .args in
+returns-5 : tie.Need-returns-5 Inv-loop μ-loop
+returns-5 c =
+    let a = c .before .before .before .args in
     stored-none (a .w) (a .n) (a .at) (now (a .out)) (omega arith)
 
-returns-3 : tie.Need-returns-3 Inv-loop μ-loop
-returns-3 c =
-    let a = c .before .args in
+returns-6 : tie.Need-returns-6 Inv-loop μ-loop
+returns-6 c =
+    let a = c .before .before .args in
     stored-none (a .w) (a .n) (a .at) (now (a .out)) (omega arith)
 
 pub write-number-spec : {M : Type 1} → statement M
@@ -71,6 +89,15 @@ write-number-spec =
     Inv-loop
     μ-loop
     sub-if2
+    (λ c κs. search needs)
+    (λ c. search needs)
+    returns
+    (λ c κs. search needs)
+    (λ c. search needs)
+    returns-2
+    (λ c κs. search needs)
+    (λ c. search needs)
+    returns-3
     loop-holds
     sub-k
     cast-out
@@ -78,7 +105,7 @@ write-number-spec =
     slice-write-out
     loop-less
     loop-again
-    same-length
-    returns
-    returns-2
-    returns-3)
+    same-length-4
+    returns-4
+    returns-5
+    returns-6)

@@ -24,14 +24,22 @@ returns c =
 
 returns-2 : tie.Need-returns-2
 returns-2 c =
-    let t = c .tail .ensures in
-    record { same = first (c .before .before .before) (c .before .enum-told2 .given .1) ∙ t .same _; ahead = t .ahead _ (omega arith) }
+    let t = c .before .tail .ensures in
+    let o = c .onward .ensures in
+    record {
+      same = first (c .before .before .before .before) (c .before .before .enum-told2 .given .1) ∙ t .same _ ∙ o .same;
+      ahead = o .ahead _ (t .ahead _ (omega arith));
+    }
 
 returns-3 : tie.Need-returns-3
 returns-3 c =
-    let t = c .before .over .ensures in
-    let u = c .tail2 .ensures in
-    record { same = first (c .before .before .before .before .before) (c .before .before .before .low .given .1) ∙ t .same _ ∙ u .same _; ahead = u .ahead _ (t .ahead _ (omega arith)) }
+    let t = c .before .before .over .ensures in
+    let u = c .before .tail2 .ensures in
+    let o = c .onward2 .ensures in
+    record {
+      same = first (c .before .before .before .before .before .before) (c .before .before .before .before .low .given .1) ∙ t .same _ ∙ u .same _ ∙ o .same;
+      ahead = o .ahead _ (u .ahead _ (t .ahead _ (omega arith)));
+    }
 
 returns-4 : tie.Need-returns-4
 returns-4 c =
@@ -58,7 +66,9 @@ after-spec =
     (λ c κs. search needs)
     (λ c. search needs)
     (λ c κs. search needs)
+    (λ c κs. search needs)
     (λ c. search needs)
+    (λ c κs. search needs)
     (λ c κs. search needs)
     (λ c κs. search needs)
     (λ c. search needs)

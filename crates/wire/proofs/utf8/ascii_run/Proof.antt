@@ -5,7 +5,7 @@ use Rattle.wire.proofs.utf8.ascii_run.Statement.{statement}
 use Rattle.wire.proofs.utf8.ascii_run.Tie as tie
 
 returns : tie.Need-returns
-returns c = run-on (c .before .blocks2 .ensures) (c .singles .ensures)
+returns c = run-on (run-on (c .before .before .wide .ensures) (c .before .blocks2 .ensures)) (c .singles .ensures)
 
 pub ascii-run-spec : {M : Type 1} → statement M
-ascii-run-spec = tie.close (tie.spec (λ c κs. search needs) (λ c κs. search needs) returns)
+ascii-run-spec = tie.close (tie.spec (λ c κs. search needs) (λ c κs. search needs) (λ c κs. search needs) returns)

@@ -1,5 +1,4 @@
--- `is_utf8` meets its contract. The loop's invariant: whole characters stand up to i.
-use Prim.Native.Nat.{_-_}
+-- `is_utf8` meets its contract: what is left behind the ASCII at the front is what there is to check.
 use mathlib.Core.Path.{_≡_, sym, _∙_}
 use native.Mathlib.Omega.{arith}
 use lib.ListN.{length}
@@ -7,48 +6,34 @@ use lib.Seq.{drop-length}
 use denote.Ref.{now}
 use borrow.Author.Needs.{needs}
 use Rattle.wire.specs.Utf8.{ends}
-use Rattle.wire.specs.Code.{Run}
-use Rattle.wire.proofs.Steps.{run-on, step-run}
+use Rattle.wire.proofs.Steps.{run-on}
 use Rattle.wire.proofs.utf8.is_utf8.Statement.{statement}
 use Rattle.wire.proofs.utf8.is_utf8.Tie as tie
 
-abbrev Inv-loop : tie.InvT-loop
-Inv-loop s i₀ i = Run s 0 i
+returns : tie.Need-returns
+returns c = c .characters .ensures ∙ sym (run-on (c .before .before .before .blocks2 .ensures) (c .before .before .singles .ensures) .same)
 
-abbrev μ-loop : tie.MeasureT-loop
-μ-loop s i₀ i = length s - i
-
-loop-less : tie.Need-loop-less Inv-loop μ-loop
-loop-less c = omega (arith, rw (c .before .next .given .1) at (c .before .before .before .after .ensures .ahead))
-
-loop-again : tie.Need-loop-again Inv-loop μ-loop
-loop-again c =
-    run-on (c .before .before .before .before .before .loop .inv)
-    (step-run (rw (c .before .next .given .1) at (c .before .before .before .after .ensures)))
-
-returns : tie.Need-returns Inv-loop μ-loop
-returns c =
-    sym (c .before .before .before .before .loop .inv .same ∙ rw (c .enum-told .given .1) at (c .before .before .after .ensures .same))
-
-returns-2 : tie.Need-returns-2 Inv-loop μ-loop
+returns-2 : tie.Need-returns-2
 unfolding ends
 returns-2 c =
-    let s = now (c .before .before .before .args .s) in
-    let l = c .before .loop in
-    let e : l .i ≡ length s = omega arith in
-    sym (l .inv .same ∙ rw (e, drop-length s))
+    let s = now (c .before .before .before .before .before .args .s) in
+    let i = c .before .singles .result in
+    let e : i ≡ length s = omega arith in
+    let r = run-on (c .before .before .blocks2 .ensures) (c .before .singles .ensures) in
+    sym (r .same ∙ rw (e, drop-length s))
+
+returns-3 : tie.Need-returns-3
+returns-3 c = c .characters2 .ensures ∙ sym (c .before .wide .ensures .same)
 
 pub is-utf8-spec : {M : Type 1} → statement M
 is-utf8-spec =
     tie.close
     (tie.spec
-    Inv-loop
-    μ-loop
-    (λ c. search needs)
     (λ c κs. search needs)
-    (λ c. search needs)
-    loop-less
-    loop-again
-    (λ c. search needs)
+    (λ c κs. search needs)
+    (λ c κs. search needs)
+    (λ c κs. search needs)
+    (λ c κs. search needs)
     returns
-    returns-2)
+    returns-2
+    returns-3)

@@ -1,0 +1,54 @@
+-- `characters` meets its contract. The loop's invariant: whole characters stand up to i.
+use Prim.Native.Nat.{_-_}
+use mathlib.Core.Path.{_≡_, sym, _∙_}
+use native.Mathlib.Omega.{arith}
+use lib.ListN.{length}
+use lib.Seq.{drop-length}
+use denote.Ref.{now}
+use borrow.Author.Needs.{needs}
+use Rattle.wire.specs.Utf8.{ends}
+use Rattle.wire.specs.Code.{Run}
+use Rattle.wire.proofs.Steps.{run-on, step-run}
+use Rattle.wire.proofs.utf8.characters.Statement.{statement}
+use Rattle.wire.proofs.utf8.characters.Tie as tie
+
+abbrev Inv-loop : tie.InvT-loop
+Inv-loop s start i₀ i = Run s start i
+
+abbrev μ-loop : tie.MeasureT-loop
+μ-loop s start i₀ i = length s - i
+
+loop-less : tie.Need-loop-less Inv-loop μ-loop
+loop-less c = omega (arith, rw (c .before .next .given .1) at (c .before .before .before .after .ensures .ahead))
+
+loop-again : tie.Need-loop-again Inv-loop μ-loop
+loop-again c =
+    run-on (c .before .before .before .before .before .loop .inv)
+    (step-run (rw (c .before .next .given .1) at (c .before .before .before .after .ensures)))
+
+returns : tie.Need-returns Inv-loop μ-loop
+returns c =
+    sym (c .before .before .before .before .loop .inv .same ∙ rw (c .enum-told .given .1) at (c .before .before .after .ensures .same))
+
+returns-2 : tie.Need-returns-2 Inv-loop μ-loop
+unfolding ends
+returns-2 c =
+    let s = now (c .before .before .before .args .s) in
+    let l = c .before .loop in
+    let e : l .i ≡ length s = omega arith in
+    sym (l .inv .same ∙ rw (e, drop-length s))
+
+pub characters-spec : {M : Type 1} → statement M
+characters-spec =
+    tie.close
+    (tie.spec
+    Inv-loop
+    μ-loop
+    (λ c. search needs)
+    (λ c κs. search needs)
+    (λ c. search needs)
+    loop-less
+    loop-again
+    (λ c. search needs)
+    returns
+    returns-2)

@@ -1,0 +1,32 @@
+-- `wide` meets its contract. The loop's invariant: whole characters stand up to i.
+use Prim.Native.Nat.{_-_}
+use lib.ListN.{length}
+use borrow.Author.Needs.{needs}
+use Rattle.wire.specs.Code.{Run}
+use Rattle.wire.proofs.Steps.{run-on}
+use Rattle.wire.proofs.utf8.wide.Statement.{statement}
+use Rattle.wire.proofs.utf8.wide.Tie as tie
+
+abbrev Inv-loop : tie.InvT-loop
+Inv-loop s from i₀ i = Run s from i
+
+abbrev μ-loop : tie.MeasureT-loop
+μ-loop s from i₀ i = length s - i
+
+loop-again : tie.Need-loop-again Inv-loop μ-loop
+loop-again c = run-on (c .before .before .before .loop .inv) (c .before .ascii64 .ensures (c .if1 .taken))
+
+pub wide-spec : {M : Type 1} → statement M
+wide-spec =
+    tie.close
+    (tie.spec
+    Inv-loop
+    μ-loop
+    (λ c. search needs)
+    (λ c. search needs)
+    (λ c κs. search needs)
+    (λ c. search needs)
+    (λ c. search needs)
+    loop-again
+    (λ c. c .before .before .before .loop .inv)
+    (λ c. c .before .loop .inv))

@@ -1,0 +1,37 @@
+-- `windows` meets its contract. The loop's invariant: what was left to check at first is what is left behind the two bytes at i.
+use Prim.Native.Nat.{_-_}
+use mathlib.Core.Path.{refl}
+use native.Mathlib.Omega.{arith}
+use lib.ListN.{length}
+use borrow.Author.Needs.{needs}
+use Rattle.wire.specs.Code.{Owed}
+use Rattle.wire.proofs.Steps.{owed-none, owed-trans}
+use Rattle.wire.proofs.utf8.windows.Statement.{statement}
+use Rattle.wire.proofs.utf8.windows.Tie as tie
+
+abbrev Inv-loop : tie.InvT-loop
+Inv-loop s from i₀ i = Owed s from i
+
+abbrev μ-loop : tie.MeasureT-loop
+μ-loop s from i₀ i = length s - i
+
+loop-holds : tie.Need-loop-holds Inv-loop μ-loop
+loop-holds c = owed-none _ _ _ refl (omega arith)
+
+loop-again : tie.Need-loop-again Inv-loop μ-loop
+loop-again c = owed-trans (c .before .before .before .loop .inv) (c .before .fits32 .ensures (c .if1 .taken))
+
+pub windows-spec : {M : Type 1} → statement M
+windows-spec =
+    tie.close
+    (tie.spec
+    Inv-loop
+    μ-loop
+    loop-holds
+    (λ c. search needs)
+    (λ c κs. search needs)
+    (λ c. search needs)
+    (λ c. search needs)
+    loop-again
+    (λ c. c .before .before .before .loop .inv)
+    (λ c. c .before .loop .inv))
