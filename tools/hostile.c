@@ -450,7 +450,9 @@ static void read_and_write(int read, int write) {
 
 /* What the bytes of a value answer by themselves, with room for all: 2, 3 and unused bytes are damage. The image is left in `again`. */
 static struct result alone(size_t place, size_t n) {
+    const char *call = now_call;
     struct result v = reading(VALUE, input + place, n, nothing, 3 * length, again);
+    now_call = call;
     if (v.answer == 2 || v.answer == 3 || (v.answer == 0 && v.used < n)) return (struct result){9, 0, 0};
     return v;
 }

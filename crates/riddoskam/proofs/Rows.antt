@@ -1,15 +1,18 @@
 -- The laws of a row of entries' numbers.
-use Prim.Native.Nat.{ℕ, suc, _+_, _*_, _-_, _≤_}
+use Prim.Native.Nat.{ℕ, zero, suc, _+_, _*_, _-_, _≤_, _<_}
 use mathlib.Core.Path.{_≡_, refl, sym, ap, _∙_}
 use mathlib.Core.List.{List, [], _∷_, _++_, append-assoc, append-nil}
+use mathlib.Core.Bool.{Bool, true, false}
 use native.Mathlib.Omega.{arith}
-use lib.ListN.{length, take, drop, replicate, length-append}
+use lib.ListN.{length, getD, take, drop, replicate, length-append}
 use lib.Seq.{sets, sets-eq, take-at, length-take-le}
-use borrow.Author.Tests.{le-leb, lt-leb}
+use lib.Dec.{leb}
+use borrow.Author.Tests.{le-leb, lt-leb, lt-ltb}
+use Rattle.wire.specs.Choice.{pick}
 use Rattle.packet.specs.declared.head.Entry.{Entry}
-use Rattle.packet.specs.Entry.{Cut, found, stops, listed}
-use Rattle.packet.specs.Code.{ahead, aheads, countedIn}
-use Rattle.riddoskam.specs.Numbers.{entryNumbers, numbersOf, rowOf}
+use Rattle.packet.specs.Entry.{Cut, found, stops, cutOf, noEntry, Listed, uncut, listed, listOf}
+use Rattle.packet.specs.Code.{ahead, aheads, foundIn, countedIn}
+use Rattle.riddoskam.specs.Numbers.{entryNumbers, foundNumbers, numbersOf, rowOf}
 
 numbers-length : (es : List Entry) → length (numbersOf es) ≡ 8 * length es
 unfolding numbersOf
@@ -76,3 +79,31 @@ rowing row n room (found (e ∷ es) z) h s r =
     let m : length (r .entries ++ e ∷ es) ≡ n + suc (length es) = simp (length-append, r .count) in
     let t = lt-leb (length (r .entries ++ e ∷ es)) room (omega (arith, s e es z refl, m)) in
     rw (r .whole) (record { cutting = rw t; left = rw t })
+
+-- ---- an entry of the row
+
+numbers-at : (es : List Entry) (r : List ℕ) (k : ℕ) → k < length es → take 8 (drop (8 * k) (numbersOf es ++ r)) ≡ entryNumbers (getD es k noEntry)
+unfolding numbersOf
+numbers-at [] r k h = absurd (omega arith)
+numbers-at (e ∷ es) r zero h = refl
+numbers-at (e ∷ es) r (suc k) h =
+    let m : 8 * suc k ≡ suc (suc (suc (suc (suc (suc (suc (suc (8 * k)))))))) = omega arith in
+    rw m (numbers-at es r k (omega arith))
+
+-- What the row has at a number below the count is what `riddoskam_packet_nth` leaves for that number.
+pub row-nth : (s : List ℕ) (room n k : ℕ) → k < listOf s room .cutting .count
+    → take 8 (drop (8 * k) (rowOf (listOf s room .entries) n)) ≡ foundNumbers (foundIn (cutOf s) k)
+unfolding listOf
+row-nth s room n k = go (cutOf s)
+  where
+    all : List Entry → ℕ → Listed
+    all es z = record { cutting = record { answer = 0; used = z; count = length es }; entries = es }
+
+    fit : (es : List Entry) (z : ℕ) (t : Bool) → k < pick t (all es z) (uncut 4) .cutting .count
+        → take 8 (drop (8 * k) (rowOf (pick t (all es z) (uncut 4) .entries) n)) ≡ foundNumbers (foundIn (found es z) k)
+    fit es z true h = rw (lt-ltb k (length es) h) (numbers-at es (replicate (n - length (numbersOf es)) 0) k h)
+    fit es z false h = absurd (omega arith)
+
+    go : (x : Cut) → k < listed x room .cutting .count → take 8 (drop (8 * k) (rowOf (listed x room .entries) n)) ≡ foundNumbers (foundIn x k)
+    go (found es z) h = fit es z (leb (length es) room) h
+    go (stops a p) h = absurd (omega arith)
