@@ -34,8 +34,19 @@ def times(call, file):
     return least["riddoskam"], least["rust"]
 
 
+def line(points):
+    """The line with the least squares of errors, each by its own size, through (bytes, instructions), and the largest error of a point."""
+    weights = [1 / y**2 for _, y in points]
+    n, sx, sy = sum(weights), sum(w * x for w, (x, _) in zip(weights, points)), sum(w * y for w, (_, y) in zip(weights, points))
+    sxx, sxy = sum(w * x * x for w, (x, _) in zip(weights, points)), sum(w * x * y for w, (x, y) in zip(weights, points))
+    slope = (n * sxy - sx * sy) / (n * sxx - sx * sx)
+    start = (sy - slope * sx) / n
+    return start, slope, max(abs(start + slope * x - y) / y for x, y in points)
+
+
 def table(title, call, names):
     print(f"\n{title}\n")
+    points = []
     print("| file | bytes | instructions | a byte | the Rust's | ratio | time, ns | the Rust's | ratio |")
     print("|---|---|---|---|---|---|---|---|---|")
     for name in names:
@@ -44,6 +55,11 @@ def table(title, call, names):
         ours, rust = instructions("riddoskam", call, file), instructions("rust", call, file)
         t, u = times(call, file)
         print(f"| {name} | {size:,} | {ours:,.0f} | {ours / size:.1f} | {rust:,.0f} | {ours / rust:.2f} | {t:,} | {u:,} | {t / u:.2f} |", flush=True)
+        if name.startswith("shelves"):
+            points.append((size, ours))
+    if len(points) > 2:
+        start, slope, error = line(points)
+        print(f"\nThe line through the files of shelves: {start:,.0f} and {slope:.2f} a byte; no file is off by more than {100 * error:.1f} %.", flush=True)
 
 
 SHAPES = ["small", "deep", "text", "umlauts", "array"]
