@@ -75,11 +75,6 @@ on-value : (v : Tree Sort.value) (st : List Node) → on v st ≡ one v ∷ st
 unfolding on
 on-value (node i t) st = refl
 
-on-properties : (ps : Tree Sort.properties) (st : List Node) → on ps st ≡ some ps ∷ st
-unfolding on
-on-properties none st = refl
-on-properties (property k v ps) st = refl
-
 stacked : {k : Sort} (t : Tree k) (r : List Word) → stack (told t r) ≡ on t (stack r)
 unfolding stack step on
 stacked (node i t) r = rw (stacked t r, pop-on t (stack r))

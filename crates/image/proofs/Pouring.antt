@@ -289,9 +289,6 @@ pub numberIn-in : (count n : ℕ) (d : Out) → count ≤ most → numberIn coun
 unfolding numberIn
 numberIn-in count n d h = pick-yes count most _ _ h
 
-pub length-number : (n : ℕ) → length (numberBytes n) ≡ 9
-length-number n = refl
-
 -- a row of a number and no text
 pub row-number : (text : List ℕ) (r : Row) (n at : ℕ) (d : Out)
     → r ≡ record { mark = record { width = 1; number = 0x00 }; a = record { width = 8; number = n }; b = record { width = 0; number = 0 }; place = 0; length = 0 } → row text r at d ≡ put (numberBytes n) d

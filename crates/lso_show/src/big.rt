@@ -20,7 +20,7 @@ pub fn put(a: &mut Big, n: u64) {
     a[1] = low_word(n / 0x1_0000_0000);
 }
 
-pub fn times(a: &mut Big, by: u64)
+pub(crate) fn times(a: &mut Big, by: u64)
     requires { ⌜ by ≤ 65536 ⌝ }
 {
     let mut carry: u64 = 0;

@@ -42,8 +42,8 @@ use Rattle.packet.specs.declared.entry.Found.the-variants as Found
 use Rattle.packet.specs.declared.walk.Walk.{Walk}
 use Rattle.packet.specs.declared.walk.Walk.the-variants as W
 use Rattle.packet.specs.Head.{versionAt, headerAt, messageAt, headAt, gotHead}
-use Rattle.packet.specs.Entry.{Cut, found, stops, gotCut, entryAt, walk, cutOf, noEntry, listed, filled, spanOf, judge, valueOf, readSpan, entryIn}
-use Rattle.packet.specs.Code.{ended, behind, restOf, goesOn, goesBelow, ahead, aheads, without, endOf, firstIn, foundIn, refusedCut, countedIn, judgedOf}
+use Rattle.packet.specs.Entry.{Cut, found, stops, gotCut, entryAt, walk, cutOf, noEntry, listed, filled, spanOf, judge, valueOf, readSpan, entryIn, foundIn}
+use Rattle.packet.specs.Code.{ended, behind, restOf, goesOn, goesBelow, ahead, aheads, without, endOf, firstIn, refusedCut, countedIn, judgedOf}
 
 -- ---- heads
 

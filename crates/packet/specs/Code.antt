@@ -3,7 +3,7 @@ use Prim.Native.Nat.{ℕ, suc, _+_, _-_}
 use mathlib.Core.Path.{_≡_}
 use mathlib.Core.List.{List, [], _∷_, _++_}
 use mathlib.Core.Bool.{Bool, true, false}
-use lib.ListN.{length, getD, drop}
+use lib.ListN.{length, drop}
 use lib.Seq.{sets}
 use lib.Dec.{leb, ltb, eqb}
 use Rattle.wire.specs.Choice.{pick}
@@ -21,7 +21,7 @@ use Rattle.packet.specs.declared.entry.Cutting.{Cutting}
 use Rattle.packet.specs.declared.walk.Walk.{Walk}
 use Rattle.packet.specs.declared.walk.Walk.the-variants as W
 use Rattle.packet.specs.Reading.{entriesAt, packetAt}
-use Rattle.packet.specs.Entry.{Cut, found, stops, gotCut, walk, noEntry, uncut}
+use Rattle.packet.specs.Entry.{Cut, found, stops, gotCut, walk, uncut}
 
 -- ---- the whole reading
 
@@ -92,10 +92,6 @@ abbrev pub firstIn : Cut → Found
 firstIn (found [] z) = Found.Stop 8 0
 firstIn (found (e ∷ es) z) = Found.Is e
 firstIn (stops a p) = Found.Stop a p
-
-abbrev pub foundIn : Cut → ℕ → Found
-foundIn (found es z) number = pick (ltb number (length es)) (Found.Is (getD es number noEntry)) (Found.Stop 8 0)
-foundIn (stops a p) number = Found.Stop a p
 
 abbrev pub refusedCut : ℕ → Cutting
 refusedCut a = uncut a .cutting

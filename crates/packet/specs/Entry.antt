@@ -12,6 +12,8 @@ use Rattle.image.specs.Whole.{Whole, settled, refused}
 use Rattle.amf0.specs.Reading.{value}
 use Rattle.packet.specs.declared.head.Entry.{Entry}
 use Rattle.packet.specs.declared.entry.Cutting.{Cutting}
+use Rattle.packet.specs.declared.entry.Found.{Found}
+use Rattle.packet.specs.declared.entry.Found.the-variants as Found
 use Rattle.packet.specs.declared.head.Head.{Head}
 use Rattle.packet.specs.declared.head.Head.the-variants as Head
 use Rattle.packet.specs.Head.{versionAt, headAt, gotHead, entry}
@@ -77,6 +79,11 @@ abbrev pub filled : List Entry → ℕ → List Entry
 filled es room = es ++ replicate (room - length es) noEntry
 
 -- ---- one entry
+
+-- the entry with a number, from 0, headers first
+abbrev pub foundIn : Cut → ℕ → Found
+foundIn (found es z) number = pick (ltb number (length es)) (Found.Is (getD es number noEntry)) (Found.Stop 8 0)
+foundIn (stops a p) number = Found.Stop a p
 
 -- the bytes of an entry's value
 abbrev pub spanOf : List ℕ → Entry → List ℕ

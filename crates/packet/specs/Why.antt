@@ -10,8 +10,7 @@ use Rattle.amf0.specs.Reading.{value}
 use Rattle.packet.specs.declared.head.Entry.{Entry}
 use Rattle.packet.specs.declared.entry.Found.the-variants as Found
 use Rattle.packet.specs.Reading.{packetAt}
-use Rattle.packet.specs.Entry.{found, stops, cutOf, spanOf, Listed, uncut}
-use Rattle.packet.specs.Code.{foundIn}
+use Rattle.packet.specs.Entry.{found, stops, cutOf, spanOf, Listed, uncut, foundIn}
 
 -- the incomplete reading
 pub data Comes (s : List ℕ) (room : ℕ) : Whole → Type 0 where

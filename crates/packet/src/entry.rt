@@ -30,8 +30,8 @@ ghost use Prim.Native.Nat.{_+_, _-_, _≤_};
 ghost use lib.ListN.{length, take, replicate};
 ghost use Rattle.wire.specs.Limit.{bytes};
 ghost use Rattle.image.specs.Whole.{padded};
-ghost use Rattle.packet.specs.Entry.{cutOf, noEntry, listOf, filled, readSpan, readEntry};
-ghost use Rattle.packet.specs.Code.{restOf, firstIn, foundIn, refusedCut, countedIn, judgedOf};
+ghost use Rattle.packet.specs.Entry.{cutOf, noEntry, listOf, filled, readSpan, readEntry, foundIn};
+ghost use Rattle.packet.specs.Code.{restOf, firstIn, refusedCut, countedIn, judgedOf};
 
 // What a cut returns: the bytes of the packet, and the number of its entries.
 pub struct Cutting {

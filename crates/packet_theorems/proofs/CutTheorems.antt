@@ -8,14 +8,12 @@ use native.Mathlib.Omega.{arith}
 use lib.ListN.{length, getD, replicate}
 use lib.Dec.{leb}
 use borrow.Author.Tests.{leb-true, leb-false, lt-ltb}
-use Rattle.wire.specs.Limit as limit
 use Rattle.wire.proofs.Laws.{picked}
 use Rattle.packet.specs.declared.head.Entry.{Entry}
 use Rattle.packet.specs.declared.entry.Cutting.{Cutting}
 use Rattle.packet.specs.declared.entry.Found.{Found}
 use Rattle.packet.specs.declared.entry.Found.the-variants as Found
-use Rattle.packet.specs.Entry.{Cut, found, stops, cutOf, noEntry, Listed, listed, listOf, filled, readSpan, readEntry}
-use Rattle.packet.specs.Code.{foundIn}
+use Rattle.packet.specs.Entry.{Cut, found, stops, cutOf, noEntry, Listed, listed, listOf, filled, readSpan, readEntry, foundIn}
 use Rattle.packet.specs.Change.{Changed}
 use Rattle.packet.specs.Why.{ComesList}
 use Rattle.packet.proofs.Laws.{Splits, cut-told, entry-chosen, span-read}

@@ -19,8 +19,7 @@ use Rattle.packet.specs.declared.head.Entry.{Entry}
 use Rattle.packet.specs.declared.entry.Found.{Found}
 use Rattle.packet.specs.declared.entry.Found.the-variants as Found
 use Rattle.packet.specs.Reading.{packetAt, incompleteOf}
-use Rattle.packet.specs.Entry.{cutOf, spanOf, judge, valueOf, entryIn, readEntry}
-use Rattle.packet.specs.Code.{foundIn}
+use Rattle.packet.specs.Entry.{cutOf, spanOf, judge, valueOf, entryIn, readEntry, foundIn}
 use Rattle.packet.specs.Why.{Comes, inEntry, ComesEntry}
 use Rattle.packet.proofs.Laws.{cut-told, entry-none, entry-chosen}
 use Rattle.packet.proofs.Reasons.{Kept, value-kept, forward}

@@ -25,8 +25,7 @@ use Rattle.packet.specs.Packet.{Packet, Encoded}
 use Rattle.packet.specs.Shown.{ShowsPacket, Within}
 use Rattle.packet.specs.Reading.{packetAt, incompleteOf, wholeOf}
 use Rattle.packet.specs.declared.entry.Found.the-variants as Found
-use Rattle.packet.specs.Entry.{found, cutOf, noEntry, spanOf, readEntry}
-use Rattle.packet.specs.Code.{foundIn}
+use Rattle.packet.specs.Entry.{found, cutOf, noEntry, spanOf, readEntry, foundIn}
 use Rattle.packet.specs.Why.{ComesEntry}
 use Rattle.packet_theorems.proofs.Agree.{alone, good-entry, based-ends}
 use Rattle.packet_theorems.proofs.Frame.{cut-read, lies-told}

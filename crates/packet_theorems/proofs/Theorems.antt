@@ -17,8 +17,7 @@ use Rattle.packet.specs.declared.head.Entry.{Entry}
 use Rattle.packet.specs.declared.entry.Found.{Found}
 use Rattle.packet.specs.declared.entry.Found.the-variants as Found
 use Rattle.packet.specs.Reading.{packetAt, all, incompleteOf, wholeOf}
-use Rattle.packet.specs.Entry.{Cut, found, stops, cutOf, spanOf, entryIn, readEntry}
-use Rattle.packet.specs.Code.{foundIn}
+use Rattle.packet.specs.Entry.{Cut, found, stops, cutOf, spanOf, entryIn, readEntry, foundIn}
 use Rattle.packet.specs.Why.{Comes, ComesEntry, inEntry}
 use Rattle.packet.proofs.Laws.{Splits, cut-told}
 use Rattle.packet.proofs.Reasons.{packet-kept, small, tells, forward}

@@ -10,8 +10,8 @@ use lib.Dec.{leb}
 use borrow.Author.Tests.{le-leb, lt-leb, lt-ltb}
 use Rattle.wire.specs.Choice.{pick}
 use Rattle.packet.specs.declared.head.Entry.{Entry}
-use Rattle.packet.specs.Entry.{Cut, found, stops, cutOf, noEntry, Listed, uncut, listed, listOf}
-use Rattle.packet.specs.Code.{ahead, aheads, foundIn, countedIn}
+use Rattle.packet.specs.Entry.{Cut, found, stops, cutOf, noEntry, Listed, uncut, listed, listOf, foundIn}
+use Rattle.packet.specs.Code.{ahead, aheads, countedIn}
 use Rattle.riddoskam.specs.Numbers.{entryNumbers, foundNumbers, numbersOf, rowOf}
 
 numbers-length : (es : List Entry) → length (numbersOf es) ≡ 8 * length es

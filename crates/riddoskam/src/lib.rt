@@ -26,8 +26,7 @@ ghost use Rattle.lso.specs.Reading.{wholeOf as wholeFile, incompleteOf as incom
 ghost use Rattle.lso.specs.Writing.{writeOf as fileWritten};
 ghost use Rattle.packet.specs.Reading.{wholeOf as wholePacket, incompleteOf as incompletePacket};
 ghost use Rattle.packet.specs.Writing.{writeOf as packetWritten};
-ghost use Rattle.packet.specs.Entry.{cutOf, listOf, readSpan, readEntry};
-ghost use Rattle.packet.specs.Code.{foundIn};
+ghost use Rattle.packet.specs.Entry.{cutOf, listOf, readSpan, readEntry, foundIn};
 ghost use Rattle.riddoskam.specs.Numbers.{foundAnswer, foundNumbers, rowOf, takenAnswer, takenNumbers, takenNext};
 
 // ---- texts

@@ -138,10 +138,6 @@ module _ (s : List ℕ) (at : ℕ) where
   unfolding u24At
   u24-next = number-read told32 3 s at
 
-  pub u24-stop : (a p : ℕ) → u24At s at ≡ U32.Stop a p → Short 3 s at a p
-  unfolding u24At
-  u24-stop = number-short told32 3 s at
-
   pub u32-next : (n : ℕ) (c : Cursor) → u32At s at ≡ U32.Got n c → Read 4 s at n c
   unfolding u32At
   u32-next = number-read told32 4 s at

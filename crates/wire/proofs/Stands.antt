@@ -25,7 +25,7 @@ use Rattle.wire.specs.declared.cursor.Tag.the-variants as Tag
 use Rattle.wire.specs.Number.{digits, number, Bytes}
 use Rattle.wire.specs.Utf8.{utf8}
 use Rattle.wire.specs.Field.{to, bytesAt, numberAt, u8At, u16At, u24At, u32At, u64At, strAt, textAt, equal, tagAt, got8, got16, got32, got64, gotText}
-use Rattle.wire.proofs.Laws.{picked, Read, u8-next, u16-next, u24-next, u32-next, u64-next, text-next, tag-next, length-digits, number-digits, number-bound, digits-number}
+use Rattle.wire.proofs.Laws.{picked, Read, u16-next, tag-next, length-digits, number-digits, number-bound, digits-number}
 
 -- ---- a row of bytes at a place
 
@@ -181,25 +181,8 @@ module _ (s : List ℕ) (bs : Bytes s) (at : ℕ) where
   read-ends : (w n : ℕ) (c : Cursor) → Read w s at n c → Stood w s at n
   read-ends w n c r = rw (r .value) (number-stood w (r .within))
 
-  pub u8-ends : (n : ℕ) (c : Cursor) → u8At s at ≡ U8.Got n c → Stood 1 s at n
-  u8-ends n c e = read-ends 1 n c (u8-next s at n c e)
-
   pub u16-ends : (n : ℕ) (c : Cursor) → u16At s at ≡ U16.Got n c → Stood 2 s at n
   u16-ends n c e = read-ends 2 n c (u16-next s at n c e)
-
-  pub u24-ends : (n : ℕ) (c : Cursor) → u24At s at ≡ U32.Got n c → Stood 3 s at n
-  u24-ends n c e = read-ends 3 n c (u24-next s at n c e)
-
-  pub u32-ends : (n : ℕ) (c : Cursor) → u32At s at ≡ U32.Got n c → Stood 4 s at n
-  u32-ends n c e = read-ends 4 n c (u32-next s at n c e)
-
-  pub u64-ends : (n : ℕ) (c : Cursor) → u64At s at ≡ U64.Got n c → Stood 8 s at n
-  u64-ends n c e = read-ends 8 n c (u64-next s at n c e)
-
-  pub text-ends : (w p n : ℕ) (c : Cursor) → textAt w s at ≡ Text.Got p n c → StoodText w s at n
-  text-ends w p n c e =
-      let r = text-next w s at p n c e in
-      text-stood w n (r .size) (rw (r .size) (r .within)) (rw (r .size) (r .right))
 
 equal-same : (x y : List ℕ) → equal x y ≡ true → x ≡ y
 equal-same [] [] e = refl

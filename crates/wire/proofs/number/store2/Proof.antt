@@ -1,5 +1,4 @@
 -- `store2` meets its contract: the stores are those of the digits.
-use mathlib.Core.Path.{_≡_}
 use native.Mathlib.Nat.{div-one}
 use native.Mathlib.Numerals.{towards-suc}
 use native.Mathlib.Omega.{arith}

@@ -1,7 +1,6 @@
 -- `ascii64` meets its contract. The loop's invariant: if what the bytes are or-ed to is ASCII, so are they all.
 use Prim.Native.Nat.{_+_, _-_, _≤_, _<_}
-use mathlib.Core.Path.{_≡_, refl}
-use native.Mathlib.Nat.{add-zero}
+use mathlib.Core.Path.{_≡_}
 use native.Mathlib.Omega.{arith}
 use borrow.Author.Needs.{needs}
 use borrow.Author.Tests.{ltb-true}
