@@ -3,5 +3,7 @@
 pub mod Laws
 pub mod Rows
 pub mod Putting
+pub mod Begun
+pub mod Coming
 pub mod Reasons
 pub mod Outcome

@@ -23,12 +23,12 @@ use Rattle.image.specs.Taking.{recordAt}
 use Rattle.image.specs.Out.{Out, end, stop, put, _>>=_, row, numberBytes, pour, poured, Grown, bytes, settled, Written, written, unwritten}
 use Rattle.image.proofs.Laws.{size-some}
 use Rattle.image.proofs.Found.{found-stood}
-use Rattle.image.proofs.Pouring.{Slim, row-number, pour-then, pour-halt, pour-stop, pour-end, went, bytes-bind, settled-stop, settled-halt, settled-over, settled-full, settled-fits}
+use Rattle.image.proofs.Pouring.{Slim, pour-then, pour-halt, pour-stop, pour-end, went, bytes-bind, settled-stop, settled-halt, settled-over, settled-full, settled-fits}
 use Rattle.amf0.specs.declared.write.Rest.the-variants.{Nothing, Pairs, Dense, Values}
 use Rattle.amf0.specs.declared.write.Shape.{Shape}
 use Rattle.amf0.specs.declared.write.Shape.the-variants as S
 use Rattle.amf0.specs.Writing.{shapeOf, indexed, valueAt, valued, paired, items, pairs, dense, rest, value, before, valueIn, whole, writeOf}
-use Rattle.amf0.specs.Code.{Ahead, growth}
+use Rattle.amf0.specs.Code.{Ahead, growth, opened, keyed}
 
 -- ---- the places that a step goes on at
 
@@ -50,7 +50,7 @@ grown w e l = record { bounds = λ c n f. let b = w .bounds c n f in omega arith
 
 -- ---- a record that is found
 
-known-bytes : (s : List ℕ) → ((i : ℕ) → getD s i 0 < 256) → Bytes s
+pub known-bytes : (s : List ℕ) → ((i : ℕ) → getD s i 0 < 256) → Bytes s
 known-bytes [] h = tt
 known-bytes (b ∷ s) h = (h 0, known-bytes s (λ i. h (suc i)))
 
@@ -66,7 +66,7 @@ past image h at {r} {c} e =
     record { from = omega (arith, k .next); fits = k .within }
 
 -- the row of every shape is slim
-abbrev Thin : Shape → Type 0
+abbrev pub Thin : Shape → Type 0
 Thin (S.Value w f) = Slim w
 Thin (S.Key w) = Slim w
 Thin (S.End w) = Slim w
@@ -111,44 +111,21 @@ module _ (image text : List ℕ) (at : ℕ) where
   unfolding value
   value-none left z e = rw (z, e)
 
-  pub value-bad : (left : ℕ) → (left ≡ 0 → ⊥) → recordAt image at ≡ Bad → value left image text at ≡ stop 6 at
+  pub value-opened : (left : ℕ) → (left ≡ 0 → ⊥) → value left image text at ≡ opened (recordAt image at) text at (rest (value (left - 1) image text) image text)
   unfolding value
-  value-bad zero z e = absurd (z refl)
-  value-bad (suc left) z e = rw e
-
-  pub value-shaped : (left : ℕ) {r : Record} {c : Cursor} {x : Shape} → (left ≡ 0 → ⊥) → recordAt image at ≡ Found r c → shapeOf r ≡ x
-      → value left image text at ≡ valued at x (λ w f. row text w at (rest (value (left - 1) image text) image text f (c .at)))
-  unfolding value
-  value-shaped zero z e f = absurd (z refl)
-  value-shaped (suc left) z e f = rw (e, f, sub-one (suc left))
-
-  -- a number, whatever the text
-  pub value-number : (left : ℕ) {n : ℕ} {c : Cursor} → (left ≡ 0 → ⊥) → recordAt image at ≡ Found (Number n) c
-      → value left image text at ≡ put (numberBytes n) (end (c .at))
-  unfolding rest
-  value-number left {n} {c} z e = value-shaped left z e refl ∙ row-number text _ n at (end (c .at)) refl
+  value-opened zero z = absurd (z refl)
+  value-opened (suc left) z = rw (sub-one (suc left))
 
   -- ---- pairs
 
   module _ (inner : ℕ → Out) (fuel : ℕ) where
-    pub pairs-bad : recordAt image at ≡ Bad → pairs inner image text fuel at ≡ stop 6 at
+    pub pairs-keyed : 0 < fuel → pairs inner image text fuel at ≡ keyed (recordAt image at) text at (λ q. inner q >>= pairs inner image text (fuel - 1))
     unfolding pairs
-    pairs-bad e = go fuel
+    pairs-keyed h = go fuel h
       where
-        go : (f : ℕ) → pairs inner image text f at ≡ stop 6 at
-        go zero = refl
-        go (suc f) = rw e
-
-    pub pairs-shaped : {r : Record} {c : Cursor} {x : Shape} → 0 < fuel → recordAt image at ≡ Found r c → shapeOf r ≡ x
-        → pairs inner image text fuel at
-        ≡ paired at x (λ w. row text w at (inner (c .at) >>= pairs inner image text (fuel - 1))) (λ w. row text w at (end (c .at)))
-    unfolding pairs
-    pairs-shaped {r} {c} {x} h e f = go fuel h
-      where
-        go : (f : ℕ) → 0 < f → pairs inner image text f at
-            ≡ paired at x (λ w. row text w at (inner (c .at) >>= pairs inner image text (f - 1))) (λ w. row text w at (end (c .at)))
+        go : (f : ℕ) → 0 < f → pairs inner image text f at ≡ keyed (recordAt image at) text at (λ q. inner q >>= pairs inner image text (f - 1))
         go zero h = absurd (omega arith)
-        go (suc n) h = rw (e, f, sub-one (suc n))
+        go (suc n) h = rw (sub-one (suc n))
 
     -- ---- values without a key
 
@@ -187,6 +164,16 @@ module _ (inner : ℕ → Out) (image text : List ℕ) where
   unfolding items
   items-item zero at h = absurd (omega arith)
   items-item (suc k) at h = rw (sub-one (suc k))
+
+  -- one value is that value
+  pub rest-one : (at : ℕ) → rest inner image text (Values 1) at ≡ inner at
+  unfolding rest items
+  rest-one at = go (inner at)
+    where
+      go : (d : Out) → d >>= items inner image text 0 ≡ d
+      go (end n) = refl
+      go (stop a p) = refl
+      go (put b d) = ap (put b) (go d)
 
   -- ---- what follows a value's own bytes
 

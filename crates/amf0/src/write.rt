@@ -1,14 +1,13 @@
 // Writing one value: the records of its image, left to right, each as the bytes of its own fields.
 use image::reading::Step;
-use image::record::Field;
-use image::record::Record;
-use image::taking::Taken;
-use image::taking::number_here;
-use image::taking::record_at;
+use image::taking::Flag;
+use image::taking::flag_at;
+use image::taking::long_at;
+use image::taking::short_at;
 use image::writing::Row;
 use image::writing::Writing;
-use image::writing::emit;
-use image::writing::emit_number;
+use image::writing::emit_numbers;
+use image::writing::emit_text;
 use wire::answer::ACCEPTED;
 use wire::answer::NO_ROOM;
 use wire::answer::NO_TREE;
@@ -17,21 +16,29 @@ use wire::answer::TOO_DEEP;
 use wire::bytes::decimal_width;
 use wire::bytes::write_decimal;
 use wire::cursor::Cursor;
+use wire::cursor::Text;
 use wire::cursor::U8;
+use wire::cursor::U16;
+use wire::cursor::U32;
 use wire::cursor::U64;
 use wire::limit;
 use wire::number::write_number;
 ghost use mathlib.Core.Path.{_≡_};
-ghost use Prim.Native.Nat.{suc, _+_, _≤_};
+ghost use mathlib.Core.List.{List};
+ghost use Prim.Native.Nat.{ℕ, _+_, _*_, _≤_};
 ghost use lib.ListN.{length};
 ghost use Rattle.wire.specs.Number.{digits};
 ghost use Rattle.wire.specs.Bytes.{laid, decimal};
 ghost use Rattle.wire.specs.Limit.{bytes as most-bytes, «image» as most-image};
-ghost use Rattle.image.specs.Record.{_bytes_, none as noField, bitOf};
-ghost use Rattle.image.specs.Out.{pour, poured, onto};
+ghost use Rattle.image.specs.declared.record.Record.{Record};
+ghost use Rattle.image.specs.declared.record.Record.the-variants.{ObjectEnd};
+ghost use Rattle.image.specs.declared.taking.Taken.the-variants.{Found};
+ghost use Rattle.image.specs.Record.{none as noField, bitOf};
+ghost use Rattle.image.specs.Taking.{bodyAt, recordAt};
+ghost use Rattle.image.specs.Out.{most, pour, poured, onto};
 ghost use Rattle.amf0.specs.declared.write.Shape.the-variants.{Value};
-ghost use Rattle.amf0.specs.Writing.{shapeOf, plain as plainOf, texted as textedOf, among, kinds, valueAt, value, pairs, dense, items, valueIn, writeOf};
-ghost use Rattle.amf0.specs.Code.{Ahead, longest, room};
+ghost use Rattle.amf0.specs.Writing.{shapeOf, plain as plainOf, among, kinds, valueAt, value, rest as restOf, valueIn, writeOf};
+ghost use Rattle.amf0.specs.Code.{Ahead, longest, room, thenOf, zoneFits, Owned, Paired, dueAt, owed};
 
 // What follows a value's own bytes: nothing, pairs up to the end, values without a key before such pairs, or so many values.
 pub enum Rest {
@@ -49,101 +56,10 @@ pub enum Shape {
     Other,
 }
 
-fn none() -> Field
-    ensures { λ r. ⌜ r ≡ noField ⌝ }
-{
-    Field {
-        width: 0,
-        number: 0,
-    }
-}
-
-// A marker and up to two numbers.
-fn plain(marker: u64, v: usize, m: u64, w: usize, n: u64, rest: Rest) -> Shape
-    ensures { λ r. ⌜ r ≡ Value (plainOf marker (v bytes m) (w bytes n)) rest ⌝ }
-{
-    let mark = Field {
-        width: 1,
-        number: marker,
-    };
-    let a = Field {
-        width: v,
-        number: m,
-    };
-    let b = Field {
-        width: w,
-        number: n,
-    };
-    Shape::Value(
-        Row {
-            mark: mark,
-            a: a,
-            b: b,
-            place: 0,
-            length: 0,
-        },
-        rest,
-    )
-}
-
-// A marker in so many bytes, and a text behind its length in so many.
-fn texted(v: usize, marker: u64, w: usize, place: usize, length: usize) -> Row
-    ensures { λ r. ⌜ r ≡ textedOf (v bytes marker) w place length ⌝ }
-{
-    let mark = Field {
-        width: v,
-        number: marker,
-    };
-    let a = Field {
-        width: w,
-        number: length as u64,
-    };
-    let b = none();
-    Row {
-        mark: mark,
-        a: a,
-        b: b,
-        place: place,
-        length: length,
-    }
-}
-
 fn bit(b: bool) -> u64
     ensures { λ r. ⌜ r ≡ bitOf b ⌝ }
 {
     if b { 1 } else { 0 }
-}
-
-fn shape_of(r: Record) -> Shape
-    ensures { λ x. ⌜ x ≡ shapeOf r ⌝ }
-{
-    match r {
-        Record::Number(n) => plain(0x00, 8, n, 0, 0, Rest::Nothing),
-        Record::Boolean(b) => plain(0x01, 1, bit(b), 0, 0, Rest::Nothing),
-        Record::Text(p, n) => {
-            if n <= 0xFFFF {
-                Shape::Value(texted(1, 0x02, 2, p, n), Rest::Nothing)
-            } else {
-                Shape::Value(texted(1, 0x0C, 4, p, n), Rest::Nothing)
-            }
-        }
-        Record::Object => plain(0x03, 0, 0, 0, 0, Rest::Pairs),
-        Record::Null => plain(0x05, 0, 0, 0, 0, Rest::Nothing),
-        Record::Undefined => plain(0x06, 0, 0, 0, 0, Rest::Nothing),
-        Record::Reference(n) => plain(0x07, 2, n as u64, 0, 0, Rest::Nothing),
-        Record::EcmaArray(n) => plain(0x08, 4, n as u64, 0, 0, Rest::Dense),
-        Record::ObjectEnd => Shape::End(texted(3, 0x09, 0, 0, 0)),
-        Record::StrictArray(n) => plain(0x0A, 4, n as u64, 0, 0, Rest::Values(n)),
-        Record::Date(n, _, zone) => plain(0x0B, 8, n, 2, zone as u64, Rest::Nothing),
-        Record::Unsupported => plain(0x0D, 0, 0, 0, 0, Rest::Nothing),
-        Record::Xml(p, n) => Shape::Value(texted(1, 0x0F, 4, p, n), Rest::Nothing),
-        Record::TypedObject(p, n) => Shape::Value(texted(1, 0x10, 2, p, n), Rest::Pairs),
-        Record::Key(p, n) => Shape::Key(texted(0, 0, 2, p, n)),
-        Record::Packet(_, _) => Shape::Other,
-        Record::Header(_, _, _) => Shape::Other,
-        Record::Message(_, _, _, _) => Shape::Other,
-        Record::Lso(_, _, _) => Shape::Other,
-    }
 }
 
 // Whether a kind is that of a value.
@@ -189,101 +105,350 @@ fn index(out: &mut [u8], count: usize, k: u32) -> usize
     count + 2 + n
 }
 
+// How far a value's own bytes were put out: up to a cursor, with so many bytes put out, and then this follows; or refused by an answer at a place.
+pub enum Begun {
+    Next(Cursor, usize, Rest),
+    Stop(u8, usize),
+}
+
+fn then(x: Step, rest: Rest) -> Begun
+    ensures { λ r. ⌜ r ≡ thenOf x rest ⌝ }
+{
+    match x {
+        Step::Next(c, n) => Begun::Next(c, n, rest),
+        Step::Stop(a, p) => Begun::Stop(a, p),
+    }
+}
+
+// The own bytes of each kind of value, whose body stands at a cursor and whose record at a place.
+fn number(out: &mut [u8], image: &[u8], c: Cursor, at: usize, count: usize) -> Begun
+    requires { ⌜ count ≤ most ⌝ }
+    ensures { λ r. ⌜ ((text : List ℕ) → Owned r (now (out .exit)) (bodyAt 0x00 (now (image .entry)) (c .at)) text at count (now (out .entry))) ⌝ }
+{
+    match c.be_u64(image) {
+        U64::Got(n, e) => then(
+            emit_numbers(out, count, 1, 0x00, 8, n, 0, 0, e),
+            Rest::Nothing,
+        ),
+        U64::Stop(_, _) => Begun::Stop(NO_TREE, at),
+    }
+}
+
+fn boolean(out: &mut [u8], image: &[u8], c: Cursor, at: usize, count: usize) -> Begun
+    requires { ⌜ count ≤ most ⌝ }
+    ensures { λ r. ⌜ ((text : List ℕ) → Owned r (now (out .exit)) (bodyAt 0x01 (now (image .entry)) (c .at)) text at count (now (out .entry))) ⌝ }
+{
+    match flag_at(image, c) {
+        Flag::Got(b, e) => then(
+            emit_numbers(out, count, 1, 0x01, 1, bit(b), 0, 0, e),
+            Rest::Nothing,
+        ),
+        Flag::Bad => Begun::Stop(NO_TREE, at),
+    }
+}
+
+fn string(out: &mut [u8], image: &[u8], text: &[u8], c: Cursor, at: usize, count: usize) -> Begun
+    requires { ⌜ (length (now text) ≤ most-bytes) × (count ≤ most) ⌝ }
+    ensures { λ r. ⌜ Owned r (now (out .exit)) (bodyAt 0x02 (now (image .entry)) (c .at)) (now (text .entry)) at count (now (out .entry)) ⌝ }
+{
+    match long_at(image, c) {
+        Text::Got(p, n, e) => {
+            if n <= 0xFFFF {
+                then(
+                    emit_text(out, text, count, 1, 0x02, 2, p, n, at, e),
+                    Rest::Nothing,
+                )
+            } else {
+                then(
+                    emit_text(out, text, count, 1, 0x0C, 4, p, n, at, e),
+                    Rest::Nothing,
+                )
+            }
+        }
+        Text::Stop(_, _) => Begun::Stop(NO_TREE, at),
+    }
+}
+
+fn reference(out: &mut [u8], image: &[u8], c: Cursor, at: usize, count: usize) -> Begun
+    requires { ⌜ count ≤ most ⌝ }
+    ensures { λ r. ⌜ ((text : List ℕ) → Owned r (now (out .exit)) (bodyAt 0x07 (now (image .entry)) (c .at)) text at count (now (out .entry))) ⌝ }
+{
+    match c.be_u16(image) {
+        U16::Got(n, e) => then(
+            emit_numbers(out, count, 1, 0x07, 2, n as u64, 0, 0, e),
+            Rest::Nothing,
+        ),
+        U16::Stop(_, _) => Begun::Stop(NO_TREE, at),
+    }
+}
+
+fn ecma_array(out: &mut [u8], image: &[u8], c: Cursor, at: usize, count: usize) -> Begun
+    requires { ⌜ count ≤ most ⌝ }
+    ensures { λ r. ⌜ ((text : List ℕ) → Owned r (now (out .exit)) (bodyAt 0x08 (now (image .entry)) (c .at)) text at count (now (out .entry))) ⌝ }
+{
+    match c.be_u32(image) {
+        U32::Got(n, e) => then(
+            emit_numbers(out, count, 1, 0x08, 4, n as u64, 0, 0, e),
+            Rest::Dense,
+        ),
+        U32::Stop(_, _) => Begun::Stop(NO_TREE, at),
+    }
+}
+
+fn strict_array(out: &mut [u8], image: &[u8], c: Cursor, at: usize, count: usize) -> Begun
+    requires { ⌜ count ≤ most ⌝ }
+    ensures { λ r. ⌜ ((text : List ℕ) → Owned r (now (out .exit)) (bodyAt 0x0A (now (image .entry)) (c .at)) text at count (now (out .entry))) ⌝ }
+{
+    match c.be_u32(image) {
+        U32::Got(n, e) => then(
+            emit_numbers(out, count, 1, 0x0A, 4, n as u64, 0, 0, e),
+            Rest::Values(n),
+        ),
+        U32::Stop(_, _) => Begun::Stop(NO_TREE, at),
+    }
+}
+
+// A zone that is absent is 0.
+fn zone_fits(present: bool, zone: u16) -> bool
+    ensures { λ r. ⌜ r ≡ zoneFits present zone ⌝ }
+{
+    if present {
+        return true;
+    }
+    zone == 0
+}
+
+fn date(out: &mut [u8], image: &[u8], c: Cursor, at: usize, count: usize) -> Begun
+    requires { ⌜ count ≤ most ⌝ }
+    ensures { λ r. ⌜ ((text : List ℕ) → Owned r (now (out .exit)) (bodyAt 0x0B (now (image .entry)) (c .at)) text at count (now (out .entry))) ⌝ }
+{
+    match c.be_u64(image) {
+        U64::Got(n, d) => match flag_at(image, d) {
+            Flag::Got(present, e) => match e.be_u16(image) {
+                U16::Got(zone, f) => {
+                    if zone_fits(present, zone) {
+                        return then(
+                            emit_numbers(out, count, 1, 0x0B, 8, n, 2, zone as u64, f),
+                            Rest::Nothing,
+                        );
+                    }
+                    Begun::Stop(NO_TREE, at)
+                }
+                U16::Stop(_, _) => Begun::Stop(NO_TREE, at),
+            },
+            Flag::Bad => Begun::Stop(NO_TREE, at),
+        },
+        U64::Stop(_, _) => Begun::Stop(NO_TREE, at),
+    }
+}
+
+fn xml(out: &mut [u8], image: &[u8], text: &[u8], c: Cursor, at: usize, count: usize) -> Begun
+    requires { ⌜ (length (now text) ≤ most-bytes) × (count ≤ most) ⌝ }
+    ensures { λ r. ⌜ Owned r (now (out .exit)) (bodyAt 0x0F (now (image .entry)) (c .at)) (now (text .entry)) at count (now (out .entry)) ⌝ }
+{
+    match long_at(image, c) {
+        Text::Got(p, n, e) => then(
+            emit_text(out, text, count, 1, 0x0F, 4, p, n, at, e),
+            Rest::Nothing,
+        ),
+        Text::Stop(_, _) => Begun::Stop(NO_TREE, at),
+    }
+}
+
+fn typed_object(
+    out: &mut [u8],
+    image: &[u8],
+    text: &[u8],
+    c: Cursor,
+    at: usize,
+    count: usize,
+) -> Begun
+    requires { ⌜ (length (now text) ≤ most-bytes) × (count ≤ most) ⌝ }
+    ensures { λ r. ⌜ Owned r (now (out .exit)) (bodyAt 0x10 (now (image .entry)) (c .at)) (now (text .entry)) at count (now (out .entry)) ⌝ }
+{
+    match short_at(image, c) {
+        Text::Got(p, n, e) => then(
+            emit_text(out, text, count, 1, 0x10, 2, p, n, at, e),
+            Rest::Pairs,
+        ),
+        Text::Stop(_, _) => Begun::Stop(NO_TREE, at),
+    }
+}
+
+// A marker alone.
+fn bare(out: &mut [u8], count: usize, marker: u64, next: Cursor, rest: Rest) -> Begun
+    requires { ⌜ count ≤ most ⌝ }
+    ensures { λ r. ⌜ ((text : List ℕ) → (x : Record) → (at : ℕ) → shapeOf x ≡ Value (plainOf marker noField noField) rest → Owned r (now (out .exit)) (Found x next) text at count (now (out .entry))) ⌝ }
+{
+    then(emit_numbers(out, count, 1, marker, 0, 0, 0, 0, next), rest)
+}
+
+// The own bytes of the value whose record stands at a cursor.
+fn own(out: &mut [u8], image: &[u8], text: &[u8], c: Cursor, count: usize) -> Begun
+    requires { ⌜ (length (now text) ≤ most-bytes) × (count ≤ most) ⌝ }
+    ensures { λ r. ⌜ Owned r (now (out .exit)) (recordAt (now (image .entry)) (c .at)) (now (text .entry)) (c .at) count (now (out .entry)) ⌝ }
+{
+    let at = c.at;
+    match c.be_u8(image) {
+        U8::Stop(_, _) => Begun::Stop(NO_TREE, at),
+        U8::Got(kind, d) => match kind {
+            0x00 => number(out, image, d, at, count),
+            0x01 => boolean(out, image, d, at, count),
+            0x02 => string(out, image, text, d, at, count),
+            0x03 => bare(out, count, 0x03, d, Rest::Pairs),
+            0x05 => bare(out, count, 0x05, d, Rest::Nothing),
+            0x06 => bare(out, count, 0x06, d, Rest::Nothing),
+            0x07 => reference(out, image, d, at, count),
+            0x08 => ecma_array(out, image, d, at, count),
+            0x0A => strict_array(out, image, d, at, count),
+            0x0B => date(out, image, d, at, count),
+            0x0D => bare(out, count, 0x0D, d, Rest::Nothing),
+            0x0F => xml(out, image, text, d, at, count),
+            0x10 => typed_object(out, image, text, d, at, count),
+            _ => Begun::Stop(NO_TREE, at),
+        },
+    }
+}
+
+// What stands before a value of a pair: its key, or the end of the pairs.
+pub enum Before {
+    Key(Cursor, usize),
+    End(Cursor, usize),
+    Stop(u8, usize),
+}
+
+fn key(out: &mut [u8], image: &[u8], text: &[u8], c: Cursor, at: usize, count: usize) -> Before
+    requires { ⌜ (length (now text) ≤ most-bytes) × (count ≤ most) ⌝ }
+    ensures { λ r. ⌜ Paired r (now (out .exit)) (bodyAt 0x20 (now (image .entry)) (c .at)) (now (text .entry)) at count (now (out .entry)) ⌝ }
+{
+    match short_at(image, c) {
+        Text::Got(p, n, e) => match emit_text(out, text, count, 0, 0, 2, p, n, at, e) {
+            Step::Next(g, m) => Before::Key(g, m),
+            Step::Stop(a, q) => Before::Stop(a, q),
+        },
+        Text::Stop(_, _) => Before::Stop(NO_TREE, at),
+    }
+}
+
+fn end(out: &mut [u8], count: usize, next: Cursor) -> Before
+    requires { ⌜ count ≤ most ⌝ }
+    ensures { λ r. ⌜ ((text : List ℕ) → (at : ℕ) → Paired r (now (out .exit)) (Found ObjectEnd next) text at count (now (out .entry))) ⌝ }
+{
+    match emit_numbers(out, count, 3, 0x09, 0, 0, 0, 0, next) {
+        Step::Next(g, m) => Before::End(g, m),
+        Step::Stop(a, q) => Before::Stop(a, q),
+    }
+}
+
+fn pair(out: &mut [u8], image: &[u8], text: &[u8], c: Cursor, count: usize) -> Before
+    requires { ⌜ (length (now text) ≤ most-bytes) × (count ≤ most) ⌝ }
+    ensures { λ r. ⌜ Paired r (now (out .exit)) (recordAt (now (image .entry)) (c .at)) (now (text .entry)) (c .at) count (now (out .entry)) ⌝ }
+{
+    let at = c.at;
+    match c.be_u8(image) {
+        U8::Stop(_, _) => Before::Stop(NO_TREE, at),
+        U8::Got(kind, d) => {
+            if kind == 0x20 {
+                return key(out, image, text, d, at, count);
+            }
+            if kind == 0x09 {
+                return end(out, count, d);
+            }
+            Before::Stop(NO_TREE, at)
+        }
+    }
+}
+
+// What is still to come at a cursor: values without a key come to pairs where no value's record begins.
+fn due_at(image: &[u8], c: Cursor, due: Rest) -> Rest
+    ensures { λ r. ⌜ r ≡ dueAt (valueAt (now (image .entry)) (c .at)) due ⌝ }
+{
+    match due {
+        Rest::Nothing => Rest::Nothing,
+        Rest::Pairs => Rest::Pairs,
+        Rest::Values(n) => Rest::Values(n),
+        Rest::Dense => {
+            if value_at(image, c) {
+                Rest::Dense
+            } else {
+                Rest::Pairs
+            }
+        }
+    }
+}
+
 // The value whose record stands at a cursor.
 fn value(out: &mut [u8], image: &[u8], text: &[u8], c: Cursor, count: usize, left: usize) -> Step
     requires { ⌜ (length (now text) ≤ most-bytes) × (length (now image) ≤ most-image) × (c .at ≤ length (now image)) × (count ≤ room (c .at) + 16) ⌝ }
     ensures { λ r. ⌜ poured r (now (out .exit)) ≡ pour (value left (now (image .entry)) (now (text .entry)) (c .at)) count (now (out .entry)) ⌝ }
     ensures { λ r. ⌜ Ahead r (c .at + 1) (length (now (image .entry))) (count + longest) ⌝ }
 {
-    let at = c.at;
     if left == 0 {
+        let at = c.at;
         if value_at(image, c) {
             return Step::Stop(TOO_DEEP, at);
         }
         return Step::Stop(NO_TREE, at);
     }
-    if let U64::Got(n, e) = number_here(image, c) {
-        return emit_number(out, count, n, e);
-    }
-    match record_at(image, c) {
-        Taken::Bad => Step::Stop(NO_TREE, at),
-        Taken::Found(r, d) => {
-            let shape = shape_of(r);
-            match shape {
-                Shape::Key(_) => Step::Stop(NO_TREE, at),
-                Shape::End(_) => Step::Stop(NO_TREE, at),
-                Shape::Other => Step::Stop(NO_TREE, at),
-                Shape::Value(w, f) => match emit(out, text, count, w, at, d) {
-                    Step::Stop(a, p) => Step::Stop(a, p),
-                    Step::Next(e, n) => match f {
-                        Rest::Nothing => Step::Next(e, n),
-                        Rest::Pairs => pairs(out, image, text, e, n, left - 1),
-                        Rest::Dense => dense(out, image, text, e, n, left - 1),
-                        Rest::Values(k) => items(out, image, text, e, n, left - 1, k),
-                    },
-                },
+    match own(out, image, text, c, count) {
+        Begun::Stop(a, p) => Step::Stop(a, p),
+        Begun::Next(e, n, f) => {
+            if let Rest::Nothing = f {
+                return Step::Next(e, n);
             }
+            values(out, image, text, e, n, left - 1, f)
         }
     }
 }
 
-// Pairs up to the end record.
-fn pairs(out: &mut [u8], image: &[u8], text: &[u8], start: Cursor, done: usize, left: usize) -> Step
+// Values as they follow a value's own bytes: pairs up to the end, values without a key, numbered from 0 as their keys, before such pairs, or so many values.
+// One loop for all, so that a value's own bytes are put out in it, without a call.
+fn values(
+    out: &mut [u8],
+    image: &[u8],
+    text: &[u8],
+    start: Cursor,
+    done: usize,
+    left: usize,
+    rest: Rest,
+) -> Step
     requires { ⌜ (length (now text) ≤ most-bytes) × (length (now image) ≤ most-image) × (start .at ≤ length (now image)) × (done ≤ room (start .at)) ⌝ }
-    ensures { λ r. ⌜ poured r (now (out .exit)) ≡ pour (pairs (value left (now (image .entry)) (now (text .entry))) (now (image .entry)) (now (text .entry)) (length (now (image .entry))) (start .at)) done (now (out .entry)) ⌝ }
-    ensures { λ r. ⌜ Ahead r (start .at) (length (now (image .entry))) done ⌝ }
+    ensures { λ r. ⌜ poured r (now (out .exit)) ≡ pour (restOf (value left (now (image .entry)) (now (text .entry))) (now (image .entry)) (now (text .entry)) rest (start .at)) done (now (out .entry)) ⌝ }
+    ensures { λ r. ⌜ Ahead r (start .at + owed rest) (length (now (image .entry))) (done + longest * owed rest) ⌝ }
 {
     let mut c = start;
     let mut count = done;
-    loop {
-        match record_at(image, c) {
-            Taken::Bad => {
-                return Step::Stop(NO_TREE, c.at);
-            }
-            Taken::Found(r, d) => {
-                let shape = shape_of(r);
-                match shape {
-                    Shape::Value(_, _) => {
-                        return Step::Stop(NO_TREE, c.at);
-                    }
-                    Shape::Other => {
-                        return Step::Stop(NO_TREE, c.at);
-                    }
-                    Shape::End(w) => {
-                        return emit(out, text, count, w, c.at, d);
-                    }
-                    Shape::Key(w) => match emit(out, text, count, w, c.at, d) {
-                        Step::Stop(a, p) => {
-                            return Step::Stop(a, p);
-                        }
-                        Step::Next(e, n) => match value(out, image, text, e, n, left) {
-                            Step::Stop(a, p) => {
-                                return Step::Stop(a, p);
-                            }
-                            Step::Next(g, m) => {
-                                c = g;
-                                count = m;
-                            }
-                        },
-                    },
-                }
-            }
-        }
-    }
-}
-
-// Values without a key, numbered from 0 as their keys, and then pairs.
-fn dense(out: &mut [u8], image: &[u8], text: &[u8], start: Cursor, done: usize, left: usize) -> Step
-    requires { ⌜ (length (now text) ≤ most-bytes) × (length (now image) ≤ most-image) × (start .at ≤ length (now image)) × (done ≤ room (start .at)) ⌝ }
-    ensures { λ r. ⌜ poured r (now (out .exit)) ≡ pour (dense (value left (now (image .entry)) (now (text .entry))) (now (image .entry)) (now (text .entry)) (suc (length (now (image .entry)))) 0 (start .at)) done (now (out .entry)) ⌝ }
-    ensures { λ r. ⌜ Ahead r (start .at) (length (now (image .entry))) done ⌝ }
-{
-    let mut c = start;
-    let mut count = done;
+    let mut due = rest;
     let mut k: u32 = 0;
-    while value_at(image, c) {
-        let n = index(out, count, k);
-        match value(out, image, text, c, n, left) {
+    loop {
+        due = due_at(image, c, due);
+        match due {
+            Rest::Nothing => {
+                return Step::Next(c, count);
+            }
+            Rest::Dense => {
+                count = index(out, count, k);
+            }
+            Rest::Values(n) => {
+                if n == 0 {
+                    return Step::Next(c, count);
+                }
+                due = Rest::Values(n - 1);
+            }
+            Rest::Pairs => match pair(out, image, text, c, count) {
+                Before::Stop(a, p) => {
+                    return Step::Stop(a, p);
+                }
+                Before::End(e, n) => {
+                    return Step::Next(e, n);
+                }
+                Before::Key(e, n) => {
+                    c = e;
+                    count = n;
+                }
+            },
+        }
+        match value(out, image, text, c, count, left) {
             Step::Stop(a, p) => {
                 return Step::Stop(a, p);
             }
@@ -294,39 +459,6 @@ fn dense(out: &mut [u8], image: &[u8], text: &[u8], start: Cursor, done: usize, 
         }
         k += 1;
     }
-    pairs(out, image, text, c, count, left)
-}
-
-// n values in a row.
-fn items(
-    out: &mut [u8],
-    image: &[u8],
-    text: &[u8],
-    start: Cursor,
-    done: usize,
-    left: usize,
-    n: u32,
-) -> Step
-    requires { ⌜ (length (now text) ≤ most-bytes) × (length (now image) ≤ most-image) × (start .at ≤ length (now image)) × (done ≤ room (start .at)) ⌝ }
-    ensures { λ r. ⌜ poured r (now (out .exit)) ≡ pour (items (value left (now (image .entry)) (now (text .entry))) (now (image .entry)) (now (text .entry)) n (start .at)) done (now (out .entry)) ⌝ }
-    ensures { λ r. ⌜ Ahead r (start .at) (length (now (image .entry))) done ⌝ }
-{
-    let mut c = start;
-    let mut count = done;
-    let mut k = n;
-    while 0 < k {
-        match value(out, image, text, c, count, left) {
-            Step::Stop(a, p) => {
-                return Step::Stop(a, p);
-            }
-            Step::Next(g, m) => {
-                c = g;
-                count = m;
-            }
-        }
-        k -= 1;
-    }
-    Step::Next(c, count)
 }
 
 // The value at a cursor of an image, put out behind so many bytes: for the layers above. On an output without room it counts alone.
@@ -346,7 +478,7 @@ pub fn pour_value(out: &mut [u8], image: &[u8], text: &[u8], c: Cursor, count: u
     if 0x1000_0000_0000_0000 < count {
         return Step::Stop(OVER_LIMIT, 0);
     }
-    value(out, image, text, c, count, limit::LEVELS)
+    values(out, image, text, c, count, limit::LEVELS, Rest::Values(1))
 }
 
 fn refused(a: u8) -> Writing

@@ -23,14 +23,14 @@ use Rattle.wire.specs.Choice.{pick}
 use Rattle.wire.specs.Number.{digits, Bytes}
 use Rattle.wire.specs.Field.{to, bytesAt, u8At, u16At, u24At, u32At, u64At, got8, got16, got32, gotText}
 use Rattle.wire.proofs.Laws.{picked, length-digits, false-true}
-use Rattle.wire.proofs.Stands.{Here, cut, skip, join, inside, there, u8-at, u16-at, u24-at, u32-at, u64-at, Stood, number-stood, end8, end16, end32, end64}
+use Rattle.wire.proofs.Stands.{Here, cut, skip, join, inside, there, stood, byte-at, u8-at, u16-at, u24-at, u32-at, u64-at, Stood, number-stood, end8, end16, end32, end64}
 use Rattle.image.specs.declared.record.Record.{Record}
 use Rattle.image.specs.declared.record.Record.the-variants.{Number, Boolean, Text, Object, Null, Undefined, Reference, EcmaArray, ObjectEnd, StrictArray, Date, Unsupported, Xml, TypedObject, Key, Packet, Header, Message, Lso}
 use Rattle.image.specs.declared.taking.Flag.the-variants as Flag
 use Rattle.image.specs.declared.taking.Taken.{Taken}
 use Rattle.image.specs.declared.taking.Taken.the-variants.{Found, Bad}
-use Rattle.image.specs.Record.{bytesOf, size, bitOf, layoutOf}
-use Rattle.image.specs.Taking.{flagAt, shortAt, longAt, gotFlag, Body, bad, found, u16, u32, u64, flag, short, long, zoned, Line, lines, bodyIn, bodyAt, recordAt, numberHere, Small, Fits}
+use Rattle.image.specs.Record.{fieldBytes, bytesOf, size, bitOf, layoutOf}
+use Rattle.image.specs.Taking.{flagAt, shortAt, longAt, gotFlag, Body, bad, found, u16, u32, u64, flag, short, long, zoned, Line, lines, bodyIn, bodyAt, recordAt, Small, Fits}
 use Rattle.image.proofs.Laws.{size-bytes, size-some}
 
 -- ---- a record that stands there is found
@@ -346,17 +346,14 @@ found-stood s bytes at r c e =
     (λ k d. stands bytes .each k (at + 1) (record { place = refl; rest = drop (at + 1) s; here = d }))
     e
 
--- ---- the number whose record stands at a place
-
-number-in : (s : List ℕ) (at n : ℕ) (d : Cursor) (x : U8)
-    → got8 U64.Stop x (λ k p. pick (eqb k 0x00) (u64At s p) (U64.Stop 3 at)) ≡ U64.Got n d → got8 bad x (λ k p. bodyAt k s p) ≡ Found (Number n) d
-unfolding bodyAt u64
-number-in s at n d (U8.Stop a p) = λ e. absurd (false-true (cc))
-number-in s at n d (U8.Got k c) =
-    picked (λ (x : U64). x ≡ U64.Got n d → bodyAt k s (c .at) ≡ Found (Number n) d) (eqb k 0x00) (u64At s (c .at)) (U64.Stop 3 at)
-    (λ h e. rw (h, e))
-    (λ h e. absurd (false-true (cc)))
-
-pub number-found : (s : List ℕ) (at n : ℕ) (d : Cursor) → numberHere s at ≡ U64.Got n d → recordAt s at ≡ Found (Number n) d
-unfolding numberHere recordAt
-number-found s at n d e = number-in s at n d (u8At s at) e
+-- the byte at its place is its kind
+pub found-kind : (s : List ℕ) → Bytes s → (at : ℕ) (r : Record) (c : Cursor) → recordAt s at ≡ Found r c → (k : ℕ) (d : Cursor) → u8At s at ≡ U8.Got k d
+    → k ≡ layoutOf r .kind
+unfolding bytesOf
+found-kind s bytes at r c e k d f =
+    let l = layoutOf r in
+    let h = found-stood s bytes at r c e in
+    let w : Here s at (bytesOf r) (drop (at + size r) s) = rw (h .same) at (stood (size r) s at) in
+    let g = byte-at (l .kind) (cut (l .kind ∷ []) (fieldBytes (l .a) ++ (fieldBytes (l .b) ++ (fieldBytes (l .c) ++ fieldBytes (l .d)))) w) in
+    let z : U8.Got k d ≡ U8.Got (l .kind) (to (at + 1)) = sym f ∙ g in
+    cc

@@ -4,7 +4,7 @@ use mathlib.Core.Path.{_≡_, refl, sym, ap, _∙_}
 use mathlib.Core.List.{List, [], _∷_, _++_, append-assoc, append-nil}
 use mathlib.Core.Bool.{Bool, true, false}
 use native.Mathlib.Nat.{div-one, mod-eq-of-lt}
-use native.Mathlib.Nat.{zero-add}
+use native.Mathlib.Nat.{zero-add, add-zero}
 use native.Mathlib.Numerals.{add-one}
 use native.Mathlib.Omega.{arith}
 use lib.ListN.{length, set, take, replicate, length-append, length-take}
@@ -13,15 +13,16 @@ use lib.Dec.{leb}
 use Rattle.wire.specs.Choice.{pick}
 use Rattle.wire.specs.Field.{to}
 use Rattle.wire.specs.declared.cursor.Cursor.{Cursor}
-use Rattle.wire.specs.Number.{digits}
-use Rattle.wire.proofs.Laws.{pick-yes, pick-no, picked, length-digits, then-sets}
+use Rattle.wire.specs.Number.{digits, stored}
+use Rattle.wire.specs.Bytes.{laid}
+use Rattle.wire.proofs.Laws.{pick-yes, pick-no, picked, length-digits, laid-room, then-sets}
 use Rattle.image.specs.declared.record.Field.{Field}
 use Rattle.image.specs.declared.record.Layout.{Layout}
 use Rattle.image.specs.declared.record.Record.{Record}
 use Rattle.image.specs.declared.record.Record.the-variants.{Number, Boolean, Text, Object, Null, Undefined, Reference, EcmaArray, ObjectEnd, StrictArray, Date, Unsupported, Xml, TypedObject, Key, Packet, Header, Message, Lso}
 use Rattle.image.specs.declared.reading.Step.{Step}
 use Rattle.image.specs.declared.reading.Step.the-variants.{Next, Stop}
-use Rattle.image.specs.Record.{layoutOf, bytesIn, sizeIn, bytesOf, size, moved, fieldBytes}
+use Rattle.image.specs.Record.{_bytes_, layoutOf, bytesIn, sizeIn, bytesOf, size, moved, fieldBytes}
 use Rattle.image.specs.Due.{Due, end, stop, due, _>>=_, based, Ran, ran, run, Within}
 use Rattle.image.specs.Whole.{padded}
 
@@ -100,6 +101,24 @@ module _ (image : List ℕ) (at : ℕ) where
         place = rw (length-append, length-digits) (omega (arith, l .place));
         stored = g ∙ rw (l .stored) (then-sets image at _ x (fieldBytes f) (l .place));
       }
+
+  -- a number in w bytes behind them
+  pub laid-number : (w n : ℕ) {x i j : List ℕ} {p : ℕ} → Laid image at x p i → p + w ≤ length image → j ≡ stored w n p i
+      → Laid image at (x ++ fieldBytes (w bytes n)) (p + w) j
+  laid-number w n {x} {i} {j} {p} l h e =
+      let k : length i ≡ length image = ap length (l .stored) ∙ length-sets image at x in
+      laid-field (w bytes n) l refl (e ∙ pick-yes (p + w) (length i) _ _ (omega arith))
+
+  -- nothing is stored yet
+  pub laid-nothing : Laid image at [] at image
+  laid-nothing = record { place = sym (add-zero at); stored = refl }
+
+  -- the same bytes
+  pub laid-same : {x y i : List ℕ} {p : ℕ} → x ≡ y → Laid image at x p i → Laid image at y p i
+  laid-same e l = record { place = l .place ∙ rw e; stored = l .stored ∙ rw e }
+
+  pub laid-all : {x i : List ℕ} {p : ℕ} → Laid image at x p i → at + length x ≤ length image → i ≡ laid x at image
+  laid-all {x} l h = l .stored ∙ sym (laid-room x at image h)
 
   pub laid-record : (r : Record) (l : Layout) {x i : List ℕ} {p : ℕ} → l ≡ layoutOf r → Laid image at x p i → x ≡ bytesIn l
       → (p ≡ at + size r) × (i ≡ sets image at (bytesOf r))

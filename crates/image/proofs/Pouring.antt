@@ -1,7 +1,7 @@
 -- The laws of rows, of writings and of a writing carried out, and what it comes to.
 use Prim.Native.Nat.{ℕ, _+_, _≤_, _<_}
 use mathlib.Core.Path.{_≡_, refl, sym, ap, _∙_}
-use mathlib.Core.List.{List, [], _∷_, _++_, append-assoc}
+use mathlib.Core.List.{List, [], _∷_, _++_, append-assoc, append-nil}
 use mathlib.Core.Bool.{Bool, true, false}
 use native.Mathlib.Nat.{add-zero, add-assoc, zero-add}
 use native.Mathlib.Omega.{arith}
@@ -18,9 +18,10 @@ use Rattle.wire.specs.declared.cursor.Cursor.{Cursor}
 use Rattle.wire.proofs.Laws.{pick-yes, pick-no, picked, length-digits, length-laid, laid-room, sets-append, then-sets, false-true}
 use Rattle.image.specs.declared.reading.Step.{Step}
 use Rattle.image.specs.declared.reading.Step.the-variants.{Next, Stop}
+use Rattle.image.specs.declared.record.Field.{Field}
 use Rattle.image.specs.declared.writing.Row.{Row}
 use Rattle.image.specs.Record.{fieldBytes}
-use Rattle.image.specs.Out.{Out, end, stop, put, _>>=_, textOf, rowBytes, namedOf, row, most, rowIn, numberBytes, numberIn, Poured, poured, pour, Grown, bytes, written, unwritten, sized, ended, settled, onto}
+use Rattle.image.specs.Out.{Out, end, stop, put, _>>=_, textOf, rowBytes, namedAt, namedOf, row, most, rowIn, rowOf, numberBytes, Poured, poured, pour, Grown, bytes, written, unwritten, sized, ended, settled, onto}
 use Rattle.image.proofs.Laws.{Laid}
 
 -- ---- one writing and then another
@@ -177,6 +178,12 @@ pour-onto d out e h =
 pub length-row : (text : List ℕ) (r : Row) → length (rowBytes text r) ≡ r .mark .width + r .a .width + r .b .width + length (textOf text r)
 length-row text r = simp (length-append, length-digits) (omega arith)
 
+-- with a text that is inside
+pub length-text : (text : List ℕ) (r : Row) → r .place + r .length ≤ length text → length (rowBytes text r) ≡ r .mark .width + r .a .width + r .b .width + r .length
+length-text text r h =
+    let k : length (textOf text r) ≡ r .length = rw (le-leb (r .place + r .length) (length text) h) (simp (length-take, length-drop) (omega arith)) in
+    length-row text r ∙ rw k
+
 -- its numbers are laid, and then its text
 pub laid-row : (text : List ℕ) (r : Row) (at : ℕ) (out : List ℕ) {p : ℕ} {o q : List ℕ}
     → Laid out at ((fieldBytes (r .mark) ++ fieldBytes (r .a)) ++ fieldBytes (r .b)) p o → q ≡ laid (textOf text r) p o
@@ -189,6 +196,18 @@ laid-row text r at out {p} {o} l e h =
     let f : p + length t ≤ length o = omega (arith, l .place, length-append x t, ap length k) in
     e ∙ laid-room t p o f ∙ rw (l .stored, ← k) (then-sets out at p x t (l .place)) ∙ sym (laid-room (rowBytes text r) at out h)
 
+-- a row without a text is its numbers, whatever is lent
+pub bytes-none : (text : List ℕ) (a b c : Field) → rowBytes text (rowOf a b c 0 0) ≡ numberBytes a b c
+bytes-none text a b c =
+    rw (le-leb 0 (length text) (omega arith)) (ap (λ (x : List ℕ). fieldBytes a ++ (fieldBytes b ++ x)) (append-nil (fieldBytes c)))
+
+pub length-numbers : (a b c : Field) → length (numberBytes a b c) ≡ a .width + b .width + c .width
+length-numbers a b c = simp (length-append, length-digits) (omega arith)
+
+pub named-none : (text : List ℕ) → namedAt text 0 0 ≡ true
+unfolding ends
+named-none text = rw (le-leb 0 (length text) (omega arith))
+
 -- a text that is named stands in the lent one, so the row's size is that of its parts
 pub record Inside (text : List ℕ) (r : Row) : Type 0 where
   pub fits : r .place + r .length ≤ length text
@@ -199,8 +218,7 @@ inside text r =
     picked (λ (t : Bool). t ≡ true → Inside text r) (insideOf text (r .place) (r .length)) _ _
     (λ h e.
     let f = leb-true (r .place + r .length) (length text) h in
-    let k : length (textOf text r) ≡ r .length = rw h (simp (length-take, length-drop) (omega arith)) in
-    record { fits = f; size = length-row text r ∙ rw k })
+    record { fits = f; size = length-text text r f })
     (λ h e. absurd (false-true e))
 
 module _ (text : List ℕ) (r : Row) (at next count : ℕ) (out : List ℕ) where
@@ -257,7 +275,7 @@ pub record Slim (r : Row) : Type 0 where
   pub a : r .a .width ≤ 8
   pub b : r .b .width ≤ 8
 
-row-bind : (text : List ℕ) (r : Row) (at q : ℕ) (k : ℕ → Out) → row text r at (k q) ≡ row text r at (end q) >>= k
+pub row-bind : (text : List ℕ) (r : Row) (at q : ℕ) (k : ℕ → Out) → row text r at (k q) ≡ row text r at (end q) >>= k
 unfolding row
 row-bind text r at q k = go (namedOf text r)
   where
@@ -278,19 +296,3 @@ module _ (text : List ℕ) (r : Row) (at q count : ℕ) (out : List ℕ) (s : Sl
   pub row-halt : (k : ℕ → Out) {a p : ℕ} {o : List ℕ} → poured (Stop a p) o ≡ pour (rowIn count text r at (end q)) count out
       → pour (row text r at (k q)) count out ≡ poured (Stop a p) o
   row-halt k e = rw (row-bind text r at q k) (pour-halt (row text r at (end q)) k count out (e ∙ rw row-in))
-
--- ---- a number
-
-pub numberIn-over : (count n : ℕ) (d : Out) → most < count → numberIn count n d ≡ stop 1 0
-unfolding numberIn
-numberIn-over count n d h = pick-no count most _ _ h
-
-pub numberIn-in : (count n : ℕ) (d : Out) → count ≤ most → numberIn count n d ≡ put (numberBytes n) d
-unfolding numberIn
-numberIn-in count n d h = pick-yes count most _ _ h
-
--- a row of a number and no text
-pub row-number : (text : List ℕ) (r : Row) (n at : ℕ) (d : Out)
-    → r ≡ record { mark = record { width = 1; number = 0x00 }; a = record { width = 8; number = n }; b = record { width = 0; number = 0 }; place = 0; length = 0 } → row text r at d ≡ put (numberBytes n) d
-unfolding row ends
-row-number text r n at d e = rw (e, le-leb 0 (length text) (omega arith))

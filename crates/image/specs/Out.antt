@@ -15,6 +15,7 @@ use Rattle.wire.specs.Limit as limit
 use Rattle.wire.specs.declared.cursor.Cursor.{Cursor}
 use Rattle.image.specs.declared.reading.Step.{Step}
 use Rattle.image.specs.declared.reading.Step.the-variants.{Next, Stop}
+use Rattle.image.specs.declared.record.Field.{Field}
 use Rattle.image.specs.declared.writing.Row.{Row}
 use Rattle.image.specs.declared.writing.Writing.{Writing}
 use Rattle.image.specs.Record.{fieldBytes}
@@ -36,6 +37,13 @@ put b d >>= k = put b (d >>= k)
 
 -- ---- a row
 
+abbrev pub rowOf : Field → Field → Field → ℕ → ℕ → Row
+rowOf mark a b place n = record { mark = mark; a = a; b = b; place = place; length = n }
+
+-- the numbers of a row
+abbrev pub numberBytes : Field → Field → Field → List ℕ
+numberBytes mark a b = fieldBytes mark ++ (fieldBytes a ++ fieldBytes b)
+
 -- the text that a row names
 abbrev pub textOf : List ℕ → Row → List ℕ
 textOf text r = partOf text (r .place) (r .length)
@@ -43,9 +51,12 @@ textOf text r = partOf text (r .place) (r .length)
 abbrev pub rowBytes : List ℕ → Row → List ℕ
 rowBytes text r = fieldBytes (r .mark) ++ (fieldBytes (r .a) ++ (fieldBytes (r .b) ++ textOf text r))
 
--- the text stands in the lent one and is UTF-8
+-- a text stands in the lent one and is UTF-8
+abbrev pub namedAt : List ℕ → ℕ → ℕ → Bool
+namedAt text place n = pick (insideOf text place n) (utf8 (partOf text place n)) false
+
 abbrev pub namedOf : List ℕ → Row → Bool
-namedOf text r = pick (insideOf text (r .place) (r .length)) (utf8 (textOf text r)) false
+namedOf text r = namedAt text (r .place) (r .length)
 
 -- a row of the record at a place is put out, or its text refuses it
 unfoldable pub row : List ℕ → Row → ℕ → Out → Out
@@ -65,13 +76,6 @@ rowIn count text r at d =
     (stop 1 0))
     (stop 1 0))
     (stop 1 0)
-
--- a number in eight bytes behind the marker 00, behind so many bytes: a row without a text
-abbrev pub numberBytes : ℕ → List ℕ
-numberBytes n = 0x00 ∷ digits 8 n
-
-unfoldable pub numberIn : ℕ → ℕ → Out → Out
-numberIn count n d = pick (leb count most) (put (numberBytes n) d) (stop 1 0)
 
 -- ---- a writing carried out
 

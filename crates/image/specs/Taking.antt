@@ -6,8 +6,6 @@ use mathlib.Core.Bool.{Bool, true, false}
 use lib.Dec.{eqb}
 use Rattle.wire.specs.Choice.{pick}
 use Rattle.wire.specs.Field.{to, u8At, u16At, u24At, u32At, u64At, got8, got16, got32, got64, gotText}
-use Rattle.wire.specs.declared.cursor.U64.{U64}
-use Rattle.wire.specs.declared.cursor.U64.the-variants as U64
 use Rattle.wire.specs.declared.cursor.Text.{Text as Place}
 use Rattle.wire.specs.declared.cursor.Text.the-variants as Place
 use Rattle.image.specs.declared.record.Field.{Field}
@@ -117,10 +115,6 @@ bodyAt k s at = bodyIn lines k s at
 
 unfoldable pub recordAt : List ℕ → ℕ → Taken
 recordAt s at = got8 bad (u8At s at) λ k p. bodyAt k s p
-
--- the number whose record stands at a place, or why none does
-unfoldable pub numberHere : List ℕ → ℕ → U64
-numberHere s at = got8 U64.Stop (u8At s at) λ k p. pick (eqb k 0x00) (u64At s p) (U64.Stop 3 at)
 
 -- ---- the records that can stand in an image
 

@@ -1,6 +1,5 @@
 // The record at a place of an image.
 use crate::record::Record;
-use wire::answer::NOT_RIGHT;
 use wire::cursor::Cursor;
 use wire::cursor::Text;
 use wire::cursor::U8;
@@ -8,7 +7,7 @@ use wire::cursor::U16;
 use wire::cursor::U32;
 use wire::cursor::U64;
 ghost use mathlib.Core.Path.{_≡_};
-ghost use Rattle.image.specs.Taking.{flagAt, shortAt, longAt, bodyAt, recordAt, numberHere};
+ghost use Rattle.image.specs.Taking.{flagAt, shortAt, longAt, bodyAt, recordAt};
 
 // A record with the cursor behind it; or its kind is none of the table's, or its body is not whole or not right.
 pub enum Taken {
@@ -22,7 +21,7 @@ pub enum Flag {
 }
 
 // A byte that is 00 or 01.
-fn flag_at(image: &[u8], c: Cursor) -> Flag
+pub fn flag_at(image: &[u8], c: Cursor) -> Flag
     ensures { λ r. ⌜ r ≡ flagAt (now (image .entry)) (c .at) ⌝ }
 {
     match c.be_u8(image) {
@@ -40,7 +39,7 @@ fn flag_at(image: &[u8], c: Cursor) -> Flag
 }
 
 // A place and a length of two bytes.
-fn short_at(image: &[u8], c: Cursor) -> Text
+pub fn short_at(image: &[u8], c: Cursor) -> Text
     ensures { λ r. ⌜ r ≡ shortAt (now (image .entry)) (c .at) ⌝ }
 {
     match c.be_u24(image) {
@@ -53,7 +52,7 @@ fn short_at(image: &[u8], c: Cursor) -> Text
 }
 
 // A place and a length of three bytes.
-fn long_at(image: &[u8], c: Cursor) -> Text
+pub fn long_at(image: &[u8], c: Cursor) -> Text
     ensures { λ r. ⌜ r ≡ longAt (now (image .entry)) (c .at) ⌝ }
 {
     match c.be_u24(image) {
@@ -197,22 +196,5 @@ pub fn record_at(image: &[u8], c: Cursor) -> Taken
     match c.be_u8(image) {
         U8::Got(kind, d) => body_at(image, kind, d),
         U8::Stop(_, _) => Taken::Bad,
-    }
-}
-
-// The number whose record stands at a cursor: numbers are most of what is written, and this way to them is short.
-pub fn number_here(image: &[u8], c: Cursor) -> U64
-    ensures { λ r. ⌜ r ≡ numberHere (now (image .entry)) (c .at) ⌝ }
-{
-    let at = c.at;
-    match c.be_u8(image) {
-        U8::Got(kind, d) => {
-            if kind == 0x00 {
-                d.be_u64(image)
-            } else {
-                U64::Stop(NOT_RIGHT, at)
-            }
-        }
-        U8::Stop(a, p) => U64::Stop(a, p),
     }
 }

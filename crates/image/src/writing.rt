@@ -6,14 +6,17 @@ use wire::answer::NO_TREE;
 use wire::answer::OVER_LIMIT;
 use wire::bytes::write_bytes;
 use wire::cursor::Cursor;
+use wire::number::write_number;
 use wire::text::inside;
 use wire::text::part;
 use wire::utf8::is_utf8;
 ghost use mathlib.Core.Path.{_≡_};
-ghost use Prim.Native.Nat.{_+_};
+ghost use Prim.Native.Nat.{ℕ, _+_, _≤_};
+ghost use mathlib.Core.List.{List};
 ghost use lib.ListN.{length};
-ghost use Rattle.image.specs.Out.{pour, poured, «end», rowIn, namedOf, rowBytes, numberIn, numberBytes, Grown};
+ghost use Rattle.image.specs.Out.{pour, poured, «end», rowIn, rowOf, namedAt, rowBytes, numberBytes, Grown};
 ghost use Rattle.wire.specs.Bytes.{laid};
+ghost use Rattle.image.specs.Record.{_bytes_, none};
 
 // No writing comes to more bytes.
 pub const MOST: usize = 0x4000_0000_0000_0000;
@@ -33,15 +36,15 @@ pub struct Writing {
     pub count: usize,
 }
 
-// Whether a row's text stands in the lent one and is UTF-8.
-fn named(text: &[u8], r: Row) -> bool
-    ensures { λ x. ⌜ x ≡ namedOf (now (text .entry)) r ⌝ }
+// Whether a text stands in the lent one and is UTF-8.
+fn named(text: &[u8], place: usize, n: usize) -> bool
+    ensures { λ x. ⌜ x ≡ namedAt (now (text .entry)) place n ⌝ }
 {
-    if inside(text, r.place, r.length) {
-        if r.length == 0 {
+    if inside(text, place, n) {
+        if n == 0 {
             return true;
         }
-        is_utf8(part(text, r.place, r.length))
+        is_utf8(part(text, place, n))
     } else {
         false
     }
@@ -83,7 +86,7 @@ pub fn emit(out: &mut [u8], text: &[u8], count: usize, r: Row, place: usize, nex
     if 8 < b.width {
         return Step::Stop(OVER_LIMIT, 0);
     }
-    if named(text, r) {
+    if named(text, r.place, r.length) {
         let size = mark.width + a.width + b.width + r.length;
         lay_row(out, text, count, size, r);
         Step::Next(next, count + size)
@@ -92,40 +95,104 @@ pub fn emit(out: &mut [u8], text: &[u8], count: usize, r: Row, place: usize, nex
     }
 }
 
-// Lays a number behind its marker, all of it or none.
-fn lay_number(out: &mut [u8], at: usize, n: u64)
-    ensures { λ _. ⌜ now (out .exit) ≡ laid (numberBytes n) at (now (out .entry)) ⌝ }
+// Lays three numbers behind one another, all of them or none.
+fn lay_numbers(out: &mut [u8], at: usize, u: usize, l: u64, v: usize, m: u64, w: usize, n: u64)
+    requires { ⌜ (u ≤ 8) × (v ≤ 8) × (w ≤ 8) ⌝ }
+    ensures { λ _. ⌜ now (out .exit) ≡ laid (numberBytes (u bytes l) (v bytes m) (w bytes n)) at (now (out .entry)) ⌝ }
 {
     if at <= out.len() {
-        if 9 <= out.len() - at {
-            let i = lay(
-                out,
-                at,
-                Field {
-                    width: 1,
-                    number: 0x00,
-                },
-            );
-            lay(
-                out,
-                i,
-                Field {
-                    width: 8,
-                    number: n,
-                },
-            );
+        if u + v + w <= out.len() - at {
+            write_number(out, at, u, l);
+            write_number(out, at + u, v, m);
+            write_number(out, at + u + v, w, n);
         }
     }
 }
 
-// Puts out a number as `emit` does its row, by a shorter way.
-pub fn emit_number(out: &mut [u8], count: usize, n: u64, next: Cursor) -> Step
-    ensures { λ x. ⌜ poured x (now (out .exit)) ≡ pour (numberIn count n (end (next .at))) count (now (out .entry)) ⌝ }
-    ensures { λ x. ⌜ Grown x (next .at) (count + 9) ⌝ }
+// Puts out a row without a text, whatever is lent, as `emit` does: three numbers, each behind its width. Most rows are of this kind or the next, and handed on
+// as numbers they take a third of the instructions.
+pub fn emit_numbers(
+    out: &mut [u8],
+    count: usize,
+    u: usize,
+    l: u64,
+    v: usize,
+    m: u64,
+    w: usize,
+    n: u64,
+    next: Cursor,
+) -> Step
+    ensures { λ x. ⌜ ((text : List ℕ) → (place : ℕ) → poured x (now (out .exit)) ≡ pour (rowIn count text (rowOf (u bytes l) (v bytes m) (w bytes n) 0 0) place (end (next .at))) count (now (out .entry))) ⌝ }
+    ensures { λ x. ⌜ Grown x (next .at) (count + 24) ⌝ }
 {
     if MOST < count {
         return Step::Stop(OVER_LIMIT, 0);
     }
-    lay_number(out, count, n);
-    Step::Next(next, count + 9)
+    if 8 < u {
+        return Step::Stop(OVER_LIMIT, 0);
+    }
+    if 8 < v {
+        return Step::Stop(OVER_LIMIT, 0);
+    }
+    if 8 < w {
+        return Step::Stop(OVER_LIMIT, 0);
+    }
+    lay_numbers(out, count, u, l, v, m, w, n);
+    Step::Next(next, count + u + v + w)
+}
+
+// Lays a marker, a length and its text, all of it or none.
+fn lay_text(
+    out: &mut [u8],
+    text: &[u8],
+    at: usize,
+    v: usize,
+    mark: u64,
+    w: usize,
+    place: usize,
+    n: usize,
+)
+    requires { ⌜ (v ≤ 8) × (w ≤ 8) × (place + n ≤ length (now text)) ⌝ }
+    ensures { λ _. ⌜ now (out .exit) ≡ laid (rowBytes (now (text .entry)) (rowOf (v bytes mark) (w bytes n) none place n)) at (now (out .entry)) ⌝ }
+{
+    if at <= out.len() {
+        if v + w + n <= out.len() - at {
+            write_number(out, at, v, mark);
+            write_number(out, at + v, w, n as u64);
+            write_bytes(out, at + v + w, part(text, place, n));
+        }
+    }
+}
+
+// Puts out a text behind its length in w bytes, and that behind a marker in v, as `emit` does.
+pub fn emit_text(
+    out: &mut [u8],
+    text: &[u8],
+    count: usize,
+    v: usize,
+    mark: u64,
+    w: usize,
+    place: usize,
+    n: usize,
+    at: usize,
+    next: Cursor,
+) -> Step
+    ensures { λ x. ⌜ poured x (now (out .exit)) ≡ pour (rowIn count (now (text .entry)) (rowOf (v bytes mark) (w bytes n) none place n) at (end (next .at))) count (now (out .entry)) ⌝ }
+    ensures { λ x. ⌜ Grown x (next .at) (count + 24 + length (now (text .entry))) ⌝ }
+{
+    if MOST < count {
+        return Step::Stop(OVER_LIMIT, 0);
+    }
+    if 8 < v {
+        return Step::Stop(OVER_LIMIT, 0);
+    }
+    if 8 < w {
+        return Step::Stop(OVER_LIMIT, 0);
+    }
+    if named(text, place, n) {
+        lay_text(out, text, count, v, mark, w, place, n);
+        Step::Next(next, count + v + w + n)
+    } else {
+        Step::Stop(NO_TREE, at)
+    }
 }

@@ -5,24 +5,30 @@ use mathlib.Core.List.{List}
 use mathlib.Core.Bool.{Bool, true, false}
 use native.Mathlib.Numerals.{sub-one}
 use native.Mathlib.Omega.{arith}
-use lib.ListN.{length}
+use lib.ListN.{length, getD}
 use Rattle.wire.specs.Choice.{pick}
 use Rattle.wire.specs.Bytes.{laid}
 use Rattle.wire.specs.Limit as limit
+use Rattle.wire.specs.Field.{to, u8At}
 use Rattle.wire.specs.declared.cursor.Cursor.{Cursor}
+use Rattle.wire.specs.declared.cursor.U8.the-variants as U8
 use Rattle.wire.proofs.Laws.{pick-yes, pick-no, picked, laid-none}
 use Rattle.image.specs.declared.record.Record.{Record}
+use Rattle.image.specs.declared.record.Record.the-variants.{Number, Boolean, Text, Object, Null, Undefined, Reference, EcmaArray, ObjectEnd, StrictArray, Date, Unsupported, Xml, TypedObject, Key, Packet, Header, Message, Lso}
 use Rattle.image.specs.declared.reading.Step.the-variants.{Next, Stop}
 use Rattle.image.specs.declared.taking.Taken.{Taken}
 use Rattle.image.specs.declared.taking.Taken.the-variants.{Found, Bad}
 use Rattle.image.specs.declared.writing.Row.{Row}
-use Rattle.image.specs.Record.{_bytes_, none}
+use Rattle.image.specs.Record.{_bytes_, none, layoutOf}
 use Rattle.image.specs.Taking.{recordAt}
 use Rattle.image.specs.Out.{Out, end, stop, put, _>>=_, rowBytes, namedOf, row, Poured, poured, pour, bytes as bytesOut, settled, written, unwritten}
-use Rattle.image.proofs.Pouring.{Inside, inside, length-row, went, settled-halt, settled-over, settled-full, settled-fits}
+use Rattle.image.proofs.Found.{found-kind}
+use Rattle.image.proofs.Pouring.{Inside, inside, length-row, row-bind, went, settled-halt, settled-over, settled-full, settled-fits}
 use Rattle.amf0.specs.Writing.{value, taken}
+use Rattle.amf0.proofs.Putting.{known-bytes}
 use Rattle.lso.specs.declared.write.Part.{Part}
 use Rattle.lso.specs.declared.write.Part.the-variants as P
+use Rattle.lso.specs.Code.{keyOf}
 use Rattle.lso.specs.Writing.{partOf, keyed, filed, rowOf, header, element, body, file, lengthOf, writeOf}
 
 -- ---- rows
@@ -51,14 +57,49 @@ abbrev pub padded : List ℕ → List ℕ → ℕ → ℕ → Out
 padded image text at q = value limit.levels image text q >>= λ e. row text padding at (end e)
 
 module _ (image text : List ℕ) (at : ℕ) where
-  pub element-bad : recordAt image at ≡ Bad → element image text at ≡ stop 6 at
+  -- it is its key, and then its value and the zero
+  pub element-key : element image text at ≡ keyOf (recordAt image at) text at >>= padded image text at
   unfolding element
-  element-bad e = rw e
+  element-key = go (recordAt image at)
+    where
+      part : (y : Part) (q : ℕ) → keyed at y (λ p n. row text (keying p n) at (padded image text at q)) ≡ keyed at y (λ p n. row text (keying p n) at (end q)) >>= padded image text at
+      part (P.File p n) q = refl
+      part (P.Key p n) q = row-bind text (keying p n) at q (padded image text at)
+      part P.Other q = refl
 
-  pub element-parted : {r : Record} {c : Cursor} {x : Part} → recordAt image at ≡ Found r c → partOf r ≡ x
-      → element image text at ≡ keyed at x (λ p n. row text (keying p n) at (padded image text at (c .at)))
-  unfolding element
-  element-parted e f = rw (e, f)
+      go : (t : Taken) → taken at t (λ r q. keyed at (partOf r) λ p n. row text (keying p n) at (padded image text at q)) ≡ keyOf t text at >>= padded image text at
+      go (Found r c) = part (partOf r) (c .at)
+      go Bad = refl
+
+  -- a record of another kind is no key
+  module _ (h : (i : ℕ) → getD image i 0 < 256) (kind : ℕ) (d : Cursor) (byte : u8At image at ≡ U8.Got kind d) (other : kind ≡ 0x20 → ⊥) where
+    no-key : (r : Record) → kind ≡ layoutOf r .kind → (q : ℕ) → keyOf (Found r (to q)) text at ≡ stop 6 at
+    no-key (Number n) e q = refl
+    no-key (Boolean b) e q = refl
+    no-key (Text p n) e q = refl
+    no-key Object e q = refl
+    no-key Null e q = refl
+    no-key Undefined e q = refl
+    no-key (Reference n) e q = refl
+    no-key (EcmaArray n) e q = refl
+    no-key ObjectEnd e q = refl
+    no-key (StrictArray n) e q = refl
+    no-key (Date n z t) e q = refl
+    no-key Unsupported e q = refl
+    no-key (Xml p n) e q = refl
+    no-key (TypedObject p n) e q = refl
+    no-key (Key p n) e q = absurd (other e)
+    no-key (Packet m n) e q = refl
+    no-key (Header p n f) e q = refl
+    no-key (Message p n q₁ m) e q = refl
+    no-key (Lso s p n) e q = refl
+
+    pub key-other : keyOf (recordAt image at) text at ≡ stop 6 at
+    key-other = go (recordAt image at) refl
+      where
+        go : (t : Taken) → recordAt image at ≡ t → keyOf t text at ≡ stop 6 at
+        go Bad e = refl
+        go (Found r c) e = no-key r (found-kind image (known-bytes image h) at r c e kind d byte) (c .at)
 
   -- ---- elements
 

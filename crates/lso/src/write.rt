@@ -5,22 +5,29 @@ use image::record::Field;
 use image::record::Record;
 use image::taking::Taken;
 use image::taking::record_at;
+use image::taking::short_at;
 use image::writing::Row;
 use image::writing::Writing;
 use image::writing::emit;
+use image::writing::emit_numbers;
+use image::writing::emit_text;
 use wire::answer::ACCEPTED;
 use wire::answer::NO_ROOM;
 use wire::answer::NO_TREE;
 use wire::answer::OVER_LIMIT;
 use wire::cursor::Cursor;
+use wire::cursor::Text;
+use wire::cursor::U8;
 use wire::limit;
 ghost use mathlib.Core.Path.{_≡_};
 ghost use Prim.Native.Nat.{_+_, _*_, _≤_};
 ghost use lib.ListN.{length};
 ghost use Rattle.wire.specs.Limit.{bytes as most-bytes, «image» as most-image};
 ghost use Rattle.image.specs.Record.{_bytes_};
-ghost use Rattle.image.specs.Out.{pour, poured, «end», onto, Grown};
-ghost use Rattle.amf0.specs.Code.{Ahead, growth};
+ghost use Rattle.image.specs.Out.{most, pour, poured, «end», onto, Grown};
+ghost use Rattle.image.specs.Taking.{recordAt};
+ghost use Rattle.amf0.specs.Code.{Ahead, longest, growth};
+ghost use Rattle.lso.specs.Code.{keyOf};
 ghost use Rattle.lso.specs.Writing.{partOf, rowOf, header, element, body, file, writeOf};
 
 // What a record is to a writing of files.
@@ -102,36 +109,39 @@ fn write_header(out: &mut [u8], text: &[u8], stored: u64, p: usize, n: usize, ne
     }
 }
 
+// The key whose record stands at a cursor.
+fn write_key(out: &mut [u8], image: &[u8], text: &[u8], c: Cursor, count: usize) -> Step
+    requires { ⌜ (length (now text) ≤ most-bytes) × (count ≤ most) ⌝ }
+    ensures { λ r. ⌜ poured r (now (out .exit)) ≡ pour (keyOf (recordAt (now (image .entry)) (c .at)) (now (text .entry)) (c .at)) count (now (out .entry)) ⌝ }
+    ensures { λ r. ⌜ Ahead r (c .at + 1) (length (now (image .entry))) (count + longest) ⌝ }
+{
+    let at = c.at;
+    match c.be_u8(image) {
+        U8::Stop(_, _) => Step::Stop(NO_TREE, at),
+        U8::Got(kind, d) => {
+            if kind != 0x20 {
+                return Step::Stop(NO_TREE, at);
+            }
+            match short_at(image, d) {
+                Text::Stop(_, _) => Step::Stop(NO_TREE, at),
+                Text::Got(p, n, e) => emit_text(out, text, count, 0, 0, 2, p, n, at, e),
+            }
+        }
+    }
+}
+
 // A key, its value and a byte of padding.
 fn write_element(out: &mut [u8], image: &[u8], text: &[u8], c: Cursor, count: usize) -> Step
     requires { ⌜ (length (now text) ≤ most-bytes) × (length (now image) ≤ most-image) × (c .at ≤ length (now image)) × (count ≤ growth * c .at) ⌝ }
     ensures { λ r. ⌜ poured r (now (out .exit)) ≡ pour (element (now (image .entry)) (now (text .entry)) (c .at)) count (now (out .entry)) ⌝ }
     ensures { λ r. ⌜ Ahead r (c .at + 1) (length (now (image .entry))) count ⌝ }
 {
-    let at = c.at;
-    match record_at(image, c) {
-        Taken::Bad => Step::Stop(NO_TREE, at),
-        Taken::Found(r, d) => {
-            let part = part_of(r);
-            match part {
-                Part::File(_, _) => Step::Stop(NO_TREE, at),
-                Part::Other => Step::Stop(NO_TREE, at),
-                Part::Key(p, n) => match emit(
-                    out,
-                    text,
-                    count,
-                    row(0, 0, 2, n as u64, 0, 0, p, n),
-                    at,
-                    d,
-                ) {
-                    Step::Stop(a, w) => Step::Stop(a, w),
-                    Step::Next(e, k) => match pour_value(out, image, text, e, k) {
-                        Step::Stop(a, w) => Step::Stop(a, w),
-                        Step::Next(f, m) => emit(out, text, m, row(1, 0, 0, 0, 0, 0, 0, 0), at, f),
-                    },
-                },
-            }
-        }
+    match write_key(out, image, text, c, count) {
+        Step::Stop(a, p) => Step::Stop(a, p),
+        Step::Next(e, k) => match pour_value(out, image, text, e, k) {
+            Step::Stop(a, p) => Step::Stop(a, p),
+            Step::Next(f, m) => emit_numbers(out, m, 1, 0, 0, 0, 0, 0, f),
+        },
     }
 }
 

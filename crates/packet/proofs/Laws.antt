@@ -37,12 +37,13 @@ use Rattle.amf0.proofs.Reasons.{kept, because}
 use Rattle.packet.specs.declared.head.Entry.{Entry}
 use Rattle.packet.specs.declared.head.Head.{Head}
 use Rattle.packet.specs.declared.head.Head.the-variants as Head
+use Rattle.packet.specs.declared.entry.Cutting.{Cutting}
 use Rattle.packet.specs.declared.entry.Found.{Found}
 use Rattle.packet.specs.declared.entry.Found.the-variants as Found
 use Rattle.packet.specs.declared.walk.Walk.{Walk}
 use Rattle.packet.specs.declared.walk.Walk.the-variants as W
 use Rattle.packet.specs.Head.{versionAt, headerAt, messageAt, headAt, gotHead}
-use Rattle.packet.specs.Entry.{Cut, found, stops, gotCut, entryAt, walk, cutOf, noEntry, listed, filled, spanOf, judge, valueOf, readSpan, entryIn, foundIn}
+use Rattle.packet.specs.Entry.{Cut, found, stops, gotCut, entryAt, walk, cutOf, noEntry, Listed, uncut, listed, filled, spanOf, judge, valueOf, readSpan, entryIn, foundIn}
 use Rattle.packet.specs.Code.{ended, behind, restOf, goesOn, goesBelow, ahead, aheads, without, endOf, firstIn, refusedCut, countedIn, judgedOf}
 
 -- ---- heads
@@ -326,10 +327,13 @@ pub aheads-none : (l : List Entry) (x : Cut) → aheads (take 0 l) x ≡ x
 aheads-none l (found es z) = refl
 aheads-none l (stops a p) = refl
 
--- one entry more is in the list
+-- one entry more is taken off the cut, and is in the list
+pub aheads-last : (b : List Entry) (e : Entry) (x : Cut) → aheads b (ahead e x) ≡ aheads (b ++ e ∷ []) x
+aheads-last b e (found es z) = rw (append-assoc b (e ∷ []) es)
+aheads-last b e (stops a p) = refl
+
 pub aheads-more : (l : List Entry) (n : ℕ) (e : Entry) (x : Cut) → n < length l → aheads (take n l) (ahead e x) ≡ aheads (take (n + 1) (set l n e)) x
-aheads-more l n e (found es z) h = rw (add-one, take-suc-set l n e h, append-assoc (take n l) (e ∷ []) es)
-aheads-more l n e (stops a p) h = refl
+aheads-more l n e x h = rw (add-one, take-suc-set l n e h) (aheads-last (take n l) e x)
 
 -- one zero entry more is in it
 pub zeros-more : (l : List Entry) (i n : ℕ) (e : Entry) → e ≡ noEntry → i < length l → i < n
@@ -345,24 +349,33 @@ rest-short s w n m {e} {es} {z} b r = ⊎-elim (λ h. h) (λ h. absurd (go w h r
     go (W.End y) h r = let z : _≡_ {A = ℕ} 0 1 = cc in omega arith
     go (W.Stop a p) h r = let z : _≡_ {A = ℕ} 0 1 = cc in omega arith
 
--- the count of a cut c, of which x is left and n entries are in the list l, and that list cleared behind them
-pub record Listing (l : List Entry) (n : ℕ) (x c : Cut) : Type 0 where
-  pub cutting : countedIn x n ≡ listed c (length l) .cutting
-  pub left : take (countedIn x n .count) l ++ replicate (length l - countedIn x n .count) noEntry ≡ filled (listed c (length l) .entries) (length l)
+-- a cut of which all entries are in the list
+abbrev pub all : List Entry → ℕ → Listed
+all es z = record { cutting = record { answer = 0; used = z; count = length es }; entries = es }
 
+-- Of a cut the entries b are taken off and x is left, and there is an entry in x only where the room is full: either b is all of it, or it is refused.
+pub counting : (P : Cutting → Listed → Type 0) (b : List Entry) (room : ℕ) (x : Cut) → length b ≤ room
+    → ((e : Entry) (es : List Entry) (z : ℕ) → x ≡ found (e ∷ es) z → room ≤ length b) → ((z : ℕ) → P (all b z .cutting) (all b z))
+    → ((a : ℕ) → P (refusedCut a) (uncut a)) → P (countedIn x (length b)) (listed (aheads b x) room)
+counting P b room (stops a p) h s y n = n a
+counting P b room (found [] z) h s y n = rw (append-nil b, le-leb (length b) room h) (y z)
+counting P b room (found (e ∷ es) z) h s y n =
+    let m = length-append b (e ∷ es) in
+    rw (lt-leb (length (b ++ e ∷ es)) room (omega (arith, s e es z refl, m))) (n 4)
+
+-- a cut that is counted, and a list that is cleared behind its entries, are what a cut comes to
+pub record Listing (l : List Entry) (k : Cutting) (w : Listed) : Type 0 where
+  pub cutting : k ≡ w .cutting
+  pub left : take (k .count) l ++ replicate (length l - k .count) noEntry ≡ filled (w .entries) (length l)
+
+-- n entries are in the list, and x is left
 pub listing : (l : List Entry) (n : ℕ) (x : Cut) → n ≤ length l → ((e : Entry) (es : List Entry) (z : ℕ) → x ≡ found (e ∷ es) z → length l ≤ n)
-    → Listing l n x (aheads (take n l) x)
-listing l n (stops a p) h s = record { cutting = refl; left = refl }
-listing l n (found [] z) h s = rw (append-nil (take n l)) (go (take n l) (length-take-le n l h) refl)
-  where
-    go : (b : List Entry) → length b ≡ n → b ≡ take n l → Listing l n (found [] z) (found b z)
-    go b m e =
-        let t = le-leb n (length l) h in
-        record { cutting = rw (m, t); left = rw (m, t, e, length-take-le n l h) }
-listing l n (found (e ∷ es) z) h s =
-    let m : length (take n l ++ e ∷ es) ≡ n + suc (length es) = simp (length-append, length-take-le n l h) in
-    let t = lt-leb (length (take n l ++ e ∷ es)) (length l) (omega (arith, s e es z refl, m)) in
-    record { cutting = rw t; left = rw t }
+    → Listing l (countedIn x n) (listed (aheads (take n l) x) (length l))
+listing l n x h s =
+    let m = length-take-le n l h in
+    rw m at
+    (counting (Listing l) (take n l) (length l) x (omega arith) (λ e es z t. omega (arith, s e es z t)) (λ z. record { cutting = refl; left = rw m })
+    (λ a. record { cutting = refl; left = refl }))
 
 -- ---- the whole cut
 

@@ -85,7 +85,7 @@ fn uncut(answer: u8) -> Cutting
 }
 
 // The end of a cut, of which n entries are in the list: if there are more, the list is too short, but the cut's own refusal comes first.
-pub fn counted(packet: &[u8], w: Walk, n: usize) -> Cutting
+pub(crate) fn counted(packet: &[u8], w: Walk, n: usize) -> Cutting
     ensures { λ r. ⌜ r ≡ countedIn (restOf (now (packet .entry)) w) n ⌝ }
 {
     match w {

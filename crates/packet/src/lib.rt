@@ -2,5 +2,6 @@
 pub mod entry;
 pub mod head;
 pub mod read;
-pub mod walk;
+pub mod row;
+mod walk;
 pub mod write;

@@ -109,7 +109,7 @@ fn onward(s: &[u8], kind: u8, n: u16, c: Cursor) -> Walk
 }
 
 // A walk at the first entry.
-pub fn begin(packet: &[u8]) -> Walk
+pub(crate) fn begin(packet: &[u8]) -> Walk
     ensures { λ r. ⌜ restOf (now (packet .entry)) r ≡ cutOf (now (packet .entry)) ⌝ }
 {
     if limit::BYTES < packet.len() {
@@ -135,7 +135,7 @@ pub(crate) fn going(w: Walk) -> bool
 }
 
 // There is an entry, and its number is below n.
-pub fn below(w: Walk, number: usize, n: usize) -> bool
+pub(crate) fn below(w: Walk, number: usize, n: usize) -> bool
     ensures { λ r. ⌜ r ≡ goesBelow w number n ⌝ }
 {
     if number < n {
@@ -145,7 +145,7 @@ pub fn below(w: Walk, number: usize, n: usize) -> bool
 }
 
 // The entry that a walk has come to, and the walk behind it. Where there is none, the walk stays.
-pub fn step(s: &[u8], w: Walk) -> Passed
+pub(crate) fn step(s: &[u8], w: Walk) -> Passed
     ensures { λ r. ⌜ (goesOn w ≡ true → restOf (now (s .entry)) w ≡ ahead (r .entry) (restOf (now (s .entry)) (r .walk))) ⌝ }
     ensures { λ r. ⌜ (goesOn w ≡ true → leftOf (now (s .entry)) (r .walk) < leftOf (now (s .entry)) w) ⌝ }
 {
@@ -171,13 +171,13 @@ pub fn step(s: &[u8], w: Walk) -> Passed
     }
 }
 
-pub fn entry_in(x: Passed) -> Entry
+pub(crate) fn entry_in(x: Passed) -> Entry
     ensures { λ r. ⌜ r ≡ x .entry ⌝ }
 {
     x.entry
 }
 
-pub fn walk_in(x: Passed) -> Walk
+pub(crate) fn walk_in(x: Passed) -> Walk
     ensures { λ r. ⌜ r ≡ x .walk ⌝ }
 {
     x.walk

@@ -1,20 +1,16 @@
 -- What a call returns by value in Rattle, as the numbers that go out to C.
 use Prim.Native.Nat.{ℕ}
-use mathlib.Core.List.{List, [], _∷_, _++_}
+use mathlib.Core.List.{List, [], _∷_}
 use lib.ListN.{replicate}
 use Rattle.image.specs.declared.record.Layout.{Layout}
 use Rattle.image.specs.declared.taking.Taken.{Taken}
 use Rattle.image.specs.declared.taking.Taken.the-variants as Taken
 use Rattle.image.specs.Record.{layoutOf}
-use Rattle.image.specs.Whole.{padded}
-use Rattle.packet.specs.declared.head.Entry.{Entry}
 use Rattle.packet.specs.declared.entry.Found.{Found}
 use Rattle.packet.specs.declared.entry.Found.the-variants as Found
+use Rattle.packet.specs.Row.{entryNumbers}
 
 -- ---- an entry
-
-abbrev pub entryNumbers : Entry → List ℕ
-entryNumbers e = e .kind ∷ e .flag ∷ e .place1 ∷ e .length1 ∷ e .place2 ∷ e .length2 ∷ e .place ∷ e .length ∷ []
 
 abbrev pub foundAnswer : Found → ℕ
 foundAnswer (Found.Is e) = 0
@@ -23,15 +19,6 @@ foundAnswer (Found.Stop a p) = a
 abbrev pub foundNumbers : Found → List ℕ
 foundNumbers (Found.Is e) = entryNumbers e
 foundNumbers (Found.Stop a p) = replicate 8 0
-
--- entries in a row
-unfoldable pub numbersOf : List Entry → List ℕ
-numbersOf [] = []
-numbersOf (e ∷ es) = entryNumbers e ++ numbersOf es
-
--- a row of so many numbers: the entries', and zeros to its end
-abbrev pub rowOf : List Entry → ℕ → List ℕ
-rowOf es n = padded (numbersOf es) n
 
 -- ---- a record
 

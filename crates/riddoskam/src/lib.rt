@@ -1,7 +1,5 @@
 // The library for programs in other languages: each public call, on numbers and slices alone. The answer is the result, the counts go out through
 // references. A slice is a pointer and a length, a reference is a pointer; include/riddoskam.h declares what stands here.
-mod row;
-
 use image::record::layout_of;
 use image::taking::Taken;
 use image::taking::record_at;
@@ -27,7 +25,8 @@ ghost use Rattle.lso.specs.Writing.{writeOf as fileWritten};
 ghost use Rattle.packet.specs.Reading.{wholeOf as wholePacket, incompleteOf as incompletePacket};
 ghost use Rattle.packet.specs.Writing.{writeOf as packetWritten};
 ghost use Rattle.packet.specs.Entry.{cutOf, listOf, readSpan, readEntry, foundIn};
-ghost use Rattle.riddoskam.specs.Numbers.{foundAnswer, foundNumbers, rowOf, takenAnswer, takenNumbers, takenNext};
+ghost use Rattle.packet.specs.Row.{rowOf};
+ghost use Rattle.riddoskam.specs.Numbers.{foundAnswer, foundNumbers, takenAnswer, takenNumbers, takenNext};
 
 // ---- texts
 
@@ -244,7 +243,7 @@ pub extern "C" fn riddoskam_packet_cut(
     ensures { λ _. ⌜ now (count .exit) ≡ listOf (now (packet .entry)) (length (now (numbers .entry)) / 8) .cutting .count ⌝ }
     ensures { λ _. ⌜ now (numbers .exit) ≡ rowOf (listOf (now (packet .entry)) (length (now (numbers .entry)) / 8) .entries) (length (now (numbers .entry))) ⌝ }
 {
-    let cut = row::cut(packet, numbers);
+    let cut = packet::row::cut(packet, numbers);
     *used = cut.used;
     *count = cut.count;
     cut.answer

@@ -3,3 +3,4 @@ pub mod Decimal
 pub mod Stands
 pub mod Rfc3629
 mod Steps
+mod Copies

@@ -7,7 +7,7 @@ use mathlib.Core.Logic.{_⊎_, ⊎-elim}
 use native.Mathlib.Numerals.{add-one}
 use native.Mathlib.Omega.{arith}
 use lib.ListN.{length, getD, drop, drop-of-length-le}
-use lib.Seq.{drop-cons}
+use lib.Seq.{drop-cons, drop-length}
 use lib.Bits.{bitOr, or-add-and, and-le-l, and-le-r}
 use lib.Dec.{leb, ltb, eqb, T}
 use borrow.Author.Tests.{le-leb, lt-leb, leb-true, leb-false, eq-eqb, ne-eqb, ltb-true, ltb-false, lt-ltb, le-ltb}
@@ -17,13 +17,21 @@ use Rattle.wire.specs.declared.utf8.Step.{Step}
 use Rattle.wire.specs.declared.utf8.Step.the-variants.{To, Stuck}
 use Rattle.wire.specs.Choice.{pick}
 use Rattle.wire.specs.Utf8.{Range, Form, _to_, has, tail, forms, begun, ends}
-use Rattle.wire.specs.Code.{goes, Asked, Over, Onward, Stepped, Run, need, owed, Fits, Owed, Paid}
+use Rattle.wire.specs.Code.{goes, Asked, Over, Onward, Stepped, Plain, Run, need, owed, Fits, Owed, Paid}
 use Rattle.wire.specs.Field.{equal}
 use Rattle.wire.proofs.Laws.{false-true}
 
 alike : (t : Bool) → pick t false false ≡ false
 alike true = refl
 alike false = refl
+
+-- the one way or the other
+split : {A : Type 0} (m n : ℕ) → (m < n → A) → (n ≤ m → A) → A
+split {A} m n f g = go (ltb m n) refl
+  where
+    go : (t : Bool) → ltb m n ≡ t → A
+    go true h = f (ltb-true m n h)
+    go false h = g (ltb-false m n h)
 
 -- ---- a range
 
@@ -119,7 +127,7 @@ over-stuck = record { same = λ rs. refl; ahead = λ k a. tt }
 pub run-on : {s : List ℕ} {i j k : ℕ} → Run s i j → Run s j k → Run s i k
 run-on f g = record { from = omega arith; within = g .within; same = f .same ∙ g .same }
 
-pub run-none : (s : List ℕ) (i j : ℕ) → j ≡ i → i ≤ length s → Run s i j
+run-none : (s : List ℕ) (i j : ℕ) → j ≡ i → i ≤ length s → Run s i j
 run-none s i j e h = record { from = omega arith; within = omega arith; same = rw e }
 
 pub run-one : (s : List ℕ) (i j : ℕ) → i < length s → getD s i 0 < 0x80 → j ≡ i + 1 → Run s i j
@@ -130,25 +138,58 @@ run-one s i j h b e =
       same = rw (e, drop-cons s i 0 h, add-one) (begins-at (getD s i 0) 0 refl tt (omega arith) (omega arith) (drop (suc i) s));
     }
 
+pub run-end : {s : List ℕ} {i j : ℕ} → Run s i j → length s ≤ j → ends [] (drop i s) ≡ true
+unfolding ends
+run-end {s} {i} {j} r h =
+    let e : j ≡ length s = omega arith in
+    r .same ∙ rw (e, drop-length s)
+
 pub step-run : {s : List ℕ} {i j : ℕ} → Stepped s i (To j) → Run s i j
 step-run t = record { from = omega arith; within = t .ahead .1; same = t .same }
 
--- a is the bytes from i to j or-ed together: with the byte at j it is below 0x80 only if both are
-pub run-or : {s : List ℕ} {i j a : ℕ} (k : ℕ) → (a < 0x80 → Run s i j) → j < length s → k ≡ j + 1 → bitOr a (getD s j 0) < 0x80 → Run s i k
-run-or {s} {i} {j} {a} k f h e o =
-    let b = getD s j 0 in
+-- ---- ASCII
+
+pub plain-none : (s : List ℕ) (i j : ℕ) → j ≤ i → j ≤ length s → Plain s i j
+plain-none s i j g h = record { within = h; ascii = λ k f l. absurd (omega arith) }
+
+pub plain-one : (s : List ℕ) (i j : ℕ) → i < length s → getD s i 0 < 0x80 → j ≡ i + 1 → Plain s i j
+plain-one s i j h b e = record { within = omega arith; ascii = λ k f l. let g : k ≡ i = omega arith in rw g b }
+
+-- two that meet or overlap are one
+pub plain-join : {s : List ℕ} {i j k l : ℕ} (m : ℕ) → Plain s i j → Plain s k l → k ≤ j → m ≡ l → Plain s i m
+plain-join {s} {i} {j} {k} {l} m f g h e =
+    record { within = omega arith; ascii = λ n a b. split n j (λ x. f .ascii n a x) (λ x. g .ascii n (omega arith) (omega arith)) }
+
+-- what two bytes are or-ed to is below 0x80 only if both are
+pub or-below : (a b : ℕ) → bitOr a b < 0x80 → (a < 0x80) × (b < 0x80)
+or-below a b o =
     let sum = or-add-and a b in
-    run-on (f (omega (arith, and-le-r a b))) (run-one s j k h (omega (arith, and-le-l a b)) e)
+    (omega (arith, and-le-r a b), omega (arith, and-le-l a b))
+
+-- a is the bytes from i on and before j or-ed together
+pub plain-or : {s : List ℕ} {i j a : ℕ} (k : ℕ) → (a < 0x80 → Plain s i j) → j < length s → k ≡ j + 1 → bitOr a (getD s j 0) < 0x80 → Plain s i k
+plain-or {s} {i} {j} {a} k f h e o =
+    let w = or-below a (getD s j 0) o in
+    plain-join k (f (w .0)) (plain-one s j k h (w .1) e) (omega arith) refl
+
+-- the bytes from i to i + n or-ed together
+abbrev pub ored : List ℕ → ℕ → ℕ → ℕ
+ored s i zero = getD s i 0
+ored s i (suc n) = bitOr (ored s i n) (getD s (i + suc n) 0)
+
+pub plain-ored : (s : List ℕ) (i n j : ℕ) → i + n < length s → j ≡ i + n + 1 → ored s i n < 0x80 → Plain s i j
+plain-ored s i zero j h e o = plain-one s i j (omega arith) o (omega arith)
+plain-ored s i (suc n) j h e o = plain-or j (plain-ored s i n (i + suc n) (omega arith) (omega arith)) h e o
+
+pub plain-run : {s : List ℕ} {i j : ℕ} → Plain s i j → i ≤ j → Run s i j
+plain-run {s} {i} {j} p h = go (j - i) j (omega arith) (omega arith)
+  where
+    go : (n k : ℕ) → k ≡ i + n → k ≤ j → Run s i k
+    go zero k e l = run-none s i k (omega arith) (omega arith)
+    go (suc n) k e l =
+        run-on (go n (i + n) refl (omega arith)) (run-one s (i + n) k (omega arith) (p .ascii (i + n) (omega arith) (omega arith)) (omega arith))
 
 -- ---- text looked at byte by byte
-
--- the one way or the other
-split : {A : Type 0} (m n : ℕ) → (m < n → A) → (n ≤ m → A) → A
-split {A} m n f g = go (ltb m n) refl
-  where
-    go : (t : Bool) → ltb m n ≡ t → A
-    go true h = f (ltb-true m n h)
-    go false h = g (ltb-false m n h)
 
 module _ (q p : ℕ) where
   need-none : p < 0xC0 → q < 0xE0 → need q p ≡ []

@@ -44,6 +44,11 @@ pub record Stepped (s : List ℕ) (i : ℕ) (r : Step) : Type 0 where
   pub same : ends [] (drop i s) ≡ left [] r s
   pub ahead : Ahead s i r
 
+-- the bytes from i on and before j are ASCII
+pub record Plain (s : List ℕ) (i j : ℕ) : Type 0 where
+  pub within : j ≤ length s
+  pub ascii : (k : ℕ) → i ≤ k → k < j → getD s k 0 < 0x80
+
 -- whole characters stand from i to j
 pub record Run (s : List ℕ) (i j : ℕ) : Type 0 where
   pub from : i ≤ j

@@ -1,8 +1,96 @@
 // Rows of bytes laid into a buffer. Where a row has no room it is not laid at all.
 ghost use mathlib.Core.Path.{_≡_};
-ghost use Prim.Native.Nat.{_≤_};
+ghost use Prim.Native.Nat.{_+_, _≤_, _<_};
 ghost use lib.ListN.{length};
+ghost use lib.Seq.{sets};
 ghost use Rattle.wire.specs.Bytes.{laid, decimal};
+ghost use Rattle.wire.specs.Field.{bytesAt};
+
+// Four bytes of the row, from its place i on, to where they stand when the row is laid at `at`.
+// The loads come before the stores: so they are one load and one store of the machine. The same with eight.
+fn copy4(out: &mut [u8], at: usize, row: &[u8], i: usize)
+    requires { ⌜ (i + 4 ≤ length (now row)) × (at + length (now row) ≤ length (now out)) ⌝ }
+    ensures { λ _. ⌜ now (out .exit) ≡ sets (now (out .entry)) (at + i) (bytesAt 4 (now (row .entry)) i) ⌝ }
+{
+    let a = row[i];
+    let b = row[i + 1];
+    let c = row[i + 2];
+    let d = row[i + 3];
+    let to = at + i;
+    out[to] = a;
+    out[to + 1] = b;
+    out[to + 2] = c;
+    out[to + 3] = d;
+}
+
+fn copy8(out: &mut [u8], at: usize, row: &[u8], i: usize)
+    requires { ⌜ (i + 8 ≤ length (now row)) × (at + length (now row) ≤ length (now out)) ⌝ }
+    ensures { λ _. ⌜ now (out .exit) ≡ sets (now (out .entry)) (at + i) (bytesAt 8 (now (row .entry)) i) ⌝ }
+{
+    let a = row[i];
+    let b = row[i + 1];
+    let c = row[i + 2];
+    let d = row[i + 3];
+    let e = row[i + 4];
+    let f = row[i + 5];
+    let g = row[i + 6];
+    let h = row[i + 7];
+    let to = at + i;
+    out[to] = a;
+    out[to + 1] = b;
+    out[to + 2] = c;
+    out[to + 3] = d;
+    out[to + 4] = e;
+    out[to + 5] = f;
+    out[to + 6] = g;
+    out[to + 7] = h;
+}
+
+// Up to three bytes: the first, the middle one and the last, which may be the same.
+fn copy_tiny(out: &mut [u8], at: usize, row: &[u8])
+    requires { ⌜ (length (now row) < 4) × (at + length (now row) ≤ length (now out)) ⌝ }
+    ensures { λ _. ⌜ now (out .exit) ≡ sets (now (out .entry)) at (now (row .entry)) ⌝ }
+{
+    let n = row.len();
+    if n == 0 {
+        return;
+    }
+    out[at] = row[0];
+    out[at + n / 2] = row[n / 2];
+    out[at + (n - 1)] = row[n - 1];
+}
+
+// Eight bytes at a time; the last eight may overlap those before them.
+fn copy_eights(out: &mut [u8], at: usize, row: &[u8])
+    requires { ⌜ (8 ≤ length (now row)) × (at + length (now row) ≤ length (now out)) ⌝ }
+    ensures { λ _. ⌜ now (out .exit) ≡ sets (now (out .entry)) at (now (row .entry)) ⌝ }
+{
+    let last = row.len() - 8;
+    let mut i: usize = 0;
+    while i < last {
+        copy8(out, at, row, i);
+        i += 8;
+    }
+    copy8(out, at, row, last);
+}
+
+// A row by whole words, which may overlap: for a short one that takes fewer instructions than a loop over its bytes.
+fn copy_short(out: &mut [u8], at: usize, row: &[u8])
+    requires { ⌜ at + length (now row) ≤ length (now out) ⌝ }
+    ensures { λ _. ⌜ now (out .exit) ≡ sets (now (out .entry)) at (now (row .entry)) ⌝ }
+{
+    let n = row.len();
+    if n < 4 {
+        copy_tiny(out, at, row);
+        return;
+    }
+    if n < 8 {
+        copy4(out, at, row, 0);
+        copy4(out, at, row, n - 4);
+        return;
+    }
+    copy_eights(out, at, row);
+}
 
 // Lays a row from a place on, and returns its length.
 pub fn write_bytes(out: &mut [u8], at: usize, row: &[u8]) -> usize
@@ -11,6 +99,10 @@ pub fn write_bytes(out: &mut [u8], at: usize, row: &[u8]) -> usize
 {
     if at <= out.len() {
         if row.len() <= out.len() - at {
+            if row.len() < 64 {
+                copy_short(out, at, row);
+                return row.len();
+            }
             let mut i: usize = 0;
             while i < row.len() {
                 out[at + i] = row[i];

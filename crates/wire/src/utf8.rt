@@ -6,7 +6,7 @@ ghost use lib.ListN.{length};
 ghost use mathlib.Core.List.{[]};
 ghost use lib.ListN.{drop};
 ghost use Rattle.wire.specs.Utf8.{utf8, ends};
-ghost use Rattle.wire.specs.Code.{Asked, Over, Onward, Stepped, Run, Fits, Owed, Paid};
+ghost use Rattle.wire.specs.Code.{Asked, Over, Onward, Stepped, Plain, Run, Fits, Owed, Paid};
 
 // The character that a first byte begins: of how many bytes it is, and from three on the range of the second.
 pub enum Lead {
@@ -82,10 +82,18 @@ fn tail(s: &[u8], at: Step) -> Step
     over(s, at, 0x80, 0xBF)
 }
 
-// Whether the eight bytes at i are ASCII: or-ed together, they are compiled to one test of a word.
+// Whether the four bytes at i are ASCII: or-ed together, they are compiled to one test of a word.
+fn ascii4(s: &[u8], i: usize) -> bool
+    requires { ⌜ i + 4 ≤ length (now s) ⌝ }
+    ensures { λ r. ⌜ (r ≡ true → Plain (now (s .entry)) i (i + 4)) ⌝ }
+{
+    (s[i] | s[i + 1] | s[i + 2] | s[i + 3]) < 0x80
+}
+
+// The same for eight bytes.
 fn ascii8(s: &[u8], i: usize) -> bool
     requires { ⌜ i + 8 ≤ length (now s) ⌝ }
-    ensures { λ r. ⌜ (r ≡ true → Run (now (s .entry)) i (i + 8)) ⌝ }
+    ensures { λ r. ⌜ (r ≡ true → Plain (now (s .entry)) i (i + 8)) ⌝ }
 {
     (s[i] | s[i + 1] | s[i + 2] | s[i + 3] | s[i + 4] | s[i + 5] | s[i + 6] | s[i + 7]) < 0x80
 }
@@ -93,7 +101,7 @@ fn ascii8(s: &[u8], i: usize) -> bool
 // The same for 64 bytes: compiled to tests of 16 at once.
 fn ascii64(s: &[u8], i: usize) -> bool
     requires { ⌜ i + 64 ≤ length (now s) ⌝ }
-    ensures { λ r. ⌜ (r ≡ true → Run (now (s .entry)) i (i + 64)) ⌝ }
+    ensures { λ r. ⌜ (r ≡ true → Plain (now (s .entry)) i (i + 64)) ⌝ }
 {
     let mut all: u8 = 0;
     let mut k: usize = 0;
@@ -286,13 +294,59 @@ fn characters(s: &[u8], start: usize) -> bool
     true
 }
 
+// Whether up to three bytes are ASCII: they are the first, the one in the middle and the last.
+fn tiny(s: &[u8]) -> bool
+    requires { ⌜ length (now s) < 4 ⌝ }
+    ensures { λ r. ⌜ (r ≡ true → Plain (now (s .entry)) 0 (length (now (s .entry)))) ⌝ }
+{
+    let n = s.len();
+    if n == 0 {
+        return true;
+    }
+    (s[0] | s[n / 2] | s[n - 1]) < 0x80
+}
+
+// Whether eight bytes or more are ASCII: eight at a time, and the last eight. Without the way out, the loop has more than twice the instructions.
+fn eights(s: &[u8]) -> bool
+    requires { ⌜ 8 ≤ length (now s) ⌝ }
+    ensures { λ r. ⌜ (r ≡ true → Plain (now (s .entry)) 0 (length (now (s .entry)))) ⌝ }
+{
+    let n = s.len();
+    let mut i: usize = 8;
+    while i < n {
+        if ascii8(s, i - 8) {
+            i += 8;
+        } else {
+            return false;
+        }
+    }
+    ascii8(s, n - 8)
+}
+
+// Whether a text is ASCII. Its last word may overlap the one before it, so that no bytes are left to be looked at one by one.
+fn short_ascii(s: &[u8]) -> bool
+    ensures { λ r. ⌜ (r ≡ true → Plain (now (s .entry)) 0 (length (now (s .entry)))) ⌝ }
+{
+    let n = s.len();
+    if n < 4 {
+        return tiny(s);
+    }
+    if n < 8 {
+        return ascii4(s, 0) & ascii4(s, n - 4);
+    }
+    eights(s)
+}
+
 // Short text is ASCII as a rule: it is looked at for that first.
 pub fn is_utf8(s: &[u8]) -> bool
     ensures { λ r. ⌜ r ≡ utf8 (now (s .entry)) ⌝ }
 {
     if s.len() < 64 {
-        let i = singles(s, blocks(s, 0));
-        if i < s.len() { characters(s, i) } else { true }
+        if short_ascii(s) {
+            true
+        } else {
+            characters(s, 0)
+        }
     } else {
         characters(s, wide(s, 0))
     }

@@ -3,7 +3,9 @@ use mathlib.Core.Path.{sym}
 use native.Mathlib.Omega.{arith}
 use denote.Ref.{now}
 use Rattle.image.proofs.Pouring.{pour-stop}
-use Rattle.amf0.proofs.Putting.{ahead-stop, in-text, in-image, in-place, in-count, in-value}
+use Rattle.wire.specs.Limit as limit
+use Rattle.amf0.specs.Writing.{value}
+use Rattle.amf0.proofs.Putting.{ahead-stop, in-text, in-image, in-place, in-count, in-value, rest-one}
 use borrow.Author.Needs.{needs}
 use Rattle.amf0.proofs.write.pour_value.Statement.{statement}
 use Rattle.amf0.proofs.write.pour_value.Tie as tie
@@ -28,8 +30,8 @@ returns-4 c =
     let a = c .before .before .before .before .before .before .before .before .args in
     (rw (in-count (now (a .image)) (now (a .text)) (a .count) (a .c .at) (omega arith) (omega arith) (omega arith) (omega arith)) (sym (pour-stop _ _ _ _)), ahead-stop)
 
-value-requires : tie.Need-value-requires
-value-requires c κs = search needs
+values-requires : tie.Need-values-requires
+values-requires c κs = search needs
 
 same-length : tie.Need-same-length
 same-length c = search needs
@@ -37,9 +39,11 @@ same-length c = search needs
 returns-5 : tie.Need-returns-5
 returns-5 c =
     let a = c .before .before .before .before .before .before .before .before .before .before .before .before .args in
-    let v = c .before .before .value .ensures in
-    (rw (in-value (now (a .image)) (now (a .text)) (a .count) (a .c .at) (omega arith) (omega arith) (omega arith) (omega arith)) (v .0), v .1)
+    let i = now (a .image) in
+    let x = now (a .text) in
+    let v = c .before .before .values .ensures in
+    (rw (in-value i x (a .count) (a .c .at) (omega arith) (omega arith) (omega arith) (omega arith), ← rest-one (value limit.levels i x) i x (a .c .at)) (v .0), v .1)
 
 pub pour-value-spec : {M : Type 1} → statement M
 pour-value-spec =
-    tie.close (tie.spec returns returns-2 returns-3 returns-4 value-requires same-length returns-5)
+    tie.close (tie.spec returns returns-2 returns-3 returns-4 values-requires same-length returns-5)

@@ -18,12 +18,12 @@ is-utf8-requires c κs = search needs
 returns : tie.Need-returns
 unfolding ends
 returns c =
-    let e = sym (c .before .before .before .inside .ensures) ∙ c .before .before .if1 .taken in
+    let e = sym (c .before .before .inside .ensures) ∙ c .before .if1 .taken in
     rw (e, c .if2 .taken)
 
 returns-2 : tie.Need-returns-2
 returns-2 c =
-    let e = sym (c .before .before .before .before .before .inside .ensures) ∙ c .before .before .before .before .if1 .taken in
+    let e = sym (c .before .before .before .before .inside .ensures) ∙ c .before .before .before .if1 .taken in
     rw e (c .is-utf8 .ensures ∙ ap utf8 (c .before .part .ensures ∙ rw e))
 
 returns-3 : tie.Need-returns-3

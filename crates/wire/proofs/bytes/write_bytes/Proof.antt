@@ -20,6 +20,17 @@ abbrev μ-loop : tie.MeasureT-loop
 sub-if2 : tie.Need-sub-if2 Inv-loop μ-loop
 sub-if2 c = search needs
 
+copy-short-requires : tie.Need-copy-short-requires Inv-loop μ-loop
+copy-short-requires c κs = search needs
+
+same-length : tie.Need-same-length Inv-loop μ-loop
+same-length c = search needs
+
+returns : tie.Need-returns Inv-loop μ-loop
+returns c =
+    let a = c .before .before .before .before .before .before .before .before .before .args in
+    (refl, c .before .before .copy-short .ensures ∙ sym (laid-room (now (a .row)) (a .at) (now (a .out)) (omega arith)))
+
 loop-holds : tie.Need-loop-holds Inv-loop μ-loop
 loop-holds c = (omega arith, refl, rw add-zero)
 
@@ -41,26 +52,26 @@ loop-less c = search needs
 loop-again : tie.Need-loop-again Inv-loop μ-loop
 loop-again c =
     let l = c .before .before .loop in
-    let a = c .before .before .before .before .before .args in
+    let a = c .before .before .before .before .before .before .before .before .args in
     (omega arith, simp length-set (l .inv .1), l .inv .2 ∙ sets-next (l .out) (a .at) (now (a .row)) (l .i) (omega arith))
 
-same-length : tie.Need-same-length Inv-loop μ-loop
-same-length c = search needs
-
-returns : tie.Need-returns Inv-loop μ-loop
-returns c =
-    let l = c .before .loop in
-    let a = c .before .before .before .before .args in
-    (refl, sym (laid-room (now (a .row)) (a .at) (now (a .out)) (omega arith) ∙ l .inv .2 ∙ sets-done (l .out) (a .at) (now (a .row)) (l .i) (omega arith)))
+same-length-2 : tie.Need-same-length-2 Inv-loop μ-loop
+same-length-2 c = search needs
 
 returns-2 : tie.Need-returns-2 Inv-loop μ-loop
 returns-2 c =
-    let a = c .before .before .args in
-    (refl, sym (laid-none (now (a .row)) (a .at) (now (a .out)) (omega arith)))
+    let l = c .before .loop in
+    let a = c .before .before .before .before .before .before .before .args in
+    (refl, sym (laid-room (now (a .row)) (a .at) (now (a .out)) (omega arith) ∙ l .inv .2 ∙ sets-done (l .out) (a .at) (now (a .row)) (l .i) (omega arith)))
 
 returns-3 : tie.Need-returns-3 Inv-loop μ-loop
 returns-3 c =
-    let a = c .before .args in
+    let a = c .before .before .before .before .args in
+    (refl, sym (laid-none (now (a .row)) (a .at) (now (a .out)) (omega arith)))
+
+returns-4 : tie.Need-returns-4 Inv-loop μ-loop
+returns-4 c =
+    let a = c .before .before .before .args in
     (refl, sym (laid-none (now (a .row)) (a .at) (now (a .out)) (omega arith)))
 
 pub write-bytes-spec : {M : Type 1} → statement M
@@ -70,6 +81,9 @@ write-bytes-spec =
     Inv-loop
     μ-loop
     sub-if2
+    copy-short-requires
+    same-length
+    returns
     loop-holds
     shared-slice-read-out
     add-out
@@ -77,7 +91,7 @@ write-bytes-spec =
     add-i
     loop-less
     loop-again
-    same-length
-    returns
+    same-length-2
     returns-2
-    returns-3)
+    returns-3
+    returns-4)

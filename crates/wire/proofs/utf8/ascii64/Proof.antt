@@ -4,25 +4,25 @@ use mathlib.Core.Path.{_≡_}
 use native.Mathlib.Omega.{arith}
 use borrow.Author.Needs.{needs}
 use borrow.Author.Tests.{ltb-true}
-use Rattle.wire.specs.Code.{Run}
-use Rattle.wire.proofs.Steps.{run-none, run-or}
+use Rattle.wire.specs.Code.{Plain}
+use Rattle.wire.proofs.Steps.{plain-none, plain-or}
 use Rattle.wire.proofs.utf8.ascii64.Statement.{statement}
 use Rattle.wire.proofs.utf8.ascii64.Tie as tie
 
 abbrev Inv-loop : tie.InvT-loop
-Inv-loop s i all₀ k₀ all k = (k ≤ 64) × (all < 0x80 → Run s i (i + k))
+Inv-loop s i all₀ k₀ all k = (k ≤ 64) × (all < 0x80 → Plain s i (i + k))
 
 abbrev μ-loop : tie.MeasureT-loop
 μ-loop s i all₀ k₀ all k = 64 - k
 
 loop-holds : tie.Need-loop-holds Inv-loop μ-loop
-loop-holds c = (omega arith, λ h. run-none _ _ _ (omega arith) (omega arith))
+loop-holds c = (omega arith, λ h. plain-none _ _ _ (omega arith) (omega arith))
 
 loop-again : tie.Need-loop-again Inv-loop μ-loop
 loop-again c =
     let l = c .before .before .loop in
     let i = c .before .before .before .args .i in
-    (omega arith, run-or (i + (l .k + 1)) (l .inv .1) (omega arith) (omega arith))
+    (omega arith, plain-or (i + (l .k + 1)) (l .inv .1) (omega arith) (omega arith))
 
 returns : tie.Need-returns Inv-loop μ-loop
 returns c t =

@@ -1,9 +1,10 @@
 -- `blocks` meets its contract. The loop's invariant: whole characters stand up to i.
 use Prim.Native.Nat.{_-_}
+use native.Mathlib.Omega.{arith}
 use lib.ListN.{length}
 use borrow.Author.Needs.{needs}
 use Rattle.wire.specs.Code.{Run}
-use Rattle.wire.proofs.Steps.{run-on}
+use Rattle.wire.proofs.Steps.{run-on, plain-run}
 use Rattle.wire.proofs.utf8.blocks.Statement.{statement}
 use Rattle.wire.proofs.utf8.blocks.Tie as tie
 
@@ -14,7 +15,7 @@ abbrev μ-loop : tie.MeasureT-loop
 μ-loop s from i₀ i = length s - i
 
 loop-again : tie.Need-loop-again Inv-loop μ-loop
-loop-again c = run-on (c .before .before .before .loop .inv) (c .before .ascii8 .ensures (c .if1 .taken))
+loop-again c = run-on (c .before .before .before .loop .inv) (plain-run (c .before .ascii8 .ensures (c .if1 .taken)) (omega arith))
 
 pub blocks-spec : {M : Type 1} → statement M
 blocks-spec =

@@ -1,14 +1,11 @@
 -- `characters` meets its contract. The loop's invariant: whole characters stand up to i.
 use Prim.Native.Nat.{_-_}
-use mathlib.Core.Path.{_≡_, sym, _∙_}
+use mathlib.Core.Path.{sym, _∙_}
 use native.Mathlib.Omega.{arith}
 use lib.ListN.{length}
-use lib.Seq.{drop-length}
-use denote.Ref.{now}
 use borrow.Author.Needs.{needs}
-use Rattle.wire.specs.Utf8.{ends}
 use Rattle.wire.specs.Code.{Run}
-use Rattle.wire.proofs.Steps.{run-on, step-run}
+use Rattle.wire.proofs.Steps.{run-on, run-end, step-run}
 use Rattle.wire.proofs.utf8.characters.Statement.{statement}
 use Rattle.wire.proofs.utf8.characters.Tie as tie
 
@@ -31,12 +28,7 @@ returns c =
     sym (c .before .before .before .before .loop .inv .same ∙ rw (c .enum-told .given .1) at (c .before .before .after .ensures .same))
 
 returns-2 : tie.Need-returns-2 Inv-loop μ-loop
-unfolding ends
-returns-2 c =
-    let s = now (c .before .before .before .args .s) in
-    let l = c .before .loop in
-    let e : l .i ≡ length s = omega arith in
-    sym (l .inv .same ∙ rw (e, drop-length s))
+returns-2 c = sym (run-end (c .before .loop .inv) (omega arith))
 
 pub characters-spec : {M : Type 1} → statement M
 characters-spec =

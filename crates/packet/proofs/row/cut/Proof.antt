@@ -1,0 +1,129 @@
+-- `cut` meets its contract. The invariant: the whole cut is the entries whose numbers are in the row, and then what is left from here.
+use Prim.Native.Nat.{_+_, _*_, _-_, _/_, _≤_, _<_}
+use mathlib.Core.Path.{_≡_, refl, sym, ap, _∙_}
+use mathlib.Core.Bool.{true}
+use native.Mathlib.Omega.{arith}
+use lib.ListN.{length}
+use lib.Seq.{length-sets}
+use denote.Ref.{now}
+use borrow.Author.Needs.{needs}
+use Rattle.packet.specs.declared.entry.Cutting.{Cutting}
+use Rattle.packet.specs.Entry.{cutOf, listOf}
+use Rattle.packet.specs.Code.{goesOn, restOf}
+use Rattle.packet.proofs.Laws.{below-true, rest-short}
+use Rattle.packet.specs.Row.{entryNumbers}
+use Rattle.packet.proofs.Rows.{Rowed, rowed-none, rowed-more, counted-most, rowing}
+use Rattle.packet.proofs.row.cut.Statement.{statement}
+use Rattle.packet.proofs.row.cut.Tie as tie
+
+abbrev Inv-loop : tie.InvT-loop
+Inv-loop s row₀ room w₀ n₀ row w n = (length row ≡ length row₀) × (n ≤ room) × Rowed row n (restOf s w) (cutOf s)
+
+abbrev μ-loop : tie.MeasureT-loop
+μ-loop s row₀ room w₀ n₀ row w n = room - n
+
+begin-requires : tie.Need-begin-requires Inv-loop μ-loop
+begin-requires c κs = search needs
+
+loop-holds : tie.Need-loop-holds Inv-loop μ-loop
+loop-holds c =
+    let a = c .before .before .before .args in
+    (refl, omega arith, rw (c .begin .ensures) (rowed-none (now (a .row)) (cutOf (now (a .packet)))))
+
+below-requires : tie.Need-below-requires Inv-loop μ-loop
+below-requires c κs = search needs
+
+step-requires : tie.Need-step-requires Inv-loop μ-loop
+step-requires c κs = search needs
+
+-- there is an entry, and a place for it
+more : (c : tie.Then1 Inv-loop μ-loop) →
+    let l = c .before .before .loop in
+    let a = c .before .before .before .before .before .before .args in
+    (l .n < length (now (a .row)) / 8) × (goesOn (l .w) ≡ true)
+more c =
+    let l = c .before .before .loop in
+    let a = c .before .before .before .before .before .before .args in
+    below-true (l .w) (l .n) (length (now (a .row)) / 8) (sym (c .before .below .ensures) ∙ c .if1 .taken)
+
+mul-put : tie.Need-mul-put Inv-loop μ-loop
+mul-put c = omega (arith, more (c .before .before) .0)
+
+entry-in-requires : tie.Need-entry-in-requires Inv-loop μ-loop
+entry-in-requires c κs = search needs
+
+put-requires : tie.Need-put-requires Inv-loop μ-loop
+put-requires c κs = omega (arith, more (c .before .before .before) .0, c .before .before .before .before .before .loop .inv .0)
+
+walk-in-requires : tie.Need-walk-in-requires Inv-loop μ-loop
+walk-in-requires c κs = search needs
+
+add-n : tie.Need-add-n Inv-loop μ-loop
+add-n c = search needs
+
+loop-less : tie.Need-loop-less Inv-loop μ-loop
+loop-less c = omega (arith, more (c .before .before .before .before .before .before .before) .0)
+
+loop-again : tie.Need-loop-again Inv-loop μ-loop
+loop-again c =
+    let s = c .before .before .before .before .before .before .before .before .before .before .before .before .before .args .packet .now in
+    let l = c .before .before .before .before .before .before .before .before .before .loop in
+    let m = more (c .before .before .before .before .before .before .before) in
+    let x = c .before .before .before .before .before .before .step .result in
+    let h : 8 * l .n + 8 ≤ length (l .row) = omega (arith, m .0, l .inv .0) in
+    let p = c .before .before .before .put .ensures in
+    let i = rw (c .before .before .before .before .before .before .step .ensures .0 (m .1)) at (l .inv .2) in (
+      rw p (length-sets (l .row) (8 * l .n) (entryNumbers (c .before .before .before .before .entry-in .result)) ∙ l .inv .0),
+      omega (arith, m .0),
+      rw (p, c .walk-in .ensures, c .before .before .before .before .entry-in .ensures) (rowed-more (l .row) (l .n) (x .entry) (restOf s (x .walk)) h i),
+    )
+
+counted-requires : tie.Need-counted-requires Inv-loop μ-loop
+counted-requires c κs = search needs
+
+mul-clear : tie.Need-mul-clear Inv-loop μ-loop
+mul-clear c =
+    let l = c .before .before .before .before .before .loop in
+    let a = c .before .before .before .before .before .before .before .before .before .args in
+    let k = counted-most (restOf (now (a .packet)) (l .w)) (l .n) in
+    let e = ap (λ (r : Cutting). r .count) (c .before .before .counted .ensures) in
+    omega (arith, k, e, l .inv .1)
+
+clear-requires : tie.Need-clear-requires Inv-loop μ-loop
+clear-requires c κs = search needs
+
+same-length : tie.Need-same-length Inv-loop μ-loop
+same-length c = search needs
+
+returns : tie.Need-returns Inv-loop μ-loop
+unfolding listOf
+returns c =
+    let a = c .before .before .before .before .before .before .before .before .before .before .before .before .args in
+    let s = now (a .packet) in
+    let l = c .before .before .before .before .before .before .before .before .loop in
+    let b = sym (c .before .before .before .before .before .before .before .below .ensures) ∙ c .before .before .before .before .before .before .if1 .left in
+    let g = rowing (l .row) (l .n) (length (l .row) / 8) (restOf s (l .w)) (omega (arith, l .inv .0, l .inv .1)) (λ e es z h. let q = rest-short s (l .w) (l .n) (length (now (a .row)) / 8) b h in omega (arith, q, l .inv .0)) (l .inv .2) in
+    rw (sym (l .inv .0)) (c .before .before .before .before .before .counted .ensures ∙ g .cutting, c .before .before .clear .ensures ∙ rw (c .before .before .before .before .before .counted .ensures) (g .left))
+
+pub cut-spec : {M : Type 1} → statement M
+cut-spec =
+    tie.close
+    (tie.spec
+    Inv-loop
+    μ-loop
+    begin-requires
+    loop-holds
+    below-requires
+    step-requires
+    mul-put
+    entry-in-requires
+    put-requires
+    walk-in-requires
+    add-n
+    loop-less
+    loop-again
+    counted-requires
+    mul-clear
+    clear-requires
+    same-length
+    returns)
