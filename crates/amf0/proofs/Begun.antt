@@ -6,7 +6,7 @@ use mathlib.Core.Bool.{Bool, true, false}
 use native.Mathlib.Omega.{arith}
 use lib.ListN.{getD}
 use lib.Dec.{leb}
-use Rattle.wire.specs.Field.{to, u8At, got8}
+use Rattle.wire.specs.Field.{to, u8At}
 use Rattle.wire.specs.declared.cursor.Cursor.{Cursor}
 use Rattle.wire.specs.declared.cursor.U8.{U8}
 use Rattle.wire.specs.declared.cursor.U8.the-variants as U8
@@ -22,10 +22,10 @@ use Rattle.image.specs.Record.{layoutOf}
 use Rattle.image.specs.Taking.{Body, zoned, bodyAt, recordAt}
 use Rattle.image.specs.Out.{Out, end, stop, row, most, rowIn, pour, poured, Grown}
 use Rattle.image.proofs.Found.{found-kind}
-use Rattle.image.proofs.Pouring.{pour-stop, pour-end, row-in, row-then, row-halt}
+use Rattle.image.proofs.Pouring.{pour-stop, row-in, row-then, row-halt}
 use Rattle.amf0.specs.declared.write.Rest.{Rest}
-use Rattle.amf0.specs.declared.write.Shape.{Shape}
-use Rattle.amf0.specs.declared.write.Shape.the-variants as S
+use Rattle.amf0.specs.Shape.{Shape}
+use Rattle.amf0.specs.Shape as S
 use Rattle.amf0.specs.declared.write.Begun.the-variants as Begun
 use Rattle.amf0.specs.declared.write.Before.{Before}
 use Rattle.amf0.specs.declared.write.Before.the-variants as Before

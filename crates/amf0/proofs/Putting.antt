@@ -18,16 +18,16 @@ use Rattle.image.specs.declared.record.Record.{Record}
 use Rattle.image.specs.declared.record.Record.the-variants.{Number, Boolean, Text, Object, Null, Undefined, Reference, EcmaArray, ObjectEnd, StrictArray, Date, Unsupported, Xml, TypedObject, Key, Packet, Header, Message, Lso}
 use Rattle.image.specs.declared.reading.Step.{Step}
 use Rattle.image.specs.declared.reading.Step.the-variants.{Next, Stop}
-use Rattle.image.specs.declared.taking.Taken.the-variants.{Found, Bad}
+use Rattle.image.specs.declared.taking.Taken.the-variants.{Found}
 use Rattle.image.specs.Taking.{recordAt}
-use Rattle.image.specs.Out.{Out, end, stop, put, _>>=_, row, numberBytes, pour, poured, Grown, bytes, settled, Written, written, unwritten}
+use Rattle.image.specs.Out.{Out, end, stop, put, _>>=_, pour, poured, Grown, bytes, settled, Written, written, unwritten}
 use Rattle.image.proofs.Laws.{size-some}
 use Rattle.image.proofs.Found.{found-stood}
 use Rattle.image.proofs.Pouring.{Slim, pour-then, pour-halt, pour-stop, pour-end, went, bytes-bind, settled-stop, settled-halt, settled-over, settled-full, settled-fits}
 use Rattle.amf0.specs.declared.write.Rest.the-variants.{Nothing, Pairs, Dense, Values}
-use Rattle.amf0.specs.declared.write.Shape.{Shape}
-use Rattle.amf0.specs.declared.write.Shape.the-variants as S
-use Rattle.amf0.specs.Writing.{shapeOf, indexed, valueAt, valued, paired, items, pairs, dense, rest, value, before, valueIn, whole, writeOf}
+use Rattle.amf0.specs.Shape.{Shape}
+use Rattle.amf0.specs.Shape as S
+use Rattle.amf0.specs.Writing.{shapeOf, indexed, valueAt, items, pairs, dense, rest, value, before, valueIn, whole, writeOf}
 use Rattle.amf0.specs.Code.{Ahead, growth, opened, keyed}
 
 -- ---- the places that a step goes on at

@@ -1,5 +1,5 @@
 -- What reading a value is, by document 01 (Marker, Fields, Reading, Why), by Adobe's document (Standard), and how the two meet (Shown); what writing one
--- is (Writing), and which bytes those are by Adobe's document (Written).
+-- is (Shape, Writing), and which bytes those are by Adobe's document (Written).
 pub mod Marker
 pub mod Fields
 pub mod Reading
@@ -7,6 +7,7 @@ pub mod Why
 pub mod Standard
 pub mod Shown
 pub mod Examples
+pub mod Shape
 pub mod Writing
 pub mod Written
 pub mod WriteExamples

@@ -20,8 +20,8 @@ use Rattle.image.specs.Taking.{recordAt}
 use Rattle.image.specs.Out.{Out, end, stop, put, _>>=_, row, Written, unwritten, settled}
 use Rattle.amf0.specs.declared.write.Rest.{Rest}
 use Rattle.amf0.specs.declared.write.Rest.the-variants.{Nothing, Pairs, Dense, Values}
-use Rattle.amf0.specs.declared.write.Shape.{Shape}
-use Rattle.amf0.specs.declared.write.Shape.the-variants as S
+use Rattle.amf0.specs.Shape.{Shape}
+use Rattle.amf0.specs.Shape as S
 
 -- ---- the bytes of a record
 

@@ -4,7 +4,6 @@ use image::taking::Flag;
 use image::taking::flag_at;
 use image::taking::long_at;
 use image::taking::short_at;
-use image::writing::Row;
 use image::writing::Writing;
 use image::writing::emit_numbers;
 use image::writing::emit_text;
@@ -36,7 +35,7 @@ ghost use Rattle.image.specs.declared.taking.Taken.the-variants.{Found};
 ghost use Rattle.image.specs.Record.{none as noField, bitOf};
 ghost use Rattle.image.specs.Taking.{bodyAt, recordAt};
 ghost use Rattle.image.specs.Out.{most, pour, poured, onto};
-ghost use Rattle.amf0.specs.declared.write.Shape.the-variants.{Value};
+ghost use Rattle.amf0.specs.Shape.{Value};
 ghost use Rattle.amf0.specs.Writing.{shapeOf, plain as plainOf, among, kinds, valueAt, value, rest as restOf, valueIn, writeOf};
 ghost use Rattle.amf0.specs.Code.{Ahead, longest, room, thenOf, zoneFits, Owned, Paired, dueAt, owed};
 
@@ -46,14 +45,6 @@ pub enum Rest {
     Pairs,
     Dense,
     Values(u32),
-}
-
-// What a record is to a writing of values.
-pub enum Shape {
-    Value(Row, Rest),
-    Key(Row),
-    End(Row),
-    Other,
 }
 
 fn bit(b: bool) -> u64

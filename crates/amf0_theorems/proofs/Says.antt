@@ -20,7 +20,7 @@ use Rattle.image.specs.Taking.{Fits}
 use Rattle.image.specs.Out.{namedOf, rowBytes}
 use Rattle.amf0.specs.declared.write.Rest.{Rest}
 use Rattle.amf0.specs.declared.write.Rest.the-variants.{Nothing, Pairs, Dense, Values}
-use Rattle.amf0.specs.declared.write.Shape.the-variants as S
+use Rattle.amf0.specs.Shape as S
 use Rattle.amf0.specs.Standard.{Item, Row, UTF-8}
 use Rattle.amf0.specs.Standard.UTF-8.{short}
 use Rattle.amf0.specs.Standard.UTF-8-long.{long}

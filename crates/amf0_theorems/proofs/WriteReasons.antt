@@ -18,8 +18,8 @@ use Rattle.image.specs.Taking.{recordAt}
 use Rattle.image.specs.Out.{Out, end, stop, put, _>>=_, row, rowBytes, namedOf, bytes, ended, settled, sized, Written, written, unwritten}
 use Rattle.amf0.specs.declared.write.Rest.{Rest}
 use Rattle.amf0.specs.declared.write.Rest.the-variants.{Nothing, Pairs, Dense, Values}
-use Rattle.amf0.specs.declared.write.Shape.{Shape}
-use Rattle.amf0.specs.declared.write.Shape.the-variants as S
+use Rattle.amf0.specs.Shape.{Shape}
+use Rattle.amf0.specs.Shape as S
 use Rattle.amf0.specs.Standard.{Sort, Tree, depth}
 use Rattle.amf0.specs.Writing.{shapeOf, valueAt, taken, valued, paired, items, pairs, dense, rest, value, whole, writeOf}
 use Rattle.amf0.specs.Written.{write, Images, Writable, Outcome}

@@ -26,8 +26,8 @@ use Rattle.image.specs.Out.{Out, end, stop, put, _>>=_, row, rowBytes, namedOf}
 use Rattle.image.proofs.Laws.{size-bytes}
 use Rattle.image.proofs.Found.{found-stood}
 use Rattle.amf0.specs.declared.write.Rest.{Rest}
-use Rattle.amf0.specs.declared.write.Shape.{Shape}
-use Rattle.amf0.specs.declared.write.Shape.the-variants as S
+use Rattle.amf0.specs.Shape.{Shape}
+use Rattle.amf0.specs.Shape as S
 use Rattle.amf0.specs.Standard.{Item, Sort, Tree, depth, follows}
 use Rattle.amf0.specs.Shown.{look, laid}
 use Rattle.amf0.specs.Shown.Word.{item, name, close}

@@ -22,7 +22,7 @@ use Rattle.wire.specs.declared.cursor.Text.the-variants as Place
 use Rattle.wire.specs.Choice.{pick}
 use Rattle.wire.specs.Number.{digits, Bytes}
 use Rattle.wire.specs.Field.{to, bytesAt, u8At, u16At, u24At, u32At, u64At, got8, got16, got32, gotText}
-use Rattle.wire.proofs.Laws.{picked, length-digits, false-true}
+use Rattle.wire.proofs.Laws.{picked, length-digits}
 use Rattle.wire.proofs.Stands.{Here, cut, skip, join, inside, there, stood, byte-at, u8-at, u16-at, u24-at, u32-at, u64-at, Stood, number-stood, end8, end16, end32, end64}
 use Rattle.image.specs.declared.record.Record.{Record}
 use Rattle.image.specs.declared.record.Record.the-variants.{Number, Boolean, Text, Object, Null, Undefined, Reference, EcmaArray, ObjectEnd, StrictArray, Date, Unsupported, Xml, TypedObject, Key, Packet, Header, Message, Lso}

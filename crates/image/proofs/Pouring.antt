@@ -69,10 +69,6 @@ module _ (count : ℕ) (out : List ℕ) where
   unfolding pour
   pour-end n = refl
 
-  pub pour-put : (b : List ℕ) (d : Out) → pour (put b d) count out ≡ pour d (count + length b) (laid b count out)
-  unfolding pour
-  pour-put b d = refl
-
 -- the output keeps its length
 pub pour-length : (d : Out) (count : ℕ) (out : List ℕ) → length (pour d count out .out) ≡ length out
 unfolding pour

@@ -1,12 +1,11 @@
 -- A writing, with no word of room: the rows of bytes in the order in which they are put out, and how the writing ends.
 use Prim.Native.Nat.{ℕ, _+_, _≤_}
 use mathlib.Core.Path.{_≡_}
-use mathlib.Core.List.{List, [], _∷_, _++_}
+use mathlib.Core.List.{List, [], _++_}
 use mathlib.Core.Bool.{Bool, false}
 use lib.ListN.{length, drop}
 use lib.Dec.{leb}
 use Rattle.wire.specs.Choice.{pick}
-use Rattle.wire.specs.Number.{digits}
 use Rattle.wire.specs.Bytes.{laid}
 use Rattle.wire.specs.Field.{to}
 use Rattle.wire.specs.Text.{insideOf, partOf}

@@ -2,7 +2,6 @@
 use crate::date::date;
 use crate::double::number;
 use crate::page::Page;
-use crate::page::byte;
 use crate::page::decimal;
 use crate::page::placed;
 use crate::page::quoted;

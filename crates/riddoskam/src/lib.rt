@@ -10,7 +10,6 @@ use wire::answer::NO_TREE;
 use wire::cursor::Cursor;
 use wire::text::inside;
 ghost use mathlib.Core.Path.{_≡_};
-ghost use mathlib.Core.List.{List};
 ghost use Prim.Native.Nat.{_/_};
 ghost use lib.ListN.{length, take, drop};
 ghost use Rattle.wire.specs.Choice.{pick};

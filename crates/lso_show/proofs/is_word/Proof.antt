@@ -4,8 +4,6 @@ use lib.ListN.{length}
 use borrow.Author.Needs.{needs}
 use Rattle.lso_show.proofs.is_word.Statement.{statement}
 use Rattle.lso_show.proofs.is_word.Tie as tie
-use Rattle.lso_show.proofs.is_word.Reads as reads
-use Rattle.lso_show.proofs.is_word.Lts as lts
 
 abbrev Inv-loop : tie.InvT-loop
 Inv-loop a b i₀ i = Unit {0}

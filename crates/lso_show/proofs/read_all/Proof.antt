@@ -5,9 +5,6 @@ use lib.ListN.{length}
 use borrow.Author.Needs.{needs}
 use Rattle.lso_show.proofs.read_all.Statement.{statement}
 use Rattle.lso_show.proofs.read_all.Tie as tie
-use Rattle.lso_show.proofs.read_all.Reads as reads
-use Rattle.lso_show.proofs.read_all.Lts as lts
-use Rattle.lso_show.proofs.read_some.Reads as read-some-reads
 
 abbrev Inv-loop : tie.InvT-loop
 Inv-loop fd buffer₀ done₀ buffer done = length buffer ≡ length buffer₀

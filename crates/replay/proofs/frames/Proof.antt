@@ -4,9 +4,6 @@ use lib.ListN.{length}
 use borrow.Author.Needs.{needs}
 use Rattle.replay.proofs.frames.Statement.{statement}
 use Rattle.replay.proofs.frames.Tie as tie
-use Rattle.replay.proofs.frames.Reads as reads
-use Rattle.replay.proofs.frames.Lts as lts
-use Rattle.replay.proofs.frame.Reads as frame-reads
 
 abbrev Inv-loop : tie.InvT-loop
 Inv-loop first₀ second₀ room₀ turns₀ first second room turns = (length first ≡ length first₀) × (length second ≡ length second₀) × (length room ≡ length room₀)

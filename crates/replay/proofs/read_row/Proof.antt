@@ -5,11 +5,6 @@ use lib.Seq.{length-take-le}
 use borrow.Author.Needs.{needs}
 use Rattle.replay.proofs.read_row.Statement.{statement}
 use Rattle.replay.proofs.read_row.Tie as tie
-use Rattle.replay.proofs.read_row.Reads as reads
-use Rattle.replay.proofs.read_row.Lts as lts
-use Rattle.io.proofs.read_full.Reads as read-full-reads
-use Rattle.replay.proofs.read_number.Reads as read-number-reads
-use Rattle.replay.proofs.skip.Reads as skip-reads
 
 read-number-requires : tie.Need-read-number-requires
 read-number-requires c κs = search needs

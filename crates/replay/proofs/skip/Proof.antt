@@ -2,9 +2,6 @@
 use borrow.Author.Needs.{needs}
 use Rattle.replay.proofs.skip.Statement.{statement}
 use Rattle.replay.proofs.skip.Tie as tie
-use Rattle.replay.proofs.skip.Reads as reads
-use Rattle.replay.proofs.skip.Lts as lts
-use Rattle.replay.proofs.skip_some.Reads as skip-some-reads
 
 abbrev Inv-loop : tie.InvT-loop
 Inv-loop n left₀ left = Unit {0}

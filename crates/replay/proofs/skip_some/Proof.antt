@@ -5,10 +5,6 @@ use lib.Seq.{length-take-le}
 use borrow.Author.Needs.{needs}
 use Rattle.replay.proofs.skip_some.Statement.{statement}
 use Rattle.replay.proofs.skip_some.Tie as tie
-use Rattle.replay.proofs.skip_some.Reads as reads
-use Rattle.replay.proofs.skip_some.Lts as lts
-use Rattle.io.proofs.large_buffer.Reads as large-buffer-reads
-use Rattle.io.proofs.read_full.Reads as read-full-reads
 
 large-buffer-requires : tie.Need-large-buffer-requires
 large-buffer-requires c κs = search needs

@@ -7,7 +7,6 @@ use lib.ListN.{length}
 use denote.Ref.{now}
 use borrow.Author.Needs.{needs}
 use Rattle.wire.specs.declared.cursor.U8.the-variants as U8
-use Rattle.wire.specs.declared.cursor.Text.the-variants as Text
 use Rattle.wire.specs.Field.{u8At, to}
 use Rattle.wire.proofs.Laws.{u8-next, u8-stop, text-next, text-stop}
 use Rattle.image.specs.declared.record.Record.the-variants.{Key}

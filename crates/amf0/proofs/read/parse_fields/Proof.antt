@@ -11,14 +11,6 @@ use Rattle.amf0.proofs.Laws.{fields-got, fields-stop}
 use borrow.Author.Needs.{needs}
 use Rattle.amf0.proofs.read.parse_fields.Statement.{statement}
 use Rattle.amf0.proofs.read.parse_fields.Tie as tie
-use Rattle.amf0.proofs.read.parse_fields.Reads as reads
-use Rattle.amf0.proofs.read.parse_fields.Lts as lts
-use Rattle.wire.proofs.cursor.Cursor.be_u16.Reads as be-u16-reads
-use Rattle.wire.proofs.cursor.Cursor.be_u32.Reads as be-u32-reads
-use Rattle.wire.proofs.cursor.Cursor.be_u64.Reads as be-u64-reads
-use Rattle.wire.proofs.cursor.Cursor.be_u8.Reads as be-u8-reads
-use Rattle.wire.proofs.cursor.Cursor.parse_long_string.Reads as parse-long-string-reads
-use Rattle.wire.proofs.cursor.Cursor.parse_string.Reads as parse-string-reads
 
 enum-told : tie.Need-enum-told
 enum-told c = search needs

@@ -8,10 +8,6 @@ use Rattle.amf0.proofs.Laws.{whole-read}
 use borrow.Author.Needs.{needs}
 use Rattle.amf0.proofs.read.parse_single_element.Statement.{statement}
 use Rattle.amf0.proofs.read.parse_single_element.Tie as tie
-use Rattle.amf0.proofs.read.parse_single_element.Reads as reads
-use Rattle.amf0.proofs.read.parse_single_element.Lts as lts
-use Rattle.amf0.proofs.read.parse_value.Reads as parse-value-reads
-use Rattle.image.proofs.reading.finish.Reads as finish-reads
 
 parse-value-requires : tie.Need-parse-value-requires
 parse-value-requires c κs = search needs

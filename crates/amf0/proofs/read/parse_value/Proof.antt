@@ -9,10 +9,6 @@ use Rattle.amf0.proofs.Laws.{u8-whole, value-cut, part-over, part-past,
 use borrow.Author.Needs.{needs}
 use Rattle.amf0.proofs.read.parse_value.Statement.{statement}
 use Rattle.amf0.proofs.read.parse_value.Tie as tie
-use Rattle.amf0.proofs.read.parse_value.Reads as reads
-use Rattle.amf0.proofs.read.parse_value.Lts as lts
-use Rattle.amf0.proofs.read.value.Reads as value-reads
-use Rattle.wire.proofs.cursor.Cursor.be_u8.Reads as be-u8-reads
 
 returns : tie.Need-returns
 returns c =

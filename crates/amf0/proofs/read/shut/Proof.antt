@@ -4,8 +4,6 @@ use borrow.Author.Tests.{ne-eqb}
 use Rattle.amf0.specs.Fields.{shut as shutOf}
 use Rattle.amf0.proofs.read.shut.Statement.{statement}
 use Rattle.amf0.proofs.read.shut.Tie as tie
-use Rattle.amf0.proofs.read.shut.Reads as reads
-use Rattle.amf0.proofs.read.shut.Lts as lts
 
 returns : tie.Need-returns
 returns c = sym (ap shutOf (c .match .keys1))

@@ -7,8 +7,6 @@ use Rattle.amf0.specs.Marker.{markers, markerOf}
 use Rattle.amf0.proofs.Laws.{up}
 use Rattle.amf0.proofs.type_marker.type_marker.Statement.{statement}
 use Rattle.amf0.proofs.type_marker.type_marker.Tie as tie
-use Rattle.amf0.proofs.type_marker.type_marker.Reads as reads
-use Rattle.amf0.proofs.type_marker.type_marker.Lts as lts
 
 returns : tie.Need-returns
 unfolding markerOf

@@ -15,10 +15,10 @@ use Rattle.amf0.specs.declared.write.Rest.{Rest}
 use Rattle.amf0.specs.declared.write.Rest.the-variants.{Nothing, Pairs, Dense, Values}
 use Rattle.amf0.specs.declared.write.Begun.the-variants as Begun
 use Rattle.amf0.specs.declared.write.Before.the-variants as Before
-use Rattle.amf0.specs.Code.{longest, growth, room, Owned, Paired, dueAt, owed}
-use Rattle.amf0.specs.Writing.{valueAt, value as valueOf, pairs as pairsOf, dense as denseOf, items as itemsOf, rest as restOf}
+use Rattle.amf0.specs.Code.{longest, growth, room, Owned, Paired, owed}
+use Rattle.amf0.specs.Writing.{valueAt, value as valueOf, pairs as pairsOf, rest as restOf}
 use Rattle.amf0.proofs.Putting.{ahead, ahead-stop, ahead-next, past, value-deep, value-none, value-opened, dense-value, pour-indexed, items-done, items-item, rest-nothing}
-use Rattle.amf0.proofs.Coming.{coming, Enough, Coming, coming-first, coming-due, pairs-coming, due-dense, owed-due}
+use Rattle.amf0.proofs.Coming.{coming, Enough, coming-first, coming-due, pairs-coming, due-dense, owed-due}
 use borrow.Fn.Kinds.{In}
 use borrow.Fn.PlainCycle.{Measures, is, falls, and}
 use Rattle.amf0.proofs.write.value.Reads as value

@@ -1,5 +1,5 @@
 -- The text behind its length and the marker, which go by the length.
-use mathlib.Core.Path.{refl, sym, _∙_}
+use mathlib.Core.Path.{sym, _∙_}
 use native.Mathlib.Omega.{arith}
 use denote.Ref.{now}
 use Rattle.image.specs.declared.record.Record.the-variants.{Text}

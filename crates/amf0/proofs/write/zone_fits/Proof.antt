@@ -1,6 +1,4 @@
 -- The two cases.
-use mathlib.Core.Path.{refl}
-use borrow.Author.Needs.{needs}
 use Rattle.amf0.proofs.write.zone_fits.Statement.{statement}
 use Rattle.amf0.proofs.write.zone_fits.Tie as tie
 

@@ -1,5 +1,5 @@
 -- The numbers are laid behind the count.
-use mathlib.Core.Path.{sym, _∙_}
+use mathlib.Core.Path.{sym}
 use native.Mathlib.Omega.{arith}
 use denote.Ref.{now}
 use Rattle.image.specs.Record.{_bytes_}

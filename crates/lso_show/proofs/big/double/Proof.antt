@@ -2,9 +2,6 @@
 use borrow.Author.Needs.{needs}
 use Rattle.lso_show.proofs.big.double.Statement.{statement}
 use Rattle.lso_show.proofs.big.double.Tie as tie
-use Rattle.lso_show.proofs.big.double.Reads as reads
-use Rattle.lso_show.proofs.big.double.Lts as lts
-use Rattle.lso_show.proofs.big.times.Reads as times-reads
 
 abbrev Inv-loop : tie.InvT-loop
 Inv-loop a₀ n left₀ a left = Unit {0}

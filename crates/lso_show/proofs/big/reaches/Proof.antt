@@ -3,11 +3,6 @@ use Prim.Native.Nat.{_-_, _<_}
 use borrow.Author.Needs.{needs}
 use Rattle.lso_show.proofs.big.reaches.Statement.{statement}
 use Rattle.lso_show.proofs.big.reaches.Tie as tie
-use Rattle.lso_show.proofs.big.reaches.Reads as reads
-use Rattle.lso_show.proofs.big.reaches.Lts as lts
-use Rattle.lso_show.proofs.big.decides.Reads as decides-reads
-use Rattle.lso_show.proofs.big.low_word.Reads as low-word-reads
-use Rattle.lso_show.proofs.big.wide.Reads as wide-reads
 
 abbrev Inv-loop : tie.InvT-loop
 Inv-loop a b c equal reached₀ carry₀ i₀ reached carry i = carry < 2

@@ -3,10 +3,6 @@ use Prim.Native.Nat.{_-_, _<_}
 use borrow.Author.Needs.{needs}
 use Rattle.lso_show.proofs.big.subtract.Statement.{statement}
 use Rattle.lso_show.proofs.big.subtract.Tie as tie
-use Rattle.lso_show.proofs.big.subtract.Reads as reads
-use Rattle.lso_show.proofs.big.subtract.Lts as lts
-use Rattle.lso_show.proofs.big.low_word.Reads as low-word-reads
-use Rattle.lso_show.proofs.big.wide.Reads as wide-reads
 
 abbrev Inv-loop : tie.InvT-loop
 Inv-loop a₀ b carry₀ i₀ a carry i = carry < 2

@@ -5,10 +5,6 @@ use borrow.Author.Needs.{needs}
 use Rattle.lso_show.proofs.Halving.{product}
 use Rattle.lso_show.proofs.big.times.Statement.{statement}
 use Rattle.lso_show.proofs.big.times.Tie as tie
-use Rattle.lso_show.proofs.big.times.Reads as reads
-use Rattle.lso_show.proofs.big.times.Lts as lts
-use Rattle.lso_show.proofs.big.low_word.Reads as low-word-reads
-use Rattle.lso_show.proofs.big.wide.Reads as wide-reads
 
 abbrev Inv-loop : tie.InvT-loop
 Inv-loop a₀ by carry₀ i₀ a carry i = carry ≤ 65536

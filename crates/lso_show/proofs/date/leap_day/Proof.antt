@@ -4,8 +4,6 @@ use borrow.Author.Tests.{eq-eqb, ne-eqb}
 use Rattle.lso_show.specs.Calendar.{leapDay}
 use Rattle.lso_show.proofs.date.leap_day.Statement.{statement}
 use Rattle.lso_show.proofs.date.leap_day.Tie as tie
-use Rattle.lso_show.proofs.date.leap_day.Reads as reads
-use Rattle.lso_show.proofs.date.leap_day.Lts as lts
 
 returns : tie.Need-returns
 unfolding leapDay

@@ -8,9 +8,6 @@ use borrow.Author.Needs.{needs}
 use borrow.Author.Needs.{needs}
 use Rattle.lso_show.proofs.date.month_length.Statement.{statement}
 use Rattle.lso_show.proofs.date.month_length.Tie as tie
-use Rattle.lso_show.proofs.date.month_length.Reads as reads
-use Rattle.lso_show.proofs.date.month_length.Lts as lts
-use Rattle.lso_show.proofs.date.leap_day.Reads as leap-day-reads
 
 leap-day-requires : tie.Need-leap-day-requires
 leap-day-requires c κs = search needs

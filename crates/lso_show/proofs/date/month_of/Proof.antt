@@ -7,9 +7,6 @@ use native.Mathlib.Numerals.{add-one}
 use borrow.Author.Needs.{needs}
 use Rattle.lso_show.proofs.date.month_of.Statement.{statement}
 use Rattle.lso_show.proofs.date.month_of.Tie as tie
-use Rattle.lso_show.proofs.date.month_of.Reads as reads
-use Rattle.lso_show.proofs.date.month_of.Lts as lts
-use Rattle.lso_show.proofs.date.month_length.Reads as month-length-reads
 
 abbrev Inv-loop : tie.InvT-loop
 Inv-loop year day month₀ left₀ month left = (day ≡ monthsDays year month + left) × (month + left ≤ day)

@@ -4,9 +4,6 @@ use borrow.Author.Needs.{needs}
 use borrow.Author.Needs.{needs}
 use Rattle.lso_show.proofs.date.year_of.Statement.{statement}
 use Rattle.lso_show.proofs.date.year_of.Tie as tie
-use Rattle.lso_show.proofs.date.year_of.Reads as reads
-use Rattle.lso_show.proofs.date.year_of.Lts as lts
-use Rattle.lso_show.proofs.date.up_to_3.Reads as up-to-3-reads
 
 up-to-3-requires : tie.Need-up-to-3-requires
 up-to-3-requires c κs = search needs

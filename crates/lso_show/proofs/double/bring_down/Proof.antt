@@ -3,10 +3,6 @@ use Prim.Native.Nat.{_-_, _≤_}
 use borrow.Author.Needs.{needs}
 use Rattle.lso_show.proofs.double.bring_down.Statement.{statement}
 use Rattle.lso_show.proofs.double.bring_down.Tie as tie
-use Rattle.lso_show.proofs.double.bring_down.Reads as reads
-use Rattle.lso_show.proofs.double.bring_down.Lts as lts
-use Rattle.lso_show.proofs.big.reaches.Reads as reaches-reads
-use Rattle.lso_show.proofs.big.times.Reads as times-reads
 
 abbrev Inv-loop : tie.InvT-loop
 Inv-loop over under₀ up even n₀ under n = n ≤ 310

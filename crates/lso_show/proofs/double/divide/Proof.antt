@@ -3,10 +3,6 @@ use Prim.Native.Nat.{_-_, _≤_}
 use borrow.Author.Needs.{needs}
 use Rattle.lso_show.proofs.double.divide.Statement.{statement}
 use Rattle.lso_show.proofs.double.divide.Tie as tie
-use Rattle.lso_show.proofs.double.divide.Reads as reads
-use Rattle.lso_show.proofs.double.divide.Lts as lts
-use Rattle.lso_show.proofs.big.reaches.Reads as reaches-reads
-use Rattle.lso_show.proofs.big.subtract.Reads as subtract-reads
 
 abbrev Inv-loop : tie.InvT-loop
 Inv-loop over₀ under zero quotient₀ over quotient = quotient ≤ 9

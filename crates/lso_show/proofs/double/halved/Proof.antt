@@ -6,8 +6,6 @@ use Rattle.lso_show.proofs.Halving.{halved-odd, halved-even, halved-don
 use borrow.Author.Needs.{needs}
 use Rattle.lso_show.proofs.double.halved.Statement.{statement}
 use Rattle.lso_show.proofs.double.halved.Tie as tie
-use Rattle.lso_show.proofs.double.halved.Reads as reads
-use Rattle.lso_show.proofs.double.halved.Lts as lts
 
 abbrev Inv-loop : tie.InvT-loop
 Inv-loop fraction halvings n₀ i₀ n i = halvedOf fraction halvings ≡ halvedOf n (halvings - i)

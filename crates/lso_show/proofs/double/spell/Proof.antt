@@ -5,9 +5,6 @@ use borrow.Author.Tests.{ltb-true}
 use borrow.Author.Needs.{needs}
 use Rattle.lso_show.proofs.double.spell.Statement.{statement}
 use Rattle.lso_show.proofs.double.spell.Tie as tie
-use Rattle.lso_show.proofs.double.spell.Reads as reads
-use Rattle.lso_show.proofs.double.spell.Lts as lts
-use Rattle.lso_show.proofs.double.next_digit.Reads as next-digit-reads
 
 abbrev Inv-loop : tie.InvT-loop
 Inv-loop over₀ under down₀ up₀ even row₀ count₀ zeros₀ last₀ over down up row count zeros last = (count ≤ 17) × (zeros ≤ 400)

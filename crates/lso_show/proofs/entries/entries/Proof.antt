@@ -5,10 +5,6 @@ use lib.ListN.{length}
 use borrow.Author.Needs.{needs}
 use Rattle.lso_show.proofs.entries.entries.Statement.{statement}
 use Rattle.lso_show.proofs.entries.entries.Tie as tie
-use Rattle.lso_show.proofs.entries.entries.Reads as reads
-use Rattle.lso_show.proofs.entries.entries.Lts as lts
-use Rattle.lso_show.proofs.entries.entry.Reads as entry-reads
-use Rattle.lso_show.proofs.page.word.Reads as word-reads
 
 abbrev Inv-loop : tie.InvT-loop
 Inv-loop page₀ used₀ input image₀ number₀ page used image number = (number ≤ 131071) × (length image ≡ length image₀)

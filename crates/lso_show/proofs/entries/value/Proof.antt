@@ -6,10 +6,6 @@ use borrow.Author.Needs.{needs}
 use borrow.Author.Needs.{needs}
 use Rattle.lso_show.proofs.entries.value.Statement.{statement}
 use Rattle.lso_show.proofs.entries.value.Tie as tie
-use Rattle.lso_show.proofs.entries.value.Reads as reads
-use Rattle.lso_show.proofs.entries.value.Lts as lts
-use Rattle.lso_show.proofs.entries.told.Reads as told-reads
-use Rattle.packet.proofs.entry.parse_entry.Reads as parse-entry-reads
 
 mul-room : tie.Need-mul-room
 mul-room c = search needs

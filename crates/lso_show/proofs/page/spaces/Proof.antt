@@ -3,9 +3,6 @@ use Prim.Native.Nat.{_-_}
 use borrow.Author.Needs.{needs}
 use Rattle.lso_show.proofs.page.spaces.Statement.{statement}
 use Rattle.lso_show.proofs.page.spaces.Tie as tie
-use Rattle.lso_show.proofs.page.spaces.Reads as reads
-use Rattle.lso_show.proofs.page.spaces.Lts as lts
-use Rattle.lso_show.proofs.page.byte.Reads as byte-reads
 
 abbrev Inv-loop : tie.InvT-loop
 Inv-loop page₀ used₀ n i₀ page used i = Unit {0}

@@ -4,9 +4,6 @@ use lib.ListN.{length}
 use borrow.Author.Needs.{needs}
 use Rattle.lso_show.proofs.page.text_bytes.Statement.{statement}
 use Rattle.lso_show.proofs.page.text_bytes.Tie as tie
-use Rattle.lso_show.proofs.page.text_bytes.Reads as reads
-use Rattle.lso_show.proofs.page.text_bytes.Lts as lts
-use Rattle.lso_show.proofs.page.text_byte.Reads as text-byte-reads
 
 abbrev Inv-loop : tie.InvT-loop
 Inv-loop page₀ used₀ text before₀ i₀ page used before i = Unit {0}

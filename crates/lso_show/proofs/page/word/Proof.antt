@@ -4,9 +4,6 @@ use lib.ListN.{length}
 use borrow.Author.Needs.{needs}
 use Rattle.lso_show.proofs.page.word.Statement.{statement}
 use Rattle.lso_show.proofs.page.word.Tie as tie
-use Rattle.lso_show.proofs.page.word.Reads as reads
-use Rattle.lso_show.proofs.page.word.Lts as lts
-use Rattle.lso_show.proofs.page.byte.Reads as byte-reads
 
 abbrev Inv-loop : tie.InvT-loop
 Inv-loop page₀ used₀ text i₀ page used i = Unit {0}

@@ -2,8 +2,6 @@
 use borrow.Author.Needs.{needs}
 use Rattle.lso_show.proofs.tree.ended.Statement.{statement}
 use Rattle.lso_show.proofs.tree.ended.Tie as tie
-use Rattle.lso_show.proofs.tree.ended.Reads as reads
-use Rattle.lso_show.proofs.tree.ended.Lts as lts
 
 abbrev Inv-loop : tie.InvT-loop
 Inv-loop r₀ depth₀ r depth = Unit {0}

@@ -2,10 +2,6 @@
 use borrow.Author.Needs.{needs}
 use Rattle.lso_show.proofs.tree.tree.Statement.{statement}
 use Rattle.lso_show.proofs.tree.tree.Tie as tie
-use Rattle.lso_show.proofs.tree.tree.Reads as reads
-use Rattle.lso_show.proofs.tree.tree.Lts as lts
-use Rattle.image.proofs.taking.record_at.Reads as record-at-reads
-use Rattle.lso_show.proofs.tree.record.Reads as record-reads
 
 abbrev Inv-loop : tie.InvT-loop
 Inv-loop page₀ used₀ input image depth w₀ at₀ turns₀ page used w at turns = Unit {0}

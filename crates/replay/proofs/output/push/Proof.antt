@@ -4,10 +4,6 @@ use lib.ListN.{length-set}
 use borrow.Author.Needs.{needs}
 use Rattle.replay.proofs.output.push.Statement.{statement}
 use Rattle.replay.proofs.output.push.Tie as tie
-use Rattle.replay.proofs.output.push.Reads as reads
-use Rattle.replay.proofs.output.push.Lts as lts
-use Rattle.replay.proofs.output.digit.Reads as digit-reads
-use Rattle.replay.proofs.output.word.Reads as word-reads
 
 digit-requires : tie.Need-digit-requires
 digit-requires c κs = search needs

@@ -7,10 +7,6 @@ use lib.Seq.{length-take-le}
 use borrow.Author.Needs.{needs}
 use Rattle.replay.proofs.output.row.Statement.{statement}
 use Rattle.replay.proofs.output.row.Tie as tie
-use Rattle.replay.proofs.output.row.Reads as reads
-use Rattle.replay.proofs.output.row.Lts as lts
-use Rattle.replay.proofs.output.push.Reads as push-reads
-use Rattle.replay.proofs.output.word.Reads as word-reads
 
 abbrev Inv-loop : tie.InvT-loop
 Inv-loop bytes text₀ used₀ i₀ text used i = (used ≤ 8192) × (length text ≡ 8192)

@@ -1,5 +1,4 @@
 -- `ascii4` meets its contract: no byte is above what they are or-ed together.
-use Prim.Native.Nat.{_+_}
 use native.Mathlib.Omega.{arith}
 use borrow.Author.Needs.{needs}
 use borrow.Author.Tests.{ltb-true}
