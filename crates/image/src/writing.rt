@@ -110,7 +110,7 @@ fn lay_numbers(out: &mut [u8], at: usize, u: usize, l: u64, v: usize, m: u64, w:
 }
 
 // Puts out a row without a text, whatever is lent, as `emit` does: three numbers, each behind its width. Most rows are of this kind or the next, and handed on
-// as numbers they take a third of the instructions.
+// as numbers, not as a struct, they do not go through memory.
 pub fn emit_numbers(
     out: &mut [u8],
     count: usize,
