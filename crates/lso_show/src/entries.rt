@@ -1,10 +1,10 @@
 // A packet read by entry: an entry that can't be read is said to be damaged, and the others are shown all the same.
-use crate::page::Page;
-use crate::page::word;
 use crate::refusal::refusal;
 use crate::tree::header;
 use crate::tree::message;
 use crate::tree::tree;
+use figures::page::Page;
+use figures::page::word;
 use image::reading::Reading;
 use packet::entry::Found;
 use packet::entry::nth;

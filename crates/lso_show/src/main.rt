@@ -1,19 +1,15 @@
 // Shows an LSO file as lines that people can read: `lso_show FILE`. A first word `packet` says that the file is an AMF packet, `entries` that it is one and
 // is to be read by entry, and `value` that it is one AMF0 value.
-mod big;
-mod date;
-mod double;
 mod entries;
-mod page;
 mod refusal;
 mod tree;
 
+use figures::page::Page;
+use figures::page::decimal;
+use figures::page::end;
+use figures::page::word;
 use image::reading::Reading;
 use libc::STDOUT_FILENO;
-use page::Page;
-use page::decimal;
-use page::end;
-use page::word;
 use refusal::refusal;
 use wire::answer::ACCEPTED;
 use wire::text::part;

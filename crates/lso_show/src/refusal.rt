@@ -1,7 +1,7 @@
 // The answers of document 01's table, in words.
-use crate::page::Page;
-use crate::page::decimal;
-use crate::page::word;
+use figures::page::Page;
+use figures::page::decimal;
+use figures::page::word;
 
 fn reason(page: &mut Page, used: &mut usize, answer: u8) {
     match answer {

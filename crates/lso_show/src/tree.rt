@@ -1,12 +1,12 @@
 // A tree image as lines: a value a line, indented by the containers that it stands in.
-use crate::date::date;
-use crate::double::number;
-use crate::page::Page;
-use crate::page::decimal;
-use crate::page::placed;
-use crate::page::quoted;
-use crate::page::spaces;
-use crate::page::word;
+use figures::date::date;
+use figures::double::number;
+use figures::page::Page;
+use figures::page::decimal;
+use figures::page::placed;
+use figures::page::quoted;
+use figures::page::spaces;
+use figures::page::word;
 use image::record::Record;
 use image::taking::Taken;
 use image::taking::record_at;
