@@ -1,5 +1,5 @@
--- Document 01, "Checked examples": the starred ones on values, one table that the checker computes.
-use Prim.Native.Nat.{ℕ}
+-- Document 01, "Checked examples": the starred ones on values and those on depth, one table that the checker computes.
+use Prim.Native.Nat.{ℕ, zero, suc}
 use mathlib.Core.Path.{_≡_, refl}
 use mathlib.Core.List.{List, [], _∷_, map}
 use Rattle.wire.specs.Utf8.{ends}
@@ -10,7 +10,7 @@ use Rattle.amf0.specs.Marker.{markerOf}
 use Rattle.amf0.specs.Fields.{fieldsAt}
 use Rattle.amf0.specs.Reading.{items, pair, pairs, follow, value, readOf}
 
--- an input, and what the public call comes to on it in a room of 24 bytes: the bytes used and the image's bytes, or an answer that refuses
+-- an input, and what the public call comes to on it in a room of 160 bytes: the bytes used and the image's bytes, or an answer that refuses
 record Example : Type 0 where
   input : List ℕ
   result : Whole
@@ -22,6 +22,11 @@ s gives w = record { input = s; result = w }
 infixr 0 _and_
 abbrev _and_ : Example → List Example → List Example
 e and es = e ∷ es
+
+-- so many arrays of one value each, one inside the other, round a value
+abbrev arrays : ℕ → List ℕ → List ℕ
+arrays zero v = v
+arrays (suc n) v = 0x0A ∷ 0x00 ∷ 0x00 ∷ 0x00 ∷ 0x01 ∷ arrays n v
 
 abbrev table : List Example
 table =
@@ -38,8 +43,11 @@ table =
     and 0x11 ∷ 0x05 ∷ [] gives accepted 1 (0x0D ∷ [])
     and 0x04 ∷ [] gives refused 3
     and 0x02 ∷ 0x00 ∷ 0x01 ∷ 0xFF ∷ [] gives refused 3
+    and arrays 31 (0x05 ∷ []) gives accepted 156 (arrays 31 (0x05 ∷ []))
+    and arrays 32 (0x05 ∷ []) gives refused 5
+    and arrays 32 (0x04 ∷ []) gives refused 3
     and []
 
-pub examples : map (λ e. readOf (e .input) 24) table ≡ map (λ e. e .result) table
+pub examples : map (λ e. readOf (e .input) 160) table ≡ map (λ e. e .result) table
 unfolding settled ended bytes bytesOf value items pair pairs follow fieldsAt markerOf u8At u16At u32At u64At textAt strAt ends
 examples = refl

@@ -1,0 +1,102 @@
+-- Document 01's packet, and packets near it: read whole, cut, and read by entry and by span, two tables that the checker computes.
+use Prim.Native.Nat.{ℕ}
+use mathlib.Core.Path.{_≡_, refl}
+use mathlib.Core.List.{List, [], _∷_, map}
+use Rattle.wire.specs.Utf8.{ends}
+use Rattle.wire.specs.Field.{u8At, u16At, u32At, u64At, strAt, textAt, tagAt}
+use Rattle.image.specs.Record.{bytesOf}
+use Rattle.image.specs.Whole.{Whole, accepted, refused, bytes, ended, settled}
+use Rattle.amf0.specs.Marker.{markerOf}
+use Rattle.amf0.specs.Fields.{fieldsAt}
+use Rattle.amf0.specs.Reading.{items, pair, pairs, follow, value}
+use Rattle.packet.specs.declared.entry.Cutting.{Cutting}
+use Rattle.packet.specs.Head.{versionAt, headerAt, messageAt}
+use Rattle.packet.specs.Reading.{entriesAt, packetAt, incompleteOf, wholeOf}
+use Rattle.packet.specs.Entry.{entryAt, walk, cutOf, listOf, readSpan, readEntry}
+
+-- an input, and what each call comes to on it, in a room of 24 bytes or a list of one entry: the whole reading, the incomplete one, the cut, and entry 0
+record Example : Type 0 where
+  input : List ℕ
+  whole : Whole
+  incomplete : Whole
+  cut : Cutting
+  entry : Whole
+
+infix 1 _whole_part_cut_entry_
+abbrev _whole_part_cut_entry_ : List ℕ → Whole → Whole → Cutting → Whole → Example
+s whole w part i cut c entry e = record { input = s; whole = w; incomplete = i; cut = c; entry = e }
+
+infixr 0 _and_
+abbrev _and_ : {A : Type 0} → A → List A → List A
+e and es = e ∷ es
+
+-- a cut of so many bytes with so many entries, and one that is refused
+abbrev cutting : ℕ → ℕ → Cutting
+cutting u n = record { answer = 0; used = u; count = n }
+
+abbrev uncut : ℕ → Cutting
+uncut a = record { answer = a; used = 0; count = 0 }
+
+-- an input that every call refuses alike
+infix 1 _refused-by_
+abbrev _refused-by_ : List ℕ → ℕ → Example
+s refused-by a = s whole refused a part refused a cut uncut a entry refused a
+
+-- a message "a" whose value is declared to have one byte, and then these bytes
+abbrev message : List ℕ → List ℕ
+message v =
+    0x00 ∷ 0x00 ∷ 0x00 ∷ 0x00 ∷ 0x00 ∷ 0x01 ∷ 0x00 ∷ 0x01 ∷ 0x61 ∷ 0x00 ∷ 0x00 ∷ 0x00 ∷ 0x00 ∷ 0x00 ∷ 0x01 ∷ v
+
+abbrev null : List ℕ
+null = message (0x05 ∷ [])
+
+abbrev shown : List ℕ
+shown =
+    0x30 ∷ 0x00 ∷ 0x00 ∷ 0x00 ∷ 0x01 ∷ 0x32 ∷ 0x00 ∷ 0x00 ∷ 0x08 ∷ 0x00 ∷ 0x01 ∷ 0x00 ∷ 0x00 ∷ 0x0B ∷ 0x00 ∷ 0x00 ∷ 0x05 ∷ []
+
+abbrev table : List Example
+table =
+    null whole accepted 16 shown part accepted 16 shown cut cutting 16 1 entry accepted 1 (0x05 ∷ [])
+    and message (0x04 ∷ []) whole refused 3 part refused 3 cut cutting 16 1 entry refused 9
+    and message (0x05 ∷ 0x05 ∷ []) whole refused 3 part accepted 16 shown cut uncut 3 entry refused 3
+    and message [] refused-by 2
+    and 0x00 ∷ 0x00 ∷ 0x00 ∷ 0x00 ∷ 0x00 ∷ 0x00 ∷ []
+    whole accepted 6 (0x30 ∷ 0x00 ∷ 0x00 ∷ 0x00 ∷ 0x00 ∷ [])
+    part accepted 6 (0x30 ∷ 0x00 ∷ 0x00 ∷ 0x00 ∷ 0x00 ∷ [])
+    cut cutting 6 0
+    entry refused 8
+    and 0x00 ∷ 0x03 ∷ [] refused-by 7
+    and 0x00 ∷ 0x01 ∷ [] refused-by 3
+    and []
+
+abbrev found : List ℕ → Example
+found s = s whole wholeOf s 24 part incompleteOf s 24 cut listOf s 1 .cutting entry readEntry s 0 24
+
+pub examples : map (λ e. found (e .input)) table ≡ table
+unfolding wholeOf incompleteOf packetAt entriesAt versionAt headerAt messageAt cutOf listOf walk entryAt readEntry bytes ended settled bytesOf value items pair pairs
+    follow fieldsAt markerOf u8At u16At u32At u64At textAt strAt tagAt ends
+examples = refl
+
+-- ---- a span of document 01's packet: its last byte, one byte more, nothing behind it, and past its end
+
+record Span : Type 0 where
+  place : ℕ
+  size : ℕ
+  result : Whole
+
+infix 1 _for_gives_
+abbrev _for_gives_ : ℕ → ℕ → Whole → Span
+p for n gives w = record { place = p; size = n; result = w }
+
+abbrev spans-table : List Span
+spans-table =
+    15 for 1 gives accepted 1 (0x05 ∷ [])
+    and 15 for 2 gives refused 8
+    and 16 for 0 gives refused 9
+    and 16 for 1 gives refused 8
+    and 17 for 0 gives refused 8
+    and []
+
+pub spans : map (λ x. x .place for x .size gives readSpan null (x .place) (x .size) 24) spans-table ≡ spans-table
+unfolding readSpan bytes ended settled bytesOf value items pair pairs follow fieldsAt markerOf u8At u16At u32At u64At textAt strAt ends
+spans = refl
