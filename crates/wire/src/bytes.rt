@@ -1,10 +1,21 @@
 // Rows of bytes laid into a buffer. Where a row has no room it is not laid at all.
 ghost use mathlib.Core.Path.{_≡_};
+ghost use mathlib.Core.List.{[], _∷_};
 ghost use Prim.Native.Nat.{_+_, _≤_, _<_};
 ghost use lib.ListN.{length};
 ghost use lib.Seq.{sets};
 ghost use Rattle.wire.specs.Bytes.{laid, decimal};
 ghost use Rattle.wire.specs.Field.{bytesAt};
+
+fn store4(out: &mut [u8], to: usize, a: u8, b: u8, c: u8, d: u8)
+    requires { ⌜ to + 4 ≤ length (now out) ⌝ }
+    ensures { λ _. ⌜ now (out .exit) ≡ sets (now (out .entry)) to (a ∷ b ∷ c ∷ d ∷ []) ⌝ }
+{
+    out[to] = a;
+    out[to + 1] = b;
+    out[to + 2] = c;
+    out[to + 3] = d;
+}
 
 // Four bytes of the row, from its place i on, to where they stand when the row is laid at `at`.
 // The loads come before the stores: so they are one load and one store of the machine. The same with eight.
@@ -12,38 +23,19 @@ fn copy4(out: &mut [u8], at: usize, row: &[u8], i: usize)
     requires { ⌜ (i + 4 ≤ length (now row)) × (at + length (now row) ≤ length (now out)) ⌝ }
     ensures { λ _. ⌜ now (out .exit) ≡ sets (now (out .entry)) (at + i) (bytesAt 4 (now (row .entry)) i) ⌝ }
 {
-    let a = row[i];
-    let b = row[i + 1];
-    let c = row[i + 2];
-    let d = row[i + 3];
-    let to = at + i;
-    out[to] = a;
-    out[to + 1] = b;
-    out[to + 2] = c;
-    out[to + 3] = d;
+    store4(out, at + i, row[i], row[i + 1], row[i + 2], row[i + 3]);
 }
 
 fn copy8(out: &mut [u8], at: usize, row: &[u8], i: usize)
     requires { ⌜ (i + 8 ≤ length (now row)) × (at + length (now row) ≤ length (now out)) ⌝ }
     ensures { λ _. ⌜ now (out .exit) ≡ sets (now (out .entry)) (at + i) (bytesAt 8 (now (row .entry)) i) ⌝ }
 {
-    let a = row[i];
-    let b = row[i + 1];
-    let c = row[i + 2];
-    let d = row[i + 3];
     let e = row[i + 4];
     let f = row[i + 5];
     let g = row[i + 6];
     let h = row[i + 7];
-    let to = at + i;
-    out[to] = a;
-    out[to + 1] = b;
-    out[to + 2] = c;
-    out[to + 3] = d;
-    out[to + 4] = e;
-    out[to + 5] = f;
-    out[to + 6] = g;
-    out[to + 7] = h;
+    copy4(out, at, row, i);
+    store4(out, at + i + 4, e, f, g, h);
 }
 
 // Up to three bytes: the first, the middle one and the last, which may be the same.

@@ -1,7 +1,6 @@
--- `copy4` meets its contract: the stores are those of the bytes that were loaded.
+-- `copy4` meets its contract: the bytes that are stored are those of the row.
 use native.Mathlib.Numerals.{towards-suc}
 use native.Mathlib.Omega.{arith}
-use lib.ListN.{length-set}
 use denote.Ref.{now}
 use borrow.Author.Needs.{needs}
 use Rattle.wire.proofs.Copies.{bytes-loads}
@@ -10,8 +9,8 @@ use Rattle.wire.proofs.bytes.copy4.Tie as tie
 
 returns : tie.Need-returns
 returns c =
-    let a = c .before .before .before .before .args in
-    rw (bytes-loads (now (a .row)) 4 (a .i) (omega arith)) (simp towards-suc)
+    let a = c .before .before .before .before .before .before .before .before .before .before .args in
+    rw (c .before .before .store4 .ensures, bytes-loads (now (a .row)) 4 (a .i) (omega arith)) (simp towards-suc)
 
 pub copy4-spec : {M : Type 1} → statement M
 copy4-spec =
@@ -25,12 +24,6 @@ copy4-spec =
     (λ c. search needs)
     (λ c. search needs)
     (λ c. search needs)
-    (λ c. search needs)
-    (λ c. search needs)
-    (λ c. simp length-set (omega arith))
-    (λ c. search needs)
-    (λ c. simp length-set (omega arith))
-    (λ c. search needs)
-    (λ c. simp length-set (omega arith))
+    (λ c κs. search needs)
     (λ c. search needs)
     returns)
