@@ -1,9 +1,16 @@
 #!/usr/bin/env python3
-"""corpus.py OUT: makes the files that the library and the Rust are measured on, always the same. NAME.lso are files, NAME.amf values, NAME.amfp packets with
-exact lengths."""
+"""corpus.py OUT: makes the files that the library and the Rust are measured on, always the same, in
+the folder OUT. NAME.lso are files, NAME.amf values, NAME.amfp packets with exact lengths.
+
+Needs: python3 alone.
+Status: 0 made; 2 wrong words, or a folder that can't be written."""
 import os
 import struct
 import sys
+
+sys.dont_write_bytecode = True
+sys.path.insert(0, os.path.join(os.path.dirname(os.path.abspath(__file__)), "..", "tools"))
+import common
 
 
 def text(s, width=2):
@@ -65,7 +72,9 @@ def packet(messages):
 
 
 def main():
-    out = sys.argv[1]
+    words = common.Words(__doc__)
+    words.add_argument("out")
+    out = words.parse_args().out
     os.makedirs(out, exist_ok=True)
 
     def save(name, data):
@@ -105,4 +114,5 @@ def main():
         save("shelves%s.amfp" % name, packet([("/shelf/A-%05d" % i, shelf(i)) for i in range(n)]))
 
 
-main()
+if __name__ == "__main__":
+    common.start(main)

@@ -1,4 +1,5 @@
-# Sourced by the scripts that build programs over the C library, which is x86-64 code: what compiles and runs such programs on this machine.
+# Sourced behind tools/common.sh by the scripts that build programs over the C library, which is x86-64 code: what compiles and runs such programs on this
+# machine.
 #
 # On x86-64: this machine's compiler. Elsewhere (Arm): Debian's cross compiler gcc-x86-64-linux-gnu, programs linked statically, and the emulator of
 # qemu-user; for Rust also a standard library for x86-64, either rustup's (rustup target add x86_64-unknown-linux-gnu) or Debian's rustc-web with the
@@ -6,17 +7,19 @@
 
 debian() {
     if [ "$(id -u)" = 0 ] && command -v apt-get >/dev/null; then
-        apt-get install -y --no-install-recommends "$@" >&2
+        apt-get install -y --no-install-recommends "$@" >&2 || die 2 "apt-get can't install Debian's packages $*"
     else
-        echo "missing: Debian's packages $*" >&2
-        exit 2
+        die 2 "missing: Debian's packages $*"
     fi
 }
 
 # Sets CC, LDFLAGS and RUN, the words that a program is run by.
 c_for_x86() {
     CC=${CC:-cc} LDFLAGS='' RUN=''
-    [ "$(uname -m)" != x86_64 ] || return 0
+    if [ "$(uname -m)" = x86_64 ]; then
+        need "${CC%% *}"
+        return 0
+    fi
     CC=x86_64-linux-gnu-gcc LDFLAGS=-static RUN=qemu-x86_64
     command -v "$CC" >/dev/null || debian gcc-x86-64-linux-gnu libc6-dev-amd64-cross
     command -v "$RUN" >/dev/null || debian qemu-user

@@ -6,16 +6,10 @@ error; or `panic`. Its trees:
 
     n:BITS b:0 b:1 s:TEXT o{PAIRS} t:TEXT{PAIRS} e:LENGTH[VALUES]{PAIRS} a[VALUES] z u x r:INDEX d:BITS:ZONE d:BITS:- m:TEXT
     a file: {PAIRS}; a packet: [NAME:FLAG:TREE,..][TARGET:RESPONSE:TREE,..]; PAIRS: TEXT=TREE,..; all texts and numbers in hex"""
-import os
-import struct
 import subprocess
 import tempfile
 
-HERE = os.path.dirname(os.path.abspath(__file__))
-
-
-def frame(operation, a, b, first, second=b""):
-    return struct.pack(">BIII", operation, a, b, len(first)) + first + struct.pack(">I", len(second)) + second
+from common import Fault, run
 
 
 def replay(frames):
@@ -26,10 +20,11 @@ def replay(frames):
     with tempfile.TemporaryFile() as fed, tempfile.TemporaryFile() as told:
         fed.write(b"".join(frames))
         fed.seek(0)
-        subprocess.run([os.path.join(HERE, "run"), "replay"], stdin=fed, stdout=told, check=True)
+        run("replay", stdin=fed, stdout=told)
         told.seek(0)
         lines = told.read().decode().splitlines()
-    assert len(lines) == len(frames)
+    if len(lines) != len(frames):
+        raise Fault("the program replay printed %d lines for %d cases" % (len(lines), len(frames)), 1)
     return lines
 
 
@@ -38,8 +33,9 @@ def oracle(path, cases):
     if not cases:
         return []
     done = subprocess.run([path], input="\n".join(cases).encode() + b"\n", capture_output=True, check=True)
-    lines = [line.split() for line in done.stdout.decode().splitlines()]
-    assert len(lines) == len(cases)
+    lines = [line.split() for line in done.stdout.decode(errors="replace").splitlines()]
+    if len(lines) != len(cases) or not all(line[:1] in (["ok"], ["no"], ["panic"]) for line in lines):
+        raise Fault("%s: it does not answer as a program over the Rust does (tools/rust.py says how)" % path)
     return lines
 
 
