@@ -2,7 +2,6 @@
 
 A change is a Mutant: a file below src/, the place and the length of the text that goes, the text that comes, what sort of change it is, and the function
 that it changes. Contracts, `use` lines, declarations of types and comments are never touched."""
-import bisect
 import collections
 import glob
 import os
@@ -240,7 +239,11 @@ class Source:
         plain = lambda a, b: a == b or (b == a + 2 and self.ts[a + 1].text == ".")
         if len(compared) == 1 and not any(self.ts[n].text in ("&&", "||", "&", "|") for n in range(i + 1, k)):
             at = compared[0]
-            if plain(at + 1, k - 1):
+            if self.ts[at].text in ("==", "!=") and plain(i + 1, at - 1):
+                left = self.span(i + 1, at - 1)
+                yield i + 1, k - 1, f"{left} == {left}", "branch"
+                yield i + 1, k - 1, f"{left} != {left}", "branch"
+            elif plain(at + 1, k - 1):
                 left = self.span(i + 1, at - 1)
                 yield i + 1, k - 1, f"{left} >= 0", "branch"
                 yield i + 1, k - 1, f"{left} < 0", "branch"
@@ -292,4 +295,4 @@ def sources(folder, crate, sets):
 
 
 def line_of(text, place):
-    return bisect.bisect_right([m.start() for m in re.finditer("\n", text)], place - 1) + 1 if place else 1
+    return text.count("\n", 0, place) + 1
