@@ -76,7 +76,7 @@ fn is_value(kind: u8) -> bool
 }
 
 // Whether a value's record begins at a cursor.
-fn value_at(image: &[u8], c: Cursor) -> bool
+pub fn value_at(image: &[u8], c: Cursor) -> bool
     ensures { λ r. ⌜ r ≡ valueAt (now (image .entry)) (c .at) ⌝ }
 {
     match c.be_u8(image) {

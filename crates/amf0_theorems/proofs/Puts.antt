@@ -65,7 +65,7 @@ right-both s (r ∷ rs) qs g h = (g .0, g .1, right-both s rs qs (g .2) h)
 pub one : {s : List ℕ} {v : Tree Sort.value} {rs : List Record} → Spells s keyed Sort.value v rs → 1 ≤ length (laid rs)
 one (Spells.node {r} {rs} e c) = omega (arith, size-some r, laid-size r rs)
 
-some : {s : List ℕ} {l : Lead} {ps : Tree Sort.properties} {rs : List Record} → Spells s l Sort.properties ps rs → 1 ≤ length (laid rs)
+pub some : {s : List ℕ} {l : Lead} {ps : Tree Sort.properties} {rs : List Record} → Spells s l Sort.properties ps rs → 1 ≤ length (laid rs)
 some (Spells.none {r} e) = omega (arith, size-some r, laid-size r [])
 some (Spells.property {r} {rs} {qs} e c d) = omega (arith, size-some r, laid-size r (rs ++ qs))
 some (Spells.dense {rs} {qs} c d) = omega (arith, some d, laid-length rs qs)
@@ -133,13 +133,13 @@ module _ (s image : List ℕ) where
         rw (first (g .0), w .shape, w .named, w .puts) (Puts.more Puts.done)
 
   -- whether a value's record stands first
-  value-begins : {v : Tree Sort.value} {rs : List Record} → Spells s keyed Sort.value v rs → Right s rs → (z : List ℕ) (at : ℕ) → Here image at (laid rs) z
+  pub value-begins : {v : Tree Sort.value} {rs : List Record} → Spells s keyed Sort.value v rs → Right s rs → (z : List ℕ) (at : ℕ) → Here image at (laid rs) z
       → valueAt image at ≡ true
   value-begins (Spells.node {r} {i} {rs} e c) g z at h =
       let w : Itemed s r i = rw e at (says s r (g .0) (g .1)) in
       kind-at r rs z h ∙ w .kind
 
-  pairs-begin : {ps : Tree Sort.properties} {rs : List Record} → Spells s keyed Sort.properties ps rs → Right s rs → (z : List ℕ) (at : ℕ)
+  pub pairs-begin : {ps : Tree Sort.properties} {rs : List Record} → Spells s keyed Sort.properties ps rs → Right s rs → (z : List ℕ) (at : ℕ)
       → Here image at (laid rs) z → valueAt image at ≡ false
   pairs-begin (Spells.none {r} e) g z at h =
       let w : Closed s r = rw e at (says s r (g .0) (g .1)) in

@@ -1,0 +1,23 @@
+-- A value or a file, or another record, or none.
+use Rattle.index.specs.Find.{startsAt}
+use mathlib.Core.Path.{sym, _∙_}
+use borrow.Author.Needs.{needs}
+use Rattle.index.proofs.find.starts.Statement.{statement}
+use Rattle.index.proofs.find.starts.Tie as tie
+
+pub starts-spec : {M : Type 1} → statement M
+unfolding startsAt
+starts-spec =
+    tie.close
+    (tie.spec
+    (λ c κs. search needs)
+    (λ c. search needs)
+    (λ c. search needs)
+    (λ c. search needs)
+    (λ c. search needs)
+    (λ c. search needs)
+    (λ c. rw (sym (c .before .before .role-at .ensures) ∙ c .enum-told .given .1))
+    (λ c. rw (sym (c .before .before .role-at .ensures) ∙ c .enum-told2 .given .1))
+    (λ c. rw (sym (c .before .before .role-at .ensures) ∙ c .enum-told3 .given .1))
+    (λ c. rw (sym (c .before .before .role-at .ensures) ∙ c .enum-told4 .given .1))
+    (λ c. rw (sym (c .before .before .role-at .ensures) ∙ c .enum-told5 .given .1)))

@@ -1,0 +1,26 @@
+-- The four stores are a run.
+use native.Mathlib.Nat.{div-one}
+use native.Mathlib.Numerals.{towards-suc}
+use native.Mathlib.Omega.{arith}
+use lib.ListN.{length-set}
+use borrow.Author.Needs.{needs}
+use Rattle.index.proofs.mark.store4.Statement.{statement}
+use Rattle.index.proofs.mark.store4.Tie as tie
+
+pub store4-spec : {M : Type 1} → statement M
+store4-spec =
+    tie.close
+    (tie.spec
+    (λ c. search needs)
+    (λ c. search needs)
+    (λ c. search needs)
+    (λ c. search needs)
+    (λ c. simp length-set (omega arith))
+    (λ c. search needs)
+    (λ c. search needs)
+    (λ c. simp length-set (omega arith))
+    (λ c. search needs)
+    (λ c. search needs)
+    (λ c. simp length-set (omega arith))
+    (λ c. search needs)
+    (λ c. simp (div-one, towards-suc)))

@@ -1,0 +1,47 @@
+-- What the functions inside the crate promise each other: how far a sort has come, and how far the walk.
+use Prim.Native.Nat.{ℕ, _+_, _*_, _≤_, _<_}
+use mathlib.Core.Path.{_≡_}
+use mathlib.Core.List.{List}
+use mathlib.Core.Bool.{Bool, false}
+use lib.ListN.{length, getD}
+use Rattle.wire.specs.declared.cursor.Cursor.{Cursor}
+use Rattle.image.specs.declared.reading.Step.{Step}
+use Rattle.image.specs.declared.reading.Step.the-variants.{Next}
+use Rattle.image.specs.Out.{Out, end, stop, _>>=_}
+use Rattle.index.specs.declared.mark.Mark.{Mark}
+use Rattle.index.specs.declared.walk.Rest.{Rest}
+use Rattle.index.specs.declared.walk.Ahead.{Ahead}
+use Rattle.index.specs.declared.walk.Ahead.the-variants as Ahead
+use Rattle.index.specs.Mark.{nothing}
+use Rattle.index.specs.Sort.{Shuffled}
+
+module _ (before : Mark → Mark → Bool) where
+  -- those below number i that stand a gap apart are in order
+  abbrev pub Apart : ℕ → ℕ → List Mark → Type 0
+  Apart gap i xs = (k : ℕ) → k + gap < i → before (getD xs (k + gap) nothing) (getD xs k nothing) ≡ false
+
+  -- the same marks, those below number i in such an order
+  pub record Passed (gap i : ℕ) (xs ys : List Mark) : Type 0 where
+    pub same : Shuffled xs ys
+    pub apart : Apart gap i ys
+
+-- a step that goes on does so at a place from `low` to `high`, with at most thirteen bytes more for each byte of the image from `low` on
+pub record Onward (x : Step) (low high count : ℕ) : Type 0 where
+  pub bounds : (c : Cursor) (n : ℕ) → x ≡ Next c n → (low ≤ c .at) × (c .at ≤ high) × (n + 13 * low ≤ count + 13 * c .at)
+
+-- the walk goes on from the next value, or ends
+abbrev pub onOf : Ahead → ℕ → (ℕ → Out) → (Rest → ℕ → Out) → Out
+onOf (Ahead.Done c) at inner more = end (c .at)
+onOf (Ahead.Value c n due) at inner more = inner (c .at) >>= more due
+onOf Ahead.Stop at inner more = stop 6 at
+
+abbrev pub countOf : Ahead → ℕ → ℕ
+countOf (Ahead.Done c) count = count
+countOf (Ahead.Value c n due) count = n
+countOf Ahead.Stop count = count
+
+-- where the next value stands, and how many bytes are put out before it
+abbrev pub Ready : Ahead → ℕ → ℕ → ℕ → Type 0
+Ready (Ahead.Done c) low high count = (low ≤ c .at) × (c .at ≤ high)
+Ready (Ahead.Value c n due) low high count = (low ≤ c .at) × (c .at ≤ high) × (n + 13 * low ≤ count + 13 * c .at)
+Ready Ahead.Stop low high count = Unit {0}
