@@ -1,8 +1,9 @@
-"""Document 01's readings and writings, written down once more in Python: plain and slow. It shares no code with the library, but it has the same author,
-who read the document in the same way: it finds slips, and no misreading.
+"""Document 01's readings and writings, and document 02's key index (request 1), written down once more in Python: plain and slow. It shares no code with the
+library, but it has the same author, who read the documents in the same way: it finds slips, and no misreading.
 
 read_value(input, room) gives (answer, used, made, image), the image as it stands after the call; write_value(image, text, out) gives
-(answer, count, output), likewise."""
+(answer, count, output), likewise; make_index(image, text, room) gives (answer, count, index), likewise. find(image, text, index, path) and
+step(image, text, index, container, key) give a place of the image, or None."""
 
 LIMIT, LEVELS, IMAGE_LIMIT = 1048576, 32, 3145728
 
@@ -413,3 +414,141 @@ def inside(data, place, length):
 
 def part(data, place, length):
     return data[place : place + length] if inside(data, place, length) else b""
+
+
+# ---- document 02, request 1: the key index
+
+
+def walk_value(w, depth, found):
+    """Goes over a value by the writer's rules, and puts nothing out. The keys that it meets are added to `found`, each as its container's place, its bytes,
+    its place, its value's place and its value's depth."""
+    place, kind = w.at, w.kind()
+    if kind not in VALUES:
+        raise Refused(6)
+    if depth > LEVELS:
+        raise Refused(5)
+    body = w.body()
+    if not right(kind, body):
+        raise Refused(6)
+    if kind in (2, 15, 16):
+        w.named(body[:3], body[3:])
+    if kind == 10:
+        for _ in range(int.from_bytes(body, "big")):
+            walk_value(w, depth + 1, found)
+    if kind == 8:
+        while w.kind() in VALUES:
+            walk_value(w, depth + 1, found)
+    if kind in (3, 8, 16):
+        while w.kind() == 0x20:
+            walk_pair(w, place, depth + 1, found)
+        if w.kind() != 9:
+            raise Refused(6)
+        w.body()
+
+
+def walk_pair(w, container, depth, found):
+    place = w.at
+    body = w.body()
+    found.append((container, w.named(body[:3], body[3:]), place, w.at, depth))
+    walk_value(w, depth, found)
+
+
+def walk_file(w, found):
+    body = w.body()
+    w.named(body[4:7], body[7:])
+    while w.at < len(w.image):
+        if w.kind() != 0x20:
+            raise Refused(6)
+        walk_pair(w, 0, 1, found)
+
+
+def make_index(image, text, room):
+    """Answer, number of records, and the index as it stands after the call."""
+    w, found = Writing(image, text), []
+    try:
+        if len(text) > LIMIT or len(image) > IMAGE_LIMIT:
+            raise Refused(1)
+        if w.kind() == 0x33:
+            walk_file(w, found)
+        else:
+            walk_value(w, 1, found)
+        if w.at < len(image):
+            raise Refused(6)
+        if 13 * len(found) > room:
+            raise Refused(4)
+    except Refused as why:
+        return why.args[0], 0, bytes(room)
+    # By container, then by the key's bytes, then by place; Python compares rows of bytes as the request says.
+    rows = [big(depth, 1) + big(container, 4) + big(key, 4) + big(place, 4) for container, _, key, place, depth in sorted(found)]
+    return 0, len(found), b"".join(rows) + bytes(room - 13 * len(found))
+
+
+def right(kind, body):
+    """Whether a whole body is one that its kind can have: booleans and flags are 00 or 01, and an absent zone is 0."""
+    if kind == 1:
+        return body[0] <= 1
+    if kind == 11:
+        return body[8] == 1 or body[8:] == b"\0\0\0"
+    return kind != 0x31 or body[5] <= 1
+
+
+def record_at(image, place):
+    """The whole and right record that stands at a place: its kind, its body and where it ends; or None. Its texts are not looked at."""
+    if place >= len(image) or image[place] not in BODIES:
+        return None
+    kind, end = image[place], place + 1 + BODIES[image[place]]
+    body = image[place + 1 : end]
+    return (kind, body, end) if end <= len(image) and right(kind, body) else None
+
+
+def key_at(image, text, place):
+    """The bytes of the key whose record stands at a place, and where that record ends; or None."""
+    kind, body, end = record_at(image, place) or (None, b"", 0)
+    start, length = int.from_bytes(body[:3], "big"), int.from_bytes(body[3:], "big")
+    return (text[start : start + length], end) if kind == 0x20 and start + length <= len(text) else None
+
+
+def step(image, text, index, container, key):
+    """The place of the value that a container has under a key, as the index says, or None."""
+    kind, _, _ = record_at(image, container) or (None, b"", 0)
+    if kind not in (3, 8, 16) and not (kind == 0x33 and container == 0):
+        return None
+
+    def fields(number):
+        row = index[13 * number : 13 * number + 13]
+        return row[0], *(int.from_bytes(row[i : i + 4], "big") for i in (1, 5, 9))
+
+    def after(number):
+        depth, at, key_place, _ = fields(number)
+        named, _ = key_at(image, text, key_place) or (b"", 0)
+        return depth == 0 or at > container or (at == container and named > key)
+
+    low, high = 0, len(index) // 13
+    while low < high:
+        mid = (low + high) // 2
+        if after(mid):
+            high = mid
+        else:
+            low = mid + 1
+    if low == 0:
+        return None
+    _, at, key_place, place = fields(low - 1)
+    kind, _, _ = record_at(image, place) or (None, b"", 0)
+    return place if at == container and key_at(image, text, key_place) == (key, place) and kind in VALUES else None
+
+
+def find(image, text, index, path):
+    """The place of the value that a path leads to, or None. A path is a row of keys, each behind its length in two bytes."""
+    kind, _, _ = record_at(image, 0) or (None, b"", 0)
+    if kind != 0x33 and kind not in VALUES:
+        return None
+    place = 0
+    while path:
+        length = int.from_bytes(path[:2], "big")
+        if len(path) < 2 + length:
+            return None
+        place = step(image, text, index, place, path[2 : 2 + length])
+        if place is None:
+            return None
+        path = path[2 + length :]
+    return place
