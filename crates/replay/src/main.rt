@@ -16,11 +16,18 @@
 //                                                                  length of its first text, its second text and its value, with points between
 //     0A  parse_entry(first row, number b, an image of a bytes)    answer used made image
 //     0B  inside and part(first row, place a, length b)            0 or 1, the part
+//     0C  make_index(image, text, an index of a bytes)             answer count index
+//     0D  find(image, text, index, path), where the second row     1 place, or 0 0
+//         is the index of a bytes, the path of b, and the text
 mod output;
 
 ghost use Prim.Native.Nat.{_<_, _≤_};
 use image::reading::Reading;
 use image::writing::Writing;
+use index::find::Way;
+use index::find::find;
+use index::make::Indexing;
+use index::make::make_index;
 use libc::STDIN_FILENO;
 use output::number;
 use output::row;
@@ -32,7 +39,7 @@ use wire::cursor::Cursor;
 use wire::cursor::U32;
 use wire::text::part;
 
-// What stands in every byte of a lent image before a reading.
+// What stands in every byte of a lent image before a reading, and of a lent index.
 const UNREAD: u8 = 0xA5;
 // And in every byte of a lent output before a writing.
 const UNWRITTEN: u8 = 0x5A;
@@ -241,6 +248,47 @@ fn name_text(input: &[u8], place: usize, length: usize) {
     word(b"\n");
 }
 
+// What an indexing returned, and the index that it left.
+fn tell_indexing(r: Indexing, index: &[u8]) {
+    number(r.answer as usize);
+    word(b" ");
+    number(r.count);
+    word(b" ");
+    row(index);
+    word(b"\n");
+}
+
+fn index_keys(image: &[u8], text: &[u8], index: &mut [u8]) {
+    fill(index, UNREAD);
+    tell_indexing(make_index(image, text, index), index);
+}
+
+fn tell_way(way: Way) {
+    match way {
+        Way::At(place) => {
+            word(b"1 ");
+            number(place);
+        }
+        Way::Nothing => word(b"0 0"),
+    }
+    word(b"\n");
+}
+
+// The way that an index of a bytes finds for a path of b bytes. They stand in `rows` behind one another, and the text behind them.
+fn find_path(image: &[u8], rows: &[u8], a: usize, b: usize) {
+    if rows.len() < a {
+        word(b"over\n");
+        return;
+    }
+    let rest = part(rows, a, rows.len() - a);
+    if rest.len() < b {
+        word(b"over\n");
+        return;
+    }
+    let text = part(rest, b, rest.len() - b);
+    tell_way(find(image, text, part(rows, 0, a), part(rest, 0, b)));
+}
+
 // Makes a call on a buffer of the asked length.
 fn call(operation: u8, b: usize, first: &[u8], second: &[u8], buffer: &mut [u8]) {
     match operation {
@@ -253,6 +301,7 @@ fn call(operation: u8, b: usize, first: &[u8], second: &[u8], buffer: &mut [u8])
         0x07 => read_part_of_packet(first, buffer),
         0x08 => write_packet(first, second, b == 1, buffer),
         0x0A => read_entry(first, b, buffer),
+        0x0C => index_keys(first, second, buffer),
         _ => word(b"no such operation\n"),
     }
 }
@@ -261,6 +310,8 @@ fn call(operation: u8, b: usize, first: &[u8], second: &[u8], buffer: &mut [u8])
 fn answer(operation: u8, a: usize, b: usize, first: &[u8], second: &[u8], room: &mut [u8]) {
     if operation == 0x0B {
         name_text(first, a, b);
+    } else if operation == 0x0D {
+        find_path(first, second, a, b);
     } else if operation == 0x09 {
         if a <= 4096 {
             cut_packet(first, a);

@@ -9,6 +9,9 @@ use Rattle.replay.proofs.answer.Tie as tie
 name-text-requires : tie.Need-name-text-requires
 name-text-requires c κs = search needs
 
+find-path-requires : tie.Need-find-path-requires
+find-path-requires c κs = search needs
+
 cut-packet-requires : tie.Need-cut-packet-requires
 cut-packet-requires c κs = search needs
 
@@ -42,20 +45,24 @@ returns-2 c = search needs
 returns-3 : tie.Need-returns-3
 returns-3 c = search needs
 
-same-length : tie.Need-same-length
-same-length c = search needs
-
 returns-4 : tie.Need-returns-4
 returns-4 c = search needs
 
+same-length : tie.Need-same-length
+same-length c = search needs
+
 returns-5 : tie.Need-returns-5
 returns-5 c = search needs
+
+returns-6 : tie.Need-returns-6
+returns-6 c = search needs
 
 pub answer-spec : {M : Type 1} → statement M
 answer-spec =
     tie.close
     (tie.spec
     name-text-requires
+    find-path-requires
     cut-packet-requires
     slice-aggregate-word
     word-requires
@@ -67,6 +74,7 @@ answer-spec =
     returns
     returns-2
     returns-3
-    same-length
     returns-4
-    returns-5)
+    same-length
+    returns-5
+    returns-6)
