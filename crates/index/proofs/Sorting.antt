@@ -1,6 +1,6 @@
--- Sorting by swaps. A list is sorted here by putting each element into its place (`sortOf`), only to be compared: what that gives does not change by a swap, and a
--- list in order is what it gives. So a row of the same marks in order is one alone.
-use Prim.Native.Nat.{ℕ, zero, suc, _+_, _-_, _≤_, _<_}
+-- Sorting by exchanges, and by putting marks back. A row of the same marks in order is one alone: it is what putting each into its place gives (`sortOf`), which is here
+-- only to be compared with.
+use Prim.Native.Nat.{ℕ, zero, suc, _+_, _-_, _*_, _≤_, _<_}
 use mathlib.Core.Path.{_≡_, refl, sym, ap, _∙_}
 use mathlib.Core.List.{List, [], _∷_}
 use mathlib.Core.Bool.{Bool, true, false}
@@ -8,14 +8,14 @@ use mathlib.Core.Logic.{⊎-elim}
 use native.Mathlib.Nat.{suc-add}
 use native.Mathlib.Omega.{arith}
 use lib.ListN.{length, getD, set, length-set}
-use lib.Seq.{getD-set-same, getD-set-other, set-getD, set-set, set-comm}
+use lib.Seq.{sets, length-sets, getD-set-same, getD-set-other, set-getD, set-set}
 use Rattle.wire.specs.Choice.{pick}
 use Rattle.wire.proofs.Laws.{false-true, picked}
 use Rattle.index.specs.declared.mark.Mark.{Mark}
-use Rattle.index.proofs.Rows.{decide}
-use Rattle.index.specs.Mark.{nothing}
+use Rattle.index.proofs.Rows.{decide, length-rowsAt, rows-get, rows-set, drop-past}
+use Rattle.index.specs.Mark.{markAt, markBytes, Small, rows, nothing}
 use Rattle.index.specs.Sort.{Shuffled, Rising, Sorted}
-use Rattle.index.specs.Code.{Apart, Passed}
+use Rattle.index.specs.Code.{Mixed}
 
 -- a total order, in which two that come in neither order are the same
 pub record Total (before : Mark → Mark → Bool) : Type 0 where
@@ -41,36 +41,49 @@ pub shuffled-same : (xs : List Mark) → Shuffled xs xs
 shuffled-same [] = Shuffled.none
 shuffled-same (x ∷ xs) = Shuffled.keep (shuffled-same xs)
 
-shuffled-back : {xs ys : List Mark} → Shuffled xs ys → Shuffled ys xs
-shuffled-back Shuffled.none = Shuffled.none
-shuffled-back (Shuffled.keep s) = Shuffled.keep (shuffled-back s)
-shuffled-back Shuffled.swap = Shuffled.swap
-shuffled-back (Shuffled.then s t) = Shuffled.then (shuffled-back t) (shuffled-back s)
-
 pub shuffled-length : {xs ys : List Mark} → Shuffled xs ys → length xs ≡ length ys
 shuffled-length Shuffled.none = refl
 shuffled-length (Shuffled.keep s) = ap suc (shuffled-length s)
 shuffled-length Shuffled.swap = refl
 shuffled-length (Shuffled.then s t) = shuffled-length s ∙ shuffled-length t
 
+-- a mark put in another's place, and that one before them
+fetched : (l : List Mark) (j : ℕ) (x : Mark) → j < length l → Shuffled (x ∷ l) (getD l j nothing ∷ set l j x)
+fetched [] j x h = absurd (omega arith)
+fetched (y ∷ ys) zero x h = Shuffled.swap
+fetched (y ∷ ys) (suc j) x h = Shuffled.then Shuffled.swap (Shuffled.then (Shuffled.keep (fetched ys j x (omega arith))) Shuffled.swap)
+
+-- two marks exchanged
+pub exchanged : (l : List Mark) (i j : ℕ) → i < j → j < length l → Shuffled l (set (set l j (getD l i nothing)) i (getD l j nothing))
+exchanged [] i j h g = absurd (omega arith)
+exchanged (z ∷ zs) i zero h g = absurd (omega arith)
+exchanged (z ∷ zs) zero (suc j) h g = fetched zs j z (omega arith)
+exchanged (z ∷ zs) (suc i) (suc j) h g = Shuffled.keep (exchanged zs i j (omega arith) (omega arith))
+
+-- ---- bytes that are mixed
+
+pub mixed-same : (n : ℕ) (s : List ℕ) → Mixed n s s
+mixed-same n s = record { same = shuffled-same (rows n s); behind = refl }
+
+pub mixed-then : {n : ℕ} {s t u : List ℕ} → Mixed n s t → Mixed n t u → Mixed n s u
+mixed-then a b = record { same = Shuffled.then (a .same) (b .same); behind = b .behind ∙ a .behind }
+
+pub mixed-exchange : (n : ℕ) (s : List ℕ) (i j : ℕ) (a b : Mark) → i < j → j < n → 13 * n ≤ length s → a ≡ markAt s (13 * i) → b ≡ markAt s (13 * j) → Small a → Small b
+    → Mixed n s (sets (sets s (13 * j) (markBytes a)) (13 * i) (markBytes b))
+mixed-exchange n s i j a b h g l at-a at-b small-a small-b =
+    let t : List ℕ = sets s (13 * j) (markBytes a) in
+    let m : length t ≡ length s = length-sets s (13 * j) (markBytes a) in
+    let x : a ≡ getD (rows n s) i nothing = at-a ∙ sym (rows-get n s i (omega arith)) in
+    let y : b ≡ getD (rows n s) j nothing = at-b ∙ sym (rows-get n s j g) in
+    record {
+      same =
+          rw (rows-set n t i b (omega arith) (omega arith) small-b, rows-set n s j a g l small-a, x, y)
+          (exchanged (rows n s) i j h (rw (length-rowsAt n 0 s) g));
+      behind =
+          drop-past t (13 * i) (13 * n) (markBytes b) (omega arith) (omega arith) ∙ drop-past s (13 * j) (13 * n) (markBytes a) (omega arith) (omega arith);
+    }
+
 module _ (before : Mark → Mark → Bool) (total : Total before) where
-  shuffled-insert : (x : Mark) (l : List Mark) → Shuffled (x ∷ l) (insert before x l)
-  unfolding insert
-  shuffled-insert x [] = shuffled-same (x ∷ [])
-  shuffled-insert x (y ∷ ys) =
-      picked (Shuffled (x ∷ y ∷ ys)) (before y x) (y ∷ insert before x ys) (x ∷ y ∷ ys)
-      (λ _. Shuffled.then Shuffled.swap (Shuffled.keep (shuffled-insert x ys)))
-      (λ _. shuffled-same (x ∷ y ∷ ys))
-
-  shuffled-sort : (l : List Mark) → Shuffled l (sortOf before l)
-  unfolding sortOf
-  shuffled-sort [] = Shuffled.none
-  shuffled-sort (x ∷ l) = Shuffled.then (Shuffled.keep (shuffled-sort l)) (shuffled-insert x (sortOf before l))
-
-  -- what sorts alike has the same marks
-  shuffled : (xs ys : List Mark) → sortOf before xs ≡ sortOf before ys → Shuffled xs ys
-  shuffled xs ys e = Shuffled.then (rw e at (shuffled-sort xs)) (shuffled-back (shuffled-sort ys))
-
   -- from a ≤ b < c
   pub less : (a b c : Mark) → before b a ≡ false → before b c ≡ true → before a c ≡ true
   less a b c h g = cases (before a c) (λ e. e) (λ e. absurd (false-true (sym (total .trans c a b e h) ∙ g)))
@@ -92,25 +105,7 @@ module _ (before : Mark → Mark → Bool) (total : Total before) where
       (λ g. simp (h, g, less a y b h g))
       (λ g. simp (h, g) (two a b (y ∷ ys))))
 
-  exchange : (l : List Mark) (j : ℕ) (x : Mark) → j < length l
-      → insert before (getD l j nothing) (sortOf before (set l j x)) ≡ insert before x (sortOf before l)
-  unfolding sortOf
-  exchange [] j x h = absurd (omega arith)
-  exchange (z ∷ zs) zero x h = insert-comm z x (sortOf before zs)
-  exchange (z ∷ zs) (suc j) x h =
-      insert-comm (getD zs j nothing) z (sortOf before (set zs j x))
-      ∙ ap (insert before z) (exchange zs j x (omega arith))
-      ∙ insert-comm z x (sortOf before zs)
-
-  pub swap : (l : List Mark) (i j : ℕ) → i < j → j < length l
-      → sortOf before (set (set l j (getD l i nothing)) i (getD l j nothing)) ≡ sortOf before l
-  unfolding sortOf
-  swap [] i j h g = absurd (omega arith)
-  swap (z ∷ zs) i zero h g = absurd (omega arith)
-  swap (z ∷ zs) zero (suc j) h g = exchange zs j z (omega arith)
-  swap (z ∷ zs) (suc i) (suc j) h g = ap (insert before z) (swap zs i j (omega arith) (omega arith))
-
-  pub in-order : (l : List Mark) → Apart before 1 (length l) l → sortOf before l ≡ l
+  in-order : (l : List Mark) → Rising before (length l) l → sortOf before l ≡ l
   unfolding sortOf insert
   in-order [] h = refl
   in-order (x ∷ []) h = refl
@@ -131,30 +126,27 @@ module _ (before : Mark → Mark → Bool) (total : Total before) where
 
   -- ---- a mark on its way back
 
-  -- Number i is held, and j is where it would go. Those up to i that stand a gap apart are in order, but for what stands before j.
-  pub record Sinking (gap i j : ℕ) (held : Mark) (xs₀ xs : List Mark) : Type 0 where
-    pub same : sortOf before (set xs j held) ≡ sortOf before xs₀
-    pub size : length xs ≡ length xs₀
+  -- Number i is held, and j is where it would go. Those up to i are in order, but for what stands before j.
+  pub record Sinking (i j : ℕ) (held : Mark) (xs₀ xs : List Mark) : Type 0 where
+    pub same : Shuffled xs₀ (set xs j held)
     pub low : j ≤ i
-    pub apart : (k : ℕ) → k + gap ≤ i → (k + gap ≡ j → ⊥) → before (getD (set xs j held) (k + gap) nothing) (getD (set xs j held) k nothing) ≡ false
-    pub over : (k : ℕ) → k + gap ≡ j → j + gap ≤ i → before (getD (set xs j held) (j + gap) nothing) (getD (set xs j held) k nothing) ≡ false
+    pub rising : (k : ℕ) → k + 1 ≤ i → (k + 1 ≡ j → ⊥) → before (getD (set xs j held) (k + 1) nothing) (getD (set xs j held) k nothing) ≡ false
+    pub over : (k : ℕ) → k + 1 ≡ j → j + 1 ≤ i → before (getD (set xs j held) (j + 1) nothing) (getD (set xs j held) k nothing) ≡ false
 
-  module _ (gap i : ℕ) (positive : 0 < gap) where
-    pub sink-starts : (xs : List Mark) → Apart before gap i xs → Sinking gap i i (getD xs i nothing) xs xs
+  module _ (i : ℕ) where
+    pub sink-starts : (xs : List Mark) → Rising before i xs → Sinking i i (getD xs i nothing) xs xs
     sink-starts xs h = record {
-      same = ap (sortOf before) (set-getD xs i nothing);
-      size = refl;
+      same = rw (set-getD xs i nothing) (shuffled-same xs);
       low = omega arith;
-      apart = λ k g ne. rw (set-getD xs i nothing) (h k (omega arith));
+      rising = λ k g ne. rw (set-getD xs i nothing) (h k (omega arith));
       over = λ k e g. absurd (omega arith);
     }
 
-    module _ (j : ℕ) (held : Mark) (xs₀ xs : List Mark) (s : Sinking gap i j held xs₀ xs) (inside : j < length xs) where
+    module _ (j : ℕ) (held : Mark) (xs₀ xs : List Mark) (s : Sinking i j held xs₀ xs) (inside : j < length xs) where
       -- it goes further
-      pub sink-goes : gap ≤ j → before held (getD xs (j - gap) nothing) ≡ true
-          → Sinking gap i (j - gap) held xs₀ (set xs j (getD xs (j - gap) nothing))
+      pub sink-goes : 0 < j → before held (getD xs (j - 1) nothing) ≡ true → Sinking i (j - 1) held xs₀ (set xs j (getD xs (j - 1) nothing))
       sink-goes g t =
-          let p : ℕ = j - gap in
+          let p : ℕ = j - 1 in
           let x : Mark = getD xs p nothing in
           let ys : List Mark = set (set xs j x) p held in
           let np : p ≡ j → ⊥ = λ e. omega arith in
@@ -167,36 +159,32 @@ module _ (before : Mark → Mark → Bool) (total : Total before) where
           let was-p : getD (set xs j held) p nothing ≡ x = getD-set-other xs j p held nothing np in
           let lj : j < length (set xs j held) = rw (length-set xs j held) inside in
           record {
-            same = (rw (was-p, getD-set-same xs j held nothing inside, set-set xs j held x) at (swap (set xs j held) p j (omega arith) lj)) ∙ s .same;
-            size = length-set xs j x ∙ s .size;
+            same = Shuffled.then (s .same) (rw (was-p, getD-set-same xs j held nothing inside, set-set xs j held x) at (exchanged (set xs j held) p j (omega arith) lj));
             low = omega (arith, s .low);
-            apart = λ k l ne.
+            rising = λ k l ne.
                 ⊎-elim
-                (λ (e : k + gap ≡ j).
+                (λ (e : k + 1 ≡ j).
                 let f : k ≡ p = omega arith in
                 rw (e, at-j, f, at-p) (total .asym held x t))
-                (λ (e : k + gap ≡ j → ⊥).
+                (λ (e : k + 1 ≡ j → ⊥).
                 ⊎-elim
                 (λ (f : k ≡ j).
-                rw (f, at-j, at-m (j + gap) (λ q. omega arith) (λ q. omega arith), ← was-p) (s .over p (omega arith) (rw f at l)))
+                rw (f, at-j, at-m (j + 1) (λ q. omega arith) (λ q. omega arith), ← was-p) (s .over p (omega arith) (rw f at l)))
                 (λ (f : k ≡ j → ⊥).
-                rw (at-m (k + gap) ne e, at-m k (λ q. e (omega arith)) f) (s .apart k l e))
+                rw (at-m (k + 1) ne e, at-m k (λ q. e (omega arith)) f) (s .rising k l e))
                 (decide k j))
-                (decide (k + gap) j);
+                (decide (k + 1) j);
             over = λ k e l.
-                let f : p + gap ≡ j = omega arith in
-                rw (f, at-j, at-m k (λ q. omega arith) (λ q. omega arith), ← was-p, ← e) (s .apart k (omega (arith, s .low)) (λ q. omega arith));
+                let f : p + 1 ≡ j = omega arith in
+                rw (f, at-j, at-m k (λ q. omega arith) (λ q. omega arith), ← was-p, ← e) (s .rising k (omega (arith, s .low)) (λ q. omega arith));
           }
 
       -- it stays
-      pub sink-stays : (gap ≤ j → before held (getD xs (j - gap) nothing) ≡ false) → Passed before gap (i + 1) xs₀ (set xs j held)
-      sink-stays t = record {
-        same = shuffled xs₀ (set xs j held) (sym (s .same));
-        apart = λ k l.
-            ⊎-elim
-            (λ (e : k + gap ≡ j).
-            let f : k ≡ j - gap = omega arith in
-            rw (e, getD-set-same xs j held nothing inside, getD-set-other xs j k held nothing (λ q. omega arith), f) (t (omega arith)))
-            (λ (e : k + gap ≡ j → ⊥). s .apart k (omega arith) e)
-            (decide (k + gap) j);
-      }
+      pub sink-stays : (0 < j → before held (getD xs (j - 1) nothing) ≡ false) → Rising before (i + 1) (set xs j held)
+      sink-stays t k l =
+          ⊎-elim
+          (λ (e : k + 1 ≡ j).
+          let f : k ≡ j - 1 = omega arith in
+          rw (e, getD-set-same xs j held nothing inside, getD-set-other xs j k held nothing (λ q. omega arith), f) (t (omega arith)))
+          (λ (e : k + 1 ≡ j → ⊥). s .rising k (omega arith) e)
+          (decide (k + 1) j)

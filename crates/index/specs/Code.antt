@@ -1,9 +1,9 @@
 -- What the functions inside the crate promise each other: how far a sort has come, and how far the walk.
-use Prim.Native.Nat.{ℕ, _+_, _*_, _≤_, _<_}
+use Prim.Native.Nat.{ℕ, _+_, _*_, _≤_}
 use mathlib.Core.Path.{_≡_}
 use mathlib.Core.List.{List}
-use mathlib.Core.Bool.{Bool, false}
-use lib.ListN.{length, getD}
+use mathlib.Core.Bool.{Bool}
+use lib.ListN.{drop}
 use Rattle.wire.specs.declared.cursor.Cursor.{Cursor}
 use Rattle.image.specs.declared.reading.Step.{Step}
 use Rattle.image.specs.declared.reading.Step.the-variants.{Next}
@@ -12,18 +12,18 @@ use Rattle.index.specs.declared.mark.Mark.{Mark}
 use Rattle.index.specs.declared.walk.Rest.{Rest}
 use Rattle.index.specs.declared.walk.Ahead.{Ahead}
 use Rattle.index.specs.declared.walk.Ahead.the-variants as Ahead
-use Rattle.index.specs.Mark.{nothing}
-use Rattle.index.specs.Sort.{Shuffled}
+use Rattle.index.specs.Mark.{rows}
+use Rattle.index.specs.Sort.{Shuffled, Rising}
 
-module _ (before : Mark → Mark → Bool) where
-  -- those below number i that stand a gap apart are in order
-  abbrev pub Apart : ℕ → ℕ → List Mark → Type 0
-  Apart gap i xs = (k : ℕ) → k + gap < i → before (getD xs (k + gap) nothing) (getD xs k nothing) ≡ false
+-- the same marks in another order, and the bytes behind them as they were
+pub record Mixed (n : ℕ) (s t : List ℕ) : Type 0 where
+  pub same : Shuffled (rows n s) (rows n t)
+  pub behind : drop (13 * n) t ≡ drop (13 * n) s
 
-  -- the same marks, those below number i in such an order
-  pub record Passed (gap i : ℕ) (xs ys : List Mark) : Type 0 where
-    pub same : Shuffled xs ys
-    pub apart : Apart gap i ys
+-- and those below number i in order
+pub record Passed (before : Mark → Mark → Bool) (n i : ℕ) (s t : List ℕ) : Type 0 where
+  pub mixed : Mixed n s t
+  pub rising : Rising before i (rows n t)
 
 -- a step that goes on does so at a place from `low` to `high`, with at most thirteen bytes more for each byte of the image from `low` on
 pub record Onward (x : Step) (low high count : ℕ) : Type 0 where

@@ -15,10 +15,10 @@ pub data Shuffled : List Mark → List Mark → Type 0 where
   then : {xs ys zs : List Mark} → Shuffled xs ys → Shuffled ys zs → Shuffled xs zs
 
 module _ (before : Mark → Mark → Bool) where
-  -- none comes before the one that it stands behind
-  abbrev pub Rising : List Mark → Type 0
-  Rising xs = (k : ℕ) → k + 1 < length xs → before (getD xs (k + 1) nothing) (getD xs k nothing) ≡ false
+  -- of those below number i none comes before the one that it stands behind
+  abbrev pub Rising : ℕ → List Mark → Type 0
+  Rising i xs = (k : ℕ) → k + 1 < i → before (getD xs (k + 1) nothing) (getD xs k nothing) ≡ false
 
   pub record Sorted (keys row : List Mark) : Type 0 where
     pub same : Shuffled keys row
-    pub rising : Rising row
+    pub rising : Rising (length row) row

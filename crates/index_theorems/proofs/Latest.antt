@@ -65,7 +65,7 @@ back (Shuffled.then s t) e i = back s e (back t e i)
 
 module _ (image text : List ℕ) where
   -- none comes before any that it stands behind
-  far : (row : List Mark) → Rising (before image text) row → (i d : ℕ) → i + d < length row
+  far : (row : List Mark) → Rising (before image text) (length row) row → (i d : ℕ) → i + d < length row
       → before image text (getD row (i + d) nothing) (getD row i nothing) ≡ false
   far row r i zero h =
       rw (add-zero i) (cases (before image text (getD row i nothing) (getD row i nothing)) (λ e. total image text .asym _ _ e) (λ e. e))
