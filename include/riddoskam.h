@@ -4,8 +4,8 @@
 
    A row of bytes, or of numbers, is a pointer and a length. What a C caller owes is what C itself can't check:
    - a pointer to a row is not NULL, even where the length is 0, and as many bytes or numbers stand behind it as the length says;
-   - what a call writes (image, out, entry, numbers, fields, counts) overlaps no other argument, and nobody else touches it during the call;
-   - what it reads (input, image, text, packet) isn't written by anybody during the call.
+   - what a call writes (image, out, entry, numbers, fields, index, counts and places) overlaps no other argument, and nobody else touches it during the call;
+   - what it reads (input, image, text, packet, index, path, key) isn't written by anybody during the call.
    Nothing else is owed: whatever the bytes and the numbers are, each call ends, and its answer, its counts and every byte that it leaves are proved to be what
    is said here (crates/riddoskam/src/lib.rt). */
 #ifndef RIDDOSKAM_H
@@ -25,7 +25,7 @@ enum {
     RIDDOSKAM_OVER_LIMIT = 1,    /* input, text, image or output over its limit */
     RIDDOSKAM_NOT_WHOLE = 2,     /* a field isn't whole, or a count or a declared length exceeds the bytes left */
     RIDDOSKAM_NOT_RIGHT = 3,     /* a fixed byte is wrong, text isn't UTF-8, no value has this marker, or bytes are left over */
-    RIDDOSKAM_NO_ROOM = 4,       /* the image, the output or the row of entries doesn't fit */
+    RIDDOSKAM_NO_ROOM = 4,       /* the image, the output, the index or the row of entries doesn't fit */
     RIDDOSKAM_TOO_DEEP = 5,      /* a value at depth 33 */
     RIDDOSKAM_NO_TREE = 6,       /* the image isn't a tree of the asked kind, or names bad text */
     RIDDOSKAM_OTHER_VERSION = 7, /* packet version byte 3 */
@@ -33,8 +33,8 @@ enum {
     RIDDOSKAM_DAMAGED = 9        /* the entry's value is short, malformed or not used to the end */
 };
 
-/* Limits: bytes of an input, a text or an output; bytes of an image that is given to a writer; levels. An image of three times the input's length always has
-   room. */
+/* Limits: bytes of an input, a text or an output; bytes of an image that is written or indexed; levels. An image of three times the input's length always has
+   room, and an index of twice the image's. */
 enum { RIDDOSKAM_BYTES = 1048576, RIDDOSKAM_IMAGE = 3145728, RIDDOSKAM_LEVELS = 32 };
 
 /* Kinds of records, with what stands in fields[1] and the ones behind it. A text is its place in the input and its length. */
@@ -103,6 +103,36 @@ uint8_t riddoskam_lso_write_to_bytes(const uint8_t *image, size_t image_length, 
 /* The packet; each declared length is exact, or FFFFFFFF where `exact_lengths` is false. */
 uint8_t riddoskam_packet_write_to_bytes(const uint8_t *image, size_t image_length, const uint8_t *text, size_t text_length, bool exact_lengths, uint8_t *out,
                                         size_t out_length, size_t *count);
+
+/* ---- Indexes
+
+   An index has a record for each key of a value's or a file's image: the value's depth in one byte (1 in a file's body, 2 in an object at the top), then, in
+   four bytes each, big-endian, the image places of the container's record (a file's is at 0), of the key's and of the value's. They are in order by container,
+   then by the key's bytes (a prefix comes first), then by place. A value without a key, an array's, has no record; the keys inside it have theirs.
+   Index, image and text go together: whoever reads anew makes the index anew. In an index that is all zero nothing is found but the first record, so it is
+   safe to clear it before a reading. */
+enum { RIDDOSKAM_INDEX_RECORD = 13 };
+
+/* Makes the index of an image, whose texts stand in `text`. Accepted: `*count` records stand at the front of the index, and every byte behind them is zero.
+   Refused: `*count` is 0, and the whole index is zero. The image is a tree's bytes alone, as for a writing, and is refused as it is there, but no output is
+   over its limit. 4 comes last, where the records of all keys don't fit: twice the image's length is always room enough. Answers 0, 1, 4, 5, 6. */
+uint8_t riddoskam_index(const uint8_t *image, size_t image_length, const uint8_t *text, size_t text_length, uint8_t *index, size_t index_length,
+                        size_t *count);
+
+/* Each of these finds the place of a value's record: the result is true and the place stands in `*place`. Where there is no such way, the result is false and
+   `*place` is 0. The index may be handed over whole, with the zeros behind its records; so may the image. With an index that is this image's and this text's,
+   what is found is what the tree has there. With any other bytes for an index each call ends too and reads nothing outside; what it finds by a key is then a
+   whole value record right behind a key record whose text, in `text`, is that key, but perhaps in another container. */
+
+/* By a path of keys: from the image's first record on, at each key to the last pair of that key. A path goes into objects, ECMA arrays, typed objects and, as
+   the first record, a file; never into a value without a key. It is its keys in a row, each its length in two bytes, big-endian, and its bytes; the empty
+   row is no keys and finds the first record, where that is a value's or a file's. A row that isn't whole keys finds nothing. */
+bool riddoskam_find(const uint8_t *image, size_t image_length, const uint8_t *text, size_t text_length, const uint8_t *index, size_t index_length,
+                    const uint8_t *path, size_t path_length, size_t *place);
+
+/* By one key, its bytes alone, from the container whose record stands at the place `container`: 0, or one that was found. */
+bool riddoskam_step(const uint8_t *image, size_t image_length, const uint8_t *text, size_t text_length, const uint8_t *index, size_t index_length,
+                    size_t container, const uint8_t *key, size_t key_length, size_t *place);
 
 /* ---- Entries, records, texts */
 

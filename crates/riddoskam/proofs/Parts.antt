@@ -3,6 +3,7 @@ use mathlib.Core.Path.{_≡_, ap}
 use Rattle.image.specs.declared.reading.Reading.{Reading}
 use Rattle.image.specs.declared.writing.Writing.{Writing}
 use Rattle.packet.specs.declared.entry.Cutting.{Cutting}
+use Rattle.index.specs.declared.make.Indexing.{Indexing}
 
 pub answer-read : {r s : Reading} → r ≡ s → r .answer ≡ s .answer
 answer-read e = ap (λ (x : Reading). x .answer) e
@@ -27,3 +28,9 @@ used-cut e = ap (λ (x : Cutting). x .used) e
 
 pub count-cut : {k l : Cutting} → k ≡ l → k .count ≡ l .count
 count-cut e = ap (λ (x : Cutting). x .count) e
+
+pub answer-indexed : {x y : Indexing} → x ≡ y → x .answer ≡ y .answer
+answer-indexed e = ap (λ (x : Indexing). x .answer) e
+
+pub count-indexed : {x y : Indexing} → x ≡ y → x .count ≡ y .count
+count-indexed e = ap (λ (x : Indexing). x .count) e

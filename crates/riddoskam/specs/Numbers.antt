@@ -1,6 +1,7 @@
 -- What a call returns by value in Rattle, as the numbers that go out to C.
 use Prim.Native.Nat.{ℕ}
 use mathlib.Core.List.{List, [], _∷_}
+use mathlib.Core.Bool.{Bool, true, false}
 use lib.ListN.{replicate}
 use Rattle.image.specs.declared.record.Layout.{Layout}
 use Rattle.image.specs.declared.taking.Taken.{Taken}
@@ -9,6 +10,8 @@ use Rattle.image.specs.Record.{layoutOf}
 use Rattle.packet.specs.declared.entry.Found.{Found}
 use Rattle.packet.specs.declared.entry.Found.the-variants as Found
 use Rattle.packet.specs.Row.{entryNumbers}
+use Rattle.index.specs.declared.find.Way.{Way}
+use Rattle.index.specs.declared.find.Way.the-variants as Way
 
 -- ---- an entry
 
@@ -37,3 +40,13 @@ takenNumbers Taken.Bad = replicate 5 0
 abbrev pub takenNext : Taken → ℕ
 takenNext (Taken.Found r c) = c .at
 takenNext Taken.Bad = 0
+
+-- ---- a way down
+
+abbrev pub wayFound : Way → Bool
+wayFound (Way.At p) = true
+wayFound Way.Nothing = false
+
+abbrev pub wayPlace : Way → ℕ
+wayPlace (Way.At p) = p
+wayPlace Way.Nothing = 0

@@ -3,6 +3,7 @@
 use image::record::layout_of;
 use image::taking::Taken;
 use image::taking::record_at;
+use index::find::Way;
 use packet::entry::Found;
 use packet::entry::nth;
 use wire::answer::ACCEPTED;
@@ -25,7 +26,10 @@ ghost use Rattle.packet.specs.Reading.{wholeOf as wholePacket, incompleteOf as 
 ghost use Rattle.packet.specs.Writing.{writeOf as packetWritten};
 ghost use Rattle.packet.specs.Entry.{cutOf, listOf, readSpan, readEntry, foundIn};
 ghost use Rattle.packet.specs.Row.{rowOf};
-ghost use Rattle.riddoskam.specs.Numbers.{foundAnswer, foundNumbers, takenAnswer, takenNumbers, takenNext};
+ghost use Rattle.index.specs.Mark.{rows};
+ghost use Rattle.index.specs.Index.{indexOf, Holds};
+ghost use Rattle.index.specs.Find.{stepOf, findOf};
+ghost use Rattle.riddoskam.specs.Numbers.{foundAnswer, foundNumbers, takenAnswer, takenNumbers, takenNext, wayFound, wayPlace};
 
 // ---- texts
 
@@ -317,4 +321,71 @@ pub extern "C" fn riddoskam_record_at(
             ACCEPTED
         }
     }
+}
+
+// ---- indexes
+
+// Makes the index of an image, a mark for each of its `count` keys.
+#[no_mangle]
+pub extern "C" fn riddoskam_index(
+    image: &[u8],
+    text: &[u8],
+    index: &mut [u8],
+    count: &mut usize,
+) -> u8
+    ensures { λ r. ⌜ r ≡ indexOf (now (image .entry)) (now (text .entry)) (length (now (index .entry))) .answer ⌝ }
+    ensures { λ _. ⌜ now (count .exit) ≡ length (indexOf (now (image .entry)) (now (text .entry)) (length (now (index .entry))) .keys) ⌝ }
+    ensures { λ _. ⌜ Holds (now (image .entry)) (now (text .entry)) (indexOf (now (image .entry)) (now (text .entry)) (length (now (index .entry))) .keys) (now (index .exit)) ⌝ }
+{
+    let marks = index::make::make_index(image, text, index);
+    *count = marks.count;
+    marks.answer
+}
+
+// Whether there is a way, and the place that it leads to; 0 where there is none.
+fn told(way: Way, place: &mut usize) -> bool
+    ensures { λ r. ⌜ r ≡ wayFound way ⌝ }
+    ensures { λ _. ⌜ now (place .exit) ≡ wayPlace way ⌝ }
+{
+    match way {
+        Way::Nothing => {
+            *place = 0;
+            false
+        }
+        Way::At(at) => {
+            *place = at;
+            true
+        }
+    }
+}
+
+// The place of the value to which a path leads from the first record. The path is its keys in a row, each as a short text.
+#[no_mangle]
+pub extern "C" fn riddoskam_find(
+    image: &[u8],
+    text: &[u8],
+    index: &[u8],
+    path: &[u8],
+    place: &mut usize,
+) -> bool
+    ensures { λ r. ⌜ r ≡ wayFound (findOf (now (image .entry)) (now (text .entry)) (rows (length (now (index .entry)) / 13) (now (index .entry))) (now (path .entry))) ⌝ }
+    ensures { λ _. ⌜ now (place .exit) ≡ wayPlace (findOf (now (image .entry)) (now (text .entry)) (rows (length (now (index .entry)) / 13) (now (index .entry))) (now (path .entry))) ⌝ }
+{
+    told(index::find::find(image, text, index, path), place)
+}
+
+// The place of the value of the last pair of a key in the container whose record stands at a place.
+#[no_mangle]
+pub extern "C" fn riddoskam_step(
+    image: &[u8],
+    text: &[u8],
+    index: &[u8],
+    container: usize,
+    key: &[u8],
+    place: &mut usize,
+) -> bool
+    ensures { λ r. ⌜ r ≡ wayFound (stepOf (now (image .entry)) (now (text .entry)) (rows (length (now (index .entry)) / 13) (now (index .entry))) container (now (key .entry))) ⌝ }
+    ensures { λ _. ⌜ now (place .exit) ≡ wayPlace (stepOf (now (image .entry)) (now (text .entry)) (rows (length (now (index .entry)) / 13) (now (index .entry))) container (now (key .entry))) ⌝ }
+{
+    told(index::find::step(image, text, index, container, key), place)
 }
