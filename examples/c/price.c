@@ -1,15 +1,17 @@
 /* price FILE.sol SHELF: the price of a shelf, in cents, out of an LSO of prices, and then out of a packet of new prices, one message a shelf.
 
-   An image is walked record by record; a text is compared where it stands in the input, and copied nowhere. Nothing here takes memory. */
+   The price in the file, where there are many keys, is looked up by an index; the few records of a message are walked. A text is compared where it stands in
+   the input, and copied nowhere. Nothing here takes memory. */
 #include <stdio.h>
 #include <string.h>
 
 #include "riddoskam.h"
 
-enum { INPUT = 8192, ENTRIES = 64 };
+enum { INPUT = 8192, ENTRIES = 64, PATH = 256 };
 
 static uint8_t input[INPUT];
 static uint8_t image[3 * INPUT];
+static uint8_t keys[2 * sizeof image];
 
 /* An image that was made, and the input that its texts stand in. */
 struct tree {
@@ -58,29 +60,47 @@ static int find(struct tree t, size_t at, const char *key, size_t *value) {
     return 0;
 }
 
+/* The number at a place. */
+static int number(struct tree t, size_t at, double *price) {
+    uint64_t f[5];
+    size_t next;
+    if (riddoskam_record_at(t.image, t.made, at, f, &next) != RIDDOSKAM_ACCEPTED || f[0] != RIDDOSKAM_NUMBER) return 0;
+    memcpy(price, &f[1], sizeof *price);
+    return 1;
+}
+
 /* The number under "cents" of the object at a place. */
 static int cents(struct tree t, size_t at, double *price) {
     uint64_t f[5];
     size_t next, value;
     if (riddoskam_record_at(t.image, t.made, at, f, &next) != RIDDOSKAM_ACCEPTED || f[0] != RIDDOSKAM_OBJECT) return 0;
-    if (!find(t, next, "cents", &value)) return 0;
-    if (riddoskam_record_at(t.image, t.made, value, f, &next) != RIDDOSKAM_ACCEPTED || f[0] != RIDDOSKAM_NUMBER) return 0;
-    memcpy(price, &f[1], sizeof *price);
-    return 1;
+    return find(t, next, "cents", &value) && number(t, value, price);
 }
 
+/* Puts a key behind n bytes of a path: its length in two bytes, and its bytes. The path's new length, or 0 where there is no room. */
+static size_t add_key(uint8_t path[PATH], size_t n, const char *key) {
+    size_t k = strlen(key);
+    if (n + 2 + k > PATH) return 0;
+    path[n] = k >> 8;
+    path[n + 1] = k & 255;
+    memcpy(path + n + 2, key, k);
+    return n + 2 + k;
+}
+
+/* A file is read and its index made once; any number of prices can then be looked up, each by halving the index a few times. */
 static void from_file(size_t length, const char *shelf) {
-    uint64_t f[5];
-    size_t used, made, pairs, value;
+    uint8_t path[PATH];
+    size_t used, made, count, value, n;
     double price;
     uint8_t answer = riddoskam_lso_parse(input, length, image, sizeof image, &used, &made);
+    if (answer == RIDDOSKAM_ACCEPTED) answer = riddoskam_index(image, made, input, length, keys, sizeof keys, &count);
     struct tree t = {image, made, input, length};
     if (answer != RIDDOSKAM_ACCEPTED) {
         printf("file: answer %u\n", answer);
         return;
     }
-    /* The file's record stands first; its pairs follow. */
-    if (riddoskam_record_at(t.image, t.made, 0, f, &pairs) == RIDDOSKAM_ACCEPTED && find(t, pairs, shelf, &value) && cents(t, value, &price))
+    if ((n = add_key(path, 0, shelf)) && (n = add_key(path, n, "cents")) &&
+        riddoskam_find(image, made, input, length, keys, sizeof keys, path, n, &value) && number(t, value, &price))
         printf("file: shelf %s costs %.0f\n", shelf, price);
     else
         printf("file: no price for shelf %s\n", shelf);

@@ -4,7 +4,7 @@
 //! `&[u8]` and `&mut [u8]` say. All else is proved of the library: each call ends on every input, and its contract gives every byte that it leaves.
 //!
 //! A reading fills an image, a row of records ([`record_at`]); a text in it is a place and a length in the input ([`part`]). Past what is made the image is
-//! zero, and all of it where a reading is refused. A refused writing changes nothing.
+//! zero, and all of it where a reading is refused. A refused writing changes nothing. An [`index`] beside an image finds a value by its keys ([`find`]).
 #![no_std]
 
 mod sys {
@@ -33,6 +33,30 @@ mod sys {
         pub fn riddoskam_packet_cut(packet: *const u8, n: usize, numbers: *mut usize, room: usize, used: &mut usize, count: &mut usize) -> u8;
         pub fn riddoskam_packet_nth(packet: *const u8, n: usize, number: usize, entry: &mut [usize; 8]) -> u8;
         pub fn riddoskam_record_at(image: *const u8, n: usize, at: usize, fields: &mut [u64; 5], next: &mut usize) -> u8;
+        pub fn riddoskam_index(image: *const u8, n: usize, text: *const u8, m: usize, index: *mut u8, room: usize, count: &mut usize) -> u8;
+        pub fn riddoskam_find(
+            image: *const u8,
+            n: usize,
+            text: *const u8,
+            m: usize,
+            index: *const u8,
+            k: usize,
+            path: *const u8,
+            l: usize,
+            place: &mut usize,
+        ) -> bool;
+        pub fn riddoskam_step(
+            image: *const u8,
+            n: usize,
+            text: *const u8,
+            m: usize,
+            index: *const u8,
+            k: usize,
+            container: usize,
+            key: *const u8,
+            l: usize,
+            place: &mut usize,
+        ) -> bool;
     }
 }
 
@@ -317,4 +341,59 @@ pub fn record_at(image: &[u8], at: usize) -> Result<(Record, usize), Refusal> {
         _ => return Err(Refusal::NoTree),
     };
     Ok((record, next))
+}
+
+/// Makes the index of a value's or a file's image, whose texts stand in `text`: the number of its keys, for each of which it has 13 bytes. Past them it is
+/// zero, and all of it where it is refused. Twice the image's length is always room enough. Index, image and text go together: whoever reads anew makes it
+/// anew.
+pub fn index(image: &[u8], text: &[u8], index: &mut [u8]) -> Result<usize, Refusal> {
+    write(sys::riddoskam_index, image, text, index)
+}
+
+/// The place of the value that a path of keys leads to, from the first record on, at each key to the last pair of that key; no keys lead to the first record.
+/// The index may be handed over whole, with its zeros. By one that isn't this image's, what is found is a value behind a record of the last key, but perhaps
+/// in another container.
+pub fn find(image: &[u8], text: &[u8], index: &[u8], path: &[&str]) -> Option<usize> {
+    let mut place = 0;
+    let none: [u8; 0] = [];
+    // SAFETY: as in `read`.
+    let starts = unsafe {
+        sys::riddoskam_find(
+            image.as_ptr(),
+            image.len(),
+            text.as_ptr(),
+            text.len(),
+            index.as_ptr(),
+            index.len(),
+            none.as_ptr(),
+            none.len(),
+            &mut place,
+        )
+    };
+    if !starts {
+        return None;
+    }
+    // Key by key, so that the row of the path needs no buffer.
+    path.iter().try_fold(place, |container, key| step(image, text, index, container, key.as_bytes()))
+}
+
+/// One key of such a path, from the container whose record stands at a place.
+pub fn step(image: &[u8], text: &[u8], index: &[u8], container: usize, key: &[u8]) -> Option<usize> {
+    let mut place = 0;
+    // SAFETY: as in `read`.
+    let found = unsafe {
+        sys::riddoskam_step(
+            image.as_ptr(),
+            image.len(),
+            text.as_ptr(),
+            text.len(),
+            index.as_ptr(),
+            index.len(),
+            container,
+            key.as_ptr(),
+            key.len(),
+            &mut place,
+        )
+    };
+    found.then_some(place)
 }

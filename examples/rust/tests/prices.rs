@@ -18,7 +18,7 @@ fn behind(image: &[u8], at: usize) -> usize {
 }
 
 /// The value under a key, among the pairs from a place on.
-fn find(image: &[u8], input: &[u8], mut at: usize, key: &[u8]) -> Option<usize> {
+fn walk_to(image: &[u8], input: &[u8], mut at: usize, key: &[u8]) -> Option<usize> {
     while let Ok((Record::Key(text), value)) = record_at(image, at) {
         if part(input, text) == key {
             return Some(value);
@@ -31,7 +31,7 @@ fn find(image: &[u8], input: &[u8], mut at: usize, key: &[u8]) -> Option<usize> 
 /// The number under "cents" of the object at a place.
 fn cents(image: &[u8], input: &[u8], at: usize) -> Option<f64> {
     let (Record::Object, pairs) = record_at(image, at).ok()? else { return None };
-    let value = find(image, input, pairs, b"cents")?;
+    let value = walk_to(image, input, pairs, b"cents")?;
     let (Record::Number(price), _) = record_at(image, value).ok()? else { return None };
     Some(price)
 }
@@ -64,9 +64,73 @@ fn a_price_out_of_a_file() {
     let (file, pairs) = record_at(&image, 0).unwrap();
     let Record::Lso { stored, name } = file else { panic!("{file:?}") };
     assert_eq!((stored, part(FILE, name)), (621, &b"prices"[..]));
-    let shelf = find(&image[..436], FILE, pairs, b"A-02").unwrap();
+    let shelf = walk_to(&image[..436], FILE, pairs, b"A-02").unwrap();
     assert_eq!(cents(&image, FILE, shelf), Some(299.0));
-    assert_eq!(find(&image[..436], FILE, pairs, b"Z-99"), None);
+    assert_eq!(walk_to(&image[..436], FILE, pairs, b"Z-99"), None);
+}
+
+#[test]
+fn a_price_by_the_index() {
+    let mut image = [0; 3 * 627];
+    let made = lso_parse(FILE, &mut image).unwrap().made;
+    let tree = &image[..made];
+    let mut keys = [0xA5; 2 * 436];
+    let count = index(tree, FILE, &mut keys).unwrap();
+    assert!(13 * count <= keys.len() && keys[13 * count..].iter().all(|&b| b == 0));
+    // As the walk finds it; with the zeros behind the index and the image, or without them.
+    let (_, pairs) = record_at(tree, 0).unwrap();
+    let object = walk_to(tree, FILE, pairs, b"A-01").unwrap();
+    assert_eq!(find(tree, FILE, &keys, &["A-01"]), Some(object));
+    assert_eq!(step(&image, FILE, &keys[..13 * count], 0, b"A-01"), Some(object));
+    let price = find(&image, FILE, &keys, &["A-01", "cents"]).unwrap();
+    assert_eq!(record_at(tree, price).unwrap().0, Record::Number(129.0));
+    assert_eq!(step(tree, FILE, &keys, object, b"cents"), Some(price));
+    // No keys: the file's record. No such key, and no way on from a number.
+    assert_eq!(find(tree, FILE, &keys, &[]), Some(0));
+    assert_eq!(find(tree, FILE, &keys, &["Z-99"]), None);
+    assert_eq!(find(tree, FILE, &keys, &["A-01", "cents", "cents"]), None);
+    assert_eq!(step(tree, FILE, &keys, price, b"cents"), None);
+    assert_eq!(step(tree, FILE, &keys, usize::MAX, b"cents"), None);
+    // Its own length is room enough, a byte less isn't; an index that is all zero finds the first record alone.
+    assert_eq!(index(tree, FILE, &mut keys[..13 * count]), Ok(count));
+    let short = &mut keys[..13 * count - 1];
+    assert_eq!(index(tree, FILE, short), Err(Refusal::NoRoom));
+    assert!(short.iter().all(|&b| b == 0));
+    assert_eq!(index(&image, FILE, &mut keys), Err(Refusal::NoTree));
+    assert_eq!(keys, [0; 2 * 436]);
+    assert_eq!((find(tree, FILE, &keys, &[]), find(tree, FILE, &keys, &["A-01"])), (Some(0), None));
+}
+
+#[test]
+fn the_last_pair_of_a_key() {
+    // {a: {x: null}, b: [{a: null}], a: true, "": undefined}
+    let input = b"\x03\0\x01a\x03\0\x01x\x05\0\0\x09\0\x01b\x0A\0\0\0\x01\x03\0\x01a\x05\0\0\x09\0\x01a\x01\x01\0\0\x06\0\0\x09";
+    let mut image = [0; 200];
+    let made = parse_single_element(input, &mut image).unwrap().made;
+    let tree = &image[..made];
+    let mut keys = [0; 400];
+    assert_eq!(index(tree, input, &mut keys), Ok(6));
+    // The first record of the index: depth 2, in the object at 0, the empty key.
+    assert_eq!(keys[..5], [2, 0, 0, 0, 0]);
+    let at = |path: &[&str]| find(tree, input, &keys, path).map(|p| record_at(tree, p).unwrap().0);
+    assert_eq!(at(&["a"]), Some(Record::Boolean(true)));
+    assert_eq!(at(&["a", "x"]), None);
+    assert_eq!(at(&[""]), Some(Record::Undefined));
+    assert_eq!(at(&["b"]), Some(Record::StrictArray(1)));
+    assert_eq!(at(&["b", "a"]), None);
+    assert_eq!(at(&[]), Some(Record::Object));
+    // An element of an array is no step of a path, but a container as any other.
+    let array = find(tree, input, &keys, &["b"]).unwrap();
+    let inner = step(tree, input, &keys, record_at(tree, array).unwrap().1, b"a").unwrap();
+    assert_eq!(record_at(tree, inner).unwrap().0, Record::Null);
+    // What is no value's and no file's image.
+    let p = packet();
+    let made = packet_parse(&p, &mut image).unwrap().made;
+    assert_eq!(index(&image[..made], &p, &mut keys), Err(Refusal::NoTree));
+    assert_eq!(index(&[], &[], &mut keys), Err(Refusal::NoTree));
+    assert_eq!((find(&image[..made], &p, &keys, &[]), find(&[], &[], &keys, &[])), (None, None));
+    assert_eq!(index(&[5], &vec![0; 1_048_577], &mut keys), Err(Refusal::OverLimit));
+    assert_eq!(index(&[5], &[], &mut []), Ok(0));
 }
 
 #[test]
