@@ -10,8 +10,12 @@
      same length, in no more bytes than were read where the image was read;
    - an entry's places lie inside the packet, and its value, read alone, gives what reading the entry gives;
    - a cut that is refused leaves zeros; an accepted one has the entries that they are by number, and zeros behind them, and the span of each reads as the
-     entry does by its number, to the last byte of the image; any other span reads as its bytes alone.
-   A call that doesn't end is ended by the clock after a minute. The same SEED gives the same cases. SHAM, a number from 1 to 10, plants a fault between the
+     entry does by its number, to the last byte of the image; any other span reads as its bytes alone;
+   - an index that is refused is zero; an accepted one has a record for each key of the image, in order, and zeros behind them; it is refused where a writing
+     of the image is, and for want of room;
+   - a lookup that finds nothing leaves 0; in its image's index it finds what looking through the records one by one finds; in any other, a value's record
+     behind a record of the key, or the first record.
+   A call that doesn't end is ended by the clock after a minute. The same SEED gives the same cases. SHAM, a number from 1 to 13, plants a fault between the
    library and the checks, so that one sees them fail. */
 #include <signal.h>
 #include <stdio.h>
@@ -43,8 +47,8 @@ static size_t below(size_t n) { return n ? any() % n : 0; }
 static unsigned long long now_case;
 static const char *now_call = "none";
 static int sham, guard_tried;
-static unsigned long long calls[16], accepted[16], answers[10];
-static const char *names[16];
+static unsigned long long calls[18], accepted[18], answers[10];
+static const char *names[18];
 
 static void fail(const char *what) {
     printf("FAILED in case %llu, %s: %s\n", now_case, now_call, what);
@@ -69,7 +73,7 @@ struct area {
     size_t room;
 };
 
-static struct area lent[3]; /* input or image that is read, text, and what is written */
+static struct area lent[4]; /* input or image that is read, text, what is written or an index, and a path */
 
 static struct area area(size_t most) {
     struct area a;
@@ -106,7 +110,10 @@ static int all(const uint8_t *p, size_t n, uint8_t b) {
 
 /* ---- calls */
 
-enum { VALUE, FILE_WHOLE, FILE_START, PACKET_WHOLE, PACKET_FRONT, ENTRY, SPAN, WRITE_VALUE, WRITE_FILE, WRITE_PACKET, WRITE_OPEN, NTH, CUT, RECORD, TEXTS };
+enum {
+    VALUE, FILE_WHOLE, FILE_START, PACKET_WHOLE, PACKET_FRONT, ENTRY, SPAN, WRITE_VALUE, WRITE_FILE, WRITE_PACKET, WRITE_OPEN, NTH, CUT, RECORD, INDEX, FIND,
+    STEP, TEXTS
+};
 
 /* What is asked of a packet: an entry by its number, or a span. */
 struct asked {
@@ -239,6 +246,127 @@ static struct result writing(int call, const uint8_t *image, size_t n, const uin
     return first;
 }
 
+/* ---- indexes */
+
+struct mark {
+    size_t depth, container, key, value;
+};
+
+static size_t number4(const uint8_t *p) { return (size_t)p[0] << 24 | p[1] << 16 | p[2] << 8 | p[3]; }
+
+static struct mark mark(const uint8_t *index, size_t k) {
+    const uint8_t *p = index + RIDDOSKAM_INDEX_RECORD * k;
+    return (struct mark){p[0], number4(p + 1), number4(p + 5), number4(p + 9)};
+}
+
+/* An image and its text, where a call reads them. */
+struct lent {
+    const uint8_t *image;
+    size_t n;
+    const uint8_t *text;
+    size_t m;
+};
+
+/* The order of a key and the text of the key record at a place; `*next` is the place behind that record. */
+static int order(struct lent t, const uint8_t *key, size_t n, size_t at, size_t *next) {
+    uint64_t f[5];
+    MUST(riddoskam_record_at(t.image, t.n, at, f, next) == 0 && f[0] == RIDDOSKAM_KEY, "no key where one is named");
+    MUST(riddoskam_inside(t.text, t.m, f[1], f[2]), "a key leads out of the text");
+    int c = memcmp(key, t.text + f[1], n < f[2] ? n : f[2]);
+    return c ? c : n < f[2] ? -1 : n > f[2];
+}
+
+static int is_value(struct lent t, size_t at) {
+    uint64_t f[5];
+    size_t next;
+    return riddoskam_record_at(t.image, t.n, at, f, &next) == 0 && f[0] <= RIDDOSKAM_TYPED_OBJECT && f[0] != RIDDOSKAM_OBJECT_END;
+}
+
+/* The index of an image, in both places: the count, and the index in `index`. */
+static struct result indexing(struct lent t, size_t room, uint8_t *index) {
+    struct result first = {0, 0, 0};
+    now_call = names[INDEX];
+    for (int side = 0; side < 2; side++) {
+        struct result r = {0, 0, 77};
+        uint8_t *im = lend(0, side, t.n), *tx = lend(1, side, t.m), *ix = lend(2, side, room);
+        memcpy(im, t.image, t.n);
+        memcpy(tx, t.text, t.m);
+        memset(ix, 0xA5, room);
+        r.answer = riddoskam_index(im, t.n, tx, t.m, ix, room, &r.made);
+        if (sham == 11 && r.made > 1) memcpy(ix, ix + 13, 13);
+        if (sham == 12 && r.answer != 0 && room > 0) ix[room - 1] = 1;
+        left_alone(0, side, t.n);
+        left_alone(1, side, t.m);
+        left_alone(2, side, room);
+        MUST(memcmp(im, t.image, t.n) == 0 && memcmp(tx, t.text, t.m) == 0, "the image or the text changed");
+        MUST(r.answer <= 9 && strchr("01456", '0' + r.answer), "it has no such answer");
+        MUST((t.n > RIDDOSKAM_IMAGE || t.m > RIDDOSKAM_BYTES) == (r.answer == 1), "1 is for images and texts over the limit");
+        MUST(r.answer == 0 ? 13 * r.made <= room : r.made == 0, "the count leads out of the index, or there is one on a refusal");
+        MUST(r.answer != 4 || room < 2 * t.n, "4 with twice the image");
+        MUST(all(ix + 13 * r.made, room - 13 * r.made, 0), "the index isn't zero behind its records");
+        if (side == 0) {
+            first = r;
+            memcpy(index, ix, room);
+        } else {
+            MUST(r.answer == first.answer && r.made == first.made, "another result in another place");
+            MUST(memcmp(ix, index, room) == 0, "another index in another place");
+        }
+    }
+    for (size_t k = 0; k < first.made; k++) {
+        struct mark a = mark(index, k), b = mark(index, k + 1 < first.made ? k + 1 : k);
+        uint64_t f[5];
+        size_t next;
+        MUST(riddoskam_record_at(t.image, t.n, a.key, f, &next) == 0 && f[0] == RIDDOSKAM_KEY, "a record of no key");
+        MUST(next == a.value && is_value(t, next) && a.container < a.key && a.depth - 1 < RIDDOSKAM_LEVELS, "a record isn't its key's");
+        MUST(riddoskam_inside(t.text, t.m, f[1], f[2]), "a key leads out of the text");
+        int c = order(t, t.text + f[1], f[2], b.key, &next);
+        MUST(k + 1 == first.made || a.container < b.container || (a.container == b.container && (c < 0 || (c == 0 && a.key < b.key))), "no order");
+    }
+    told(INDEX, first.answer);
+    return first;
+}
+
+/* A lookup by a path, or by a key from a container, in both places. */
+static bool lookup(int call, struct lent t, const uint8_t *index, size_t room, size_t container, const uint8_t *path, size_t n, size_t *place) {
+    bool first = false;
+    now_call = names[call];
+    for (int side = 0; side < 2; side++) {
+        size_t p = 77;
+        uint8_t *im = lend(0, side, t.n), *tx = lend(1, side, t.m), *ix = lend(2, side, room), *pa = lend(3, side, n);
+        memcpy(im, t.image, t.n);
+        memcpy(tx, t.text, t.m);
+        memcpy(ix, index, room);
+        memcpy(pa, path, n);
+        bool found = call == FIND ? riddoskam_find(im, t.n, tx, t.m, ix, room, pa, n, &p) : riddoskam_step(im, t.n, tx, t.m, ix, room, container, pa, n, &p);
+        if (sham == 13 && !found) p = 1;
+        left_alone(0, side, t.n);
+        left_alone(1, side, t.m);
+        left_alone(2, side, room);
+        left_alone(3, side, n);
+        MUST(memcmp(im, t.image, t.n) == 0 && memcmp(tx, t.text, t.m) == 0, "the image or the text changed");
+        MUST(memcmp(ix, index, room) == 0 && memcmp(pa, path, n) == 0, "the index or the path changed");
+        MUST(found || p == 0, "nothing is found, and a place");
+        MUST(side == 0 || (found == first && p == *place), "another result in another place");
+        first = found;
+        *place = p;
+    }
+    calls[call]++;
+    if (!first) return false;
+    accepted[call]++;
+    /* what is found: the first record, or a value right behind the six bytes of a record of the last key */
+    size_t from = 0, size = n, next;
+    if (call == FIND)
+        for (size_t i = 0; i < n; i = from + size) {
+            MUST(n - i >= 2 && (size = path[i] << 8 | path[i + 1]) <= n - i - 2, "a row that isn't whole keys finds something");
+            from = i + 2;
+        }
+    if (call == FIND && n == 0)
+        MUST(*place == 0, "no keys lead elsewhere than to the first record");
+    else
+        MUST(*place >= 6 && order(t, path + from, size, *place - 6, &next) == 0 && next == *place && is_value(t, next), "what is found isn't its key's");
+    return true;
+}
+
 /* ---- inputs */
 
 static uint8_t input[MOST + 65536];
@@ -275,9 +403,19 @@ static size_t some_length(void) { return below(20) == 0 ? below(700) : below(12)
 
 static void put_value(int left);
 
+/* Some keys are there twice. */
+static void put_key(void) {
+    if (below(4)) {
+        put_text(2, some_length());
+    } else {
+        put_number(2, 1);
+        put('a' + below(2));
+    }
+}
+
 static void put_pairs(int left) {
     for (size_t n = below(5); n > 0; n--) {
-        put_text(2, some_length());
+        put_key();
         put_value(left);
     }
     put_text(2, below(8) == 0 ? below(5) : 0);
@@ -325,7 +463,7 @@ static void put_file(void) {
     put_text(2, some_length());
     put_number(4, 0);
     for (size_t n = below(6); n > 0; n--) {
-        put_text(2, some_length());
+        put_key();
         put_value(below(4));
         put(0);
     }
@@ -436,15 +574,59 @@ static void round_trip(int read, int write, struct result r, size_t n) {
     if (read != FILE_START) MUST(reading(read, input, n, nothing, r.made, again).answer == 0, "its own image is too little room");
 }
 
+/* The index of an image of at most 15,000 bytes, and lookups in it; and first in the last one, which was of another image, and bent. */
+static void lookups(const uint8_t *image, size_t made, size_t n) {
+    static uint8_t index[65536], path[32768];
+    static size_t room, size;
+    struct lent t = {image, made, input, n};
+    uint64_t f[5];
+    size_t at = 0, place, next;
+    lookup(FIND, t, index, room, 0, path, size, &place);
+    room = below(4) ? 2 * made + below(20) : below(2 * made + 1);
+    size = 0;
+    struct result r = indexing(t, room, index);
+    /* an output of no room: 4, or what the image is refused for */
+    uint8_t refused = writing(made > 0 && image[0] == RIDDOSKAM_LSO ? WRITE_FILE : WRITE_VALUE, image, made, input, n, 0, written).answer;
+    if (refused == 5 || refused == 6)
+        MUST(r.answer == refused, "an index is refused otherwise than a writing");
+    else
+        MUST(r.answer == 0 || r.answer == 4, "an image that can be written has no index");
+    bool way = is_value(t, 0) || (riddoskam_record_at(image, made, 0, f, &next) == 0 && f[0] == RIDDOSKAM_LSO);
+    for (size_t steps = r.made > 0 ? 1 + below(4) : below(2); way && steps > 0; steps--) {
+        /* a key of this container, from a record on, or of any, or none; and its last value, one by one */
+        size_t from = 0, key = n < 3 ? n : below(4), k = below(r.made), want = 0;
+        for (size_t i = 0; below(8) && i < r.made && mark(index, k).container != at; i++) k = (k + 1) % r.made;
+        if (r.made > 0 && riddoskam_record_at(image, made, mark(index, k).key, f, &next) == 0) from = f[1], key = f[2];
+        for (k = 0; k < r.made; k++)
+            if (mark(index, k).container == at && order(t, input + from, key, mark(index, k).key, &next) == 0) want = mark(index, k).value;
+        way = lookup(STEP, t, index, room, at, input + from, key, &place);
+        MUST(way ? place == want : want == 0, "another value than one by one");
+        path[size] = key >> 8;
+        path[size + 1] = key;
+        memcpy(path + size + 2, input + from, key);
+        size += key + 2;
+        at = place;
+    }
+    MUST(lookup(FIND, t, index, room, 0, path, size, &place) == way && place == (way ? at : 0), "a path leads elsewhere than its keys");
+    /* the path bent, and the index: whatever they are, there is a value or nothing */
+    bend(path, &size, sizeof path);
+    lookup(FIND, t, index, room, 0, path, size, &place);
+    bend(index, &room, sizeof index);
+    lookup(FIND, t, index, room, 0, path, size, &place);
+    lookup(STEP, t, index, room, below(4) ? at : any(), path + 2, size > 2 ? size - 2 : 0, &place);
+}
+
 static void read_and_write(int read, int write) {
     struct result r = reading(read, input, length, nothing, some_room(length), tree);
     if (r.answer == 0 && length < 5000) {
         round_trip(read, write, r, length);
+        lookups(tree, r.made, length);
         /* the image bent: whatever it is, the writer answers */
         size_t n = r.made;
         memcpy(bent, tree, n);
         bend(bent, &n, sizeof bent);
         writing(write, bent, n, input, length, below(3) ? 2 * length + 40 : below(length + 1), written);
+        lookups(bent, n, length);
     }
 }
 
@@ -558,6 +740,7 @@ static void random_image(void) {
         for (size_t k = below(12); k > 0 && n < most; k--) bent[n++] = below(3) ? 0 : telling();
     }
     for (int call = WRITE_VALUE; call <= WRITE_OPEN; call++) writing(call, bent, n, input, length < 3000 ? length : 3000, below(200), written);
+    lookups(bent, n, length < 3000 ? length : 3000);
     now_call = names[RECORD];
     uint64_t f[5];
     for (int side = 0; side < 2; side++) {
@@ -594,7 +777,8 @@ int main(int count, char **words) {
         "value read", "file read whole", "file read so far", "packet read whole",
         "packet read at the front", "entry read", "span read", "value written",
         "file written", "packet written, exact lengths", "packet written, FFFFFFFF", "entry by number",
-        "packet cut", "record", "inside and part",
+        "packet cut", "record", "index made", "looked up by a path",
+        "looked up by a key", "inside and part",
     };
     if (count < 3) return 2;
     memcpy(names, all_names, sizeof all_names);
@@ -604,11 +788,12 @@ int main(int count, char **words) {
     lent[0] = area(4 * MOST);
     lent[1] = area(MOST);
     lent[2] = area(4 * MOST);
+    lent[3] = area(MOST);
     signal(SIGSEGV, on_signal);
     signal(SIGBUS, on_signal);
     signal(SIGALRM, on_signal);
     /* the pages around a buffer can't be touched */
-    for (int i = 0; i < 3; i++)
+    for (int i = 0; i < 4; i++)
         for (int side = 0; side < 2; side++) {
             pid_t child = fork();
             if (child == 0) {
