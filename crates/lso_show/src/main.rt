@@ -1,6 +1,7 @@
 // Shows an LSO file as lines that people can read: `lso_show FILE`. A first word `packet` says that the file is an AMF packet, `entries` that it is one and
-// is to be read by entry, and `value` that it is one AMF0 value.
+// is to be read by entry, and `value` that it is one AMF0 value. `lso_show get FILE KEY..` shows the one value of an LSO file to which the keys lead.
 mod entries;
+mod get;
 mod refusal;
 mod tree;
 
@@ -21,6 +22,8 @@ enum Form {
     // A packet by its entries.
     Entries,
     Value,
+    // A file of which one value is shown: the arguments from the third on, up to a number, are the keys that lead to it.
+    Keys(usize),
 }
 
 // How many bytes of a file were read, or that it can't be.
@@ -32,7 +35,7 @@ enum Input {
 fn usage() {
     io::write_all(
         STDOUT_FILENO,
-        b"usage: lso_show [packet | entries | value] FILE\n",
+        b"usage: lso_show [packet | entries | value] FILE, or lso_show get FILE [KEY..]\n",
     );
 }
 
@@ -40,6 +43,7 @@ fn usage() {
 fn parse(form: Form, input: &[u8], image: &mut [u8]) -> Reading {
     match form {
         Form::File => lso::read::parse_incomplete(input, image),
+        Form::Keys(_) => lso::read::parse_incomplete(input, image),
         Form::Value => amf0::read::parse_single_element(input, image),
         _ => packet::read::parse_incomplete(input, image),
     }
@@ -66,13 +70,21 @@ fn left_over(page: &mut Page, used: &mut usize, form: Form, place: usize, length
     word(page, used, b"\n");
 }
 
+// The tree that was read, or the one value of it that is asked for.
+fn show_read(page: &mut Page, used: &mut usize, form: Form, input: &[u8], image: &[u8]) {
+    match form {
+        Form::Keys(end) => get::get(page, used, input, image, end),
+        _ => tree::tree(page, used, input, image, first_depth(form)),
+    }
+}
+
 fn show_whole(page: &mut Page, used: &mut usize, form: Form, input: &[u8], image: &mut [u8]) {
     let r = parse(form, input, image);
     if r.answer != ACCEPTED {
         refusal(page, used, r.answer);
         return;
     }
-    tree::tree(page, used, input, part(image, 0, r.made), first_depth(form));
+    show_read(page, used, form, input, part(image, 0, r.made));
     if r.used < input.len() {
         left_over(page, used, form, r.used, input.len() - r.used);
     }
@@ -167,9 +179,22 @@ fn is_word(a: &[u8], b: &[u8]) -> bool {
     true
 }
 
-// The file behind a first word.
-fn show_as(word: &[u8], buffer: &mut [u8], image: &mut [u8]) {
-    if is_word(word, b"packet") {
+// The value of a file to which keys lead; without keys the whole file.
+fn show_keys(count: usize, buffer: &mut [u8], image: &mut [u8]) {
+    if count == 3 {
+        show_argument(Form::File, 2, buffer, image);
+    } else {
+        show_argument(Form::Keys(count), 2, buffer, image);
+    }
+}
+
+// The file behind a first word, where there are so many arguments.
+fn show_as(word: &[u8], count: usize, buffer: &mut [u8], image: &mut [u8]) {
+    if is_word(word, b"get") {
+        show_keys(count, buffer, image);
+    } else if 3 < count {
+        usage();
+    } else if is_word(word, b"packet") {
         show_argument(Form::Packet, 2, buffer, image);
     } else if is_word(word, b"entries") {
         show_argument(Form::Entries, 2, buffer, image);
@@ -182,13 +207,14 @@ fn show_as(word: &[u8], buffer: &mut [u8], image: &mut [u8]) {
 
 fn show_asked(buffer: &mut [u8], image: &mut [u8]) {
     let mut first = io::buffer();
-    match os::arg_count() {
-        2 => show_argument(Form::File, 1, buffer, image),
-        3 => {
-            let n = os::arg(1, &mut first);
-            show_as(&first[..n], buffer, image);
-        }
-        _ => usage(),
+    let count = os::arg_count();
+    if count < 2 {
+        usage();
+    } else if count == 2 {
+        show_argument(Form::File, 1, buffer, image);
+    } else {
+        let n = os::arg(1, &mut first);
+        show_as(&first[..n], count, buffer, image);
     }
 }
 

@@ -240,15 +240,23 @@ fn record(page: &mut Page, used: &mut usize, input: &[u8], r: Record, w: Walk) -
     }
 }
 
-// The records of an image, whose values begin so deep. A record has one byte at least.
-pub fn tree(page: &mut Page, used: &mut usize, input: &[u8], image: &[u8], depth: usize) {
+// The records of an image from a place on, whose values begin so deep; where one value is asked for, they end with it. A record has one byte at least.
+fn records(
+    page: &mut Page,
+    used: &mut usize,
+    input: &[u8],
+    image: &[u8],
+    place: usize,
+    depth: usize,
+    one: bool,
+) {
     let mut w = Walk {
         depth: depth,
         count: [0u32; 40],
         left: [0u32; 40],
         keyed: false,
     };
-    let mut at: usize = 0;
+    let mut at = place;
     let mut turns = image.len();
     while 0 < turns && at < image.len() {
         turns -= 1;
@@ -261,5 +269,17 @@ pub fn tree(page: &mut Page, used: &mut usize, input: &[u8], image: &[u8], depth
                 at = next.at;
             }
         }
+        if one && w.depth == depth {
+            return;
+        }
     }
+}
+
+pub fn tree(page: &mut Page, used: &mut usize, input: &[u8], image: &[u8], depth: usize) {
+    records(page, used, input, image, 0, depth, false);
+}
+
+// The value whose record stands at a place, by itself: a leaf ends with its record, and a container where the walk comes out of it.
+pub fn value_at(page: &mut Page, used: &mut usize, input: &[u8], image: &[u8], place: usize) {
+    records(page, used, input, image, place, 0, true);
 }

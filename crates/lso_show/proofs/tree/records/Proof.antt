@@ -1,13 +1,13 @@
 -- A record a turn, and no more turns than the image has bytes.
 use borrow.Author.Needs.{needs}
-use Rattle.lso_show.proofs.tree.tree.Statement.{statement}
-use Rattle.lso_show.proofs.tree.tree.Tie as tie
+use Rattle.lso_show.proofs.tree.records.Statement.{statement}
+use Rattle.lso_show.proofs.tree.records.Tie as tie
 
 abbrev Inv-loop : tie.InvT-loop
-Inv-loop page₀ used₀ input image depth w₀ at₀ turns₀ page used w at turns = Unit {0}
+Inv-loop page₀ used₀ input image place depth one w₀ at₀ turns₀ page used w at turns = Unit {0}
 
 abbrev μ-loop : tie.MeasureT-loop
-μ-loop page₀ used₀ input image depth w₀ at₀ turns₀ page used w at turns = turns
+μ-loop page₀ used₀ input image place depth one w₀ at₀ turns₀ page used w at turns = turns
 
 loop-holds : tie.Need-loop-holds Inv-loop μ-loop
 loop-holds c = tt
@@ -30,20 +30,23 @@ enum-known-r c = search needs
 record-requires : tie.Need-record-requires Inv-loop μ-loop
 record-requires c κs = search needs
 
+returns-2 : tie.Need-returns-2 Inv-loop μ-loop
+returns-2 c = search needs
+
 loop-less : tie.Need-loop-less Inv-loop μ-loop
 loop-less c = search needs
 
 loop-again : tie.Need-loop-again Inv-loop μ-loop
 loop-again c = tt
 
-returns-2 : tie.Need-returns-2 Inv-loop μ-loop
-returns-2 c = search needs
-
 returns-3 : tie.Need-returns-3 Inv-loop μ-loop
 returns-3 c = search needs
 
-pub tree-spec : {M : Type 1} → statement M
-tree-spec =
+returns-4 : tie.Need-returns-4 Inv-loop μ-loop
+returns-4 c = search needs
+
+pub records-spec : {M : Type 1} → statement M
+records-spec =
     tie.close
     (tie.spec
     Inv-loop
@@ -55,7 +58,8 @@ tree-spec =
     returns
     enum-known-r
     record-requires
+    returns-2
     loop-less
     loop-again
-    returns-2
-    returns-3)
+    returns-3
+    returns-4)
