@@ -57,6 +57,19 @@ def shelves(n):
     return [("A-%05d" % i, shelf(i)) for i in range(n)]
 
 
+SHELVES = 16  # of a store
+
+
+def stores(n):
+    """So many shelves, in stores: three levels of keys."""
+    return [("S-%04d" % s, thing(*[("A-%05d" % i, shelf(i)) for i in range(s, min(s + SHELVES, n))])) for s in range(0, n, SHELVES)]
+
+
+# The files on which the key index is measured, with the paths that can be looked up there: of one key, and of three.
+LOOKED_UP = {"shelves" + name: [("A-%05d" % i,) for i in range(n)] for name, n in [("1K", 8), ("64K", 552), ("1M", 8832)]}
+LOOKED_UP |= {"stores" + name: [("S-%04d" % (i - i % SHELVES), "A-%05d" % i, "cents") for i in range(n)] for name, n in [("1K", 8), ("64K", 552), ("1M", 8832)]}
+
+
 def nest(levels):
     v = number(1)
     for i in range(levels):
@@ -110,6 +123,8 @@ def main():
     for name, n in [("1K", 8), ("4K", 34), ("16K", 138), ("64K", 552), ("256K", 2208), ("1M", 8832)]:
         save("shelves%s.lso" % name, lso("shelves", shelves(n)))
         save("shelves%s.amf" % name, thing(*shelves(n)))
+    for name, n in [("1K", 8), ("64K", 552), ("1M", 8832)]:
+        save("stores%s.lso" % name, lso("stores", stores(n)))
     for name, n in [("1K", 8), ("16K", 124), ("256K", 2000)]:
         save("shelves%s.amfp" % name, packet([("/shelf/A-%05d" % i, shelf(i)) for i in range(n)]))
 
