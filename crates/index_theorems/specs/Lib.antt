@@ -1,2 +1,3 @@
 pub mod Way
 pub mod Stand
+pub mod Examples
