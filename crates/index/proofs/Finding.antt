@@ -1,11 +1,11 @@
 -- How the code looks at records and marks, and how it looks up.
 use Prim.Native.Nat.{ℕ, zero, suc, _+_, _-_, _/_, _≤_, _<_}
-use mathlib.Core.Path.{_≡_, refl, sym, ap, _∙_}
-use mathlib.Core.List.{List, [], _∷_}
+use mathlib.Core.Path.{_≡_, refl, _∙_}
+use mathlib.Core.List.{List, []}
 use mathlib.Core.Bool.{Bool, true, false}
 use native.Mathlib.Numerals.{sub-one}
 use native.Mathlib.Omega.{arith}
-use lib.Dec.{ltb, eqb}
+use lib.Dec.{ltb}
 use lib.ListN.{length, getD}
 use borrow.Author.Tests.{lt-ltb, le-ltb, eq-eqb, ne-eqb}
 use Rattle.wire.specs.declared.cursor.Cursor.{Cursor}
@@ -25,13 +25,13 @@ use Rattle.amf0.proofs.Begun.{record-body, record-none}
 use Rattle.amf0.proofs.Putting.{known-bytes}
 use Rattle.index.specs.declared.mark.Mark.{Mark}
 use Rattle.index.specs.declared.order.Order.{Order}
-use Rattle.index.specs.declared.walk.Role.{Role}
 use Rattle.index.specs.declared.walk.Role.the-variants as Role
+use Rattle.index.specs.declared.find.Way.{Way}
 use Rattle.index.specs.declared.find.Way.the-variants as Way
 use Rattle.index.specs.Mark.{nothing}
 use Rattle.index.specs.Keys.{roleOf, roleIn, roleAt}
 use Rattle.index.specs.Order.{textBy, orderOf, keyOf}
-use Rattle.index.specs.Find.{isLess, isSame, isValue, pastOf, behindBy, leadsOf, upperOf, wayIf, lastOf, stepOf, downOf}
+use Rattle.index.specs.Find.{isLess, pastOf, leadsOf, upperOf, wayIf, lastOf, stepOf, thence, downOf}
 
 -- ---- a key's text
 
@@ -146,15 +146,8 @@ module _ (image text : List ℕ) (marks : List Mark) (path : List ℕ) (i place 
       down-over zero g t = absurd (omega arith)
       down-over (suc f) g t = rw (lt-ltb i (length path) h, e, t)
 
-      module _ (t : insideOf path (d .at) n ≡ true) where
-        pub down-none : (f : ℕ) → length path ≤ i + f → stepOf image text marks place (partOf path (d .at) n) ≡ Way.Nothing
-            → downOf image text marks path f i place ≡ Way.Nothing
-        unfolding downOf
-        down-none zero g s = absurd (omega arith)
-        down-none (suc f) g s = rw (lt-ltb i (length path) h, e, s, t)
-
-        pub down-next : (f : ℕ) → length path ≤ i + f → (at : ℕ) → stepOf image text marks place (partOf path (d .at) n) ≡ Way.At at
-            → downOf image text marks path f i place ≡ downOf image text marks path (f - 1) (d .at + n) at
-        unfolding downOf
-        down-next zero g at s = absurd (omega arith)
-        down-next (suc f) g at s = rw (lt-ltb i (length path) h, e, s, t, sub-one (suc f))
+      pub down-goes : insideOf path (d .at) n ≡ true → (f : ℕ) → length path ≤ i + f → (w : Way) → stepOf image text marks place (partOf path (d .at) n) ≡ w
+          → downOf image text marks path f i place ≡ thence image text marks w (downOf image text marks path (f - 1) (d .at + n))
+      unfolding downOf
+      down-goes t zero g w s = absurd (omega arith)
+      down-goes t (suc f) g w s = rw (lt-ltb i (length path) h, e, s, t, sub-one (suc f))

@@ -2,17 +2,14 @@
 use Prim.Native.Nat.{ℕ, zero, suc, _+_, _-_, _*_, _/_, _≤_, _<_}
 use mathlib.Core.Path.{_≡_, refl, sym, ap, _∙_}
 use mathlib.Core.List.{List, [], _∷_, _++_}
-use mathlib.Core.Bool.{Bool, true, false}
-use native.Mathlib.Nat.{zero-add, add-assoc}
+use native.Mathlib.Nat.{zero-add}
 use native.Mathlib.Omega.{arith}
-use lib.Dec.{leb}
 use lib.ListN.{length, getD, take, drop, replicate}
 use lib.Seq.{take-add, drop-cons, drop-drop, drop-append-le, take-append-le, length-take-le}
 use lib.ListN.{length-drop}
 use borrow.Author.Tests.{le-leb, lt-leb}
-use Rattle.wire.specs.Choice.{pick}
 use Rattle.wire.specs.Number.{digits, number, Bytes}
-use Rattle.wire.specs.Field.{bytesAt, to}
+use Rattle.wire.specs.Field.{bytesAt}
 use Rattle.wire.specs.Limit as limit
 use Rattle.wire.specs.declared.cursor.Cursor.{Cursor}
 use Rattle.wire.proofs.Laws.{picked, digits-number, number-one}
@@ -21,11 +18,10 @@ use Rattle.image.specs.declared.reading.Step.the-variants.{Next, Stop}
 use Rattle.image.specs.declared.taking.Taken.{Taken}
 use Rattle.image.specs.declared.taking.Taken.the-variants.{Found, Bad}
 use Rattle.image.specs.Taking.{recordAt}
-use Rattle.image.specs.Out.{Out, end, stop, put, _>>=_, namedAt, Poured, poured, pour, bytes as bytesOut}
+use Rattle.image.specs.Out.{Out, end, stop, put, namedAt, Poured, poured, pour, bytes as bytesOut}
 use Rattle.image.specs.Whole.{padded}
 use Rattle.image.proofs.Pouring.{went}
 use Rattle.amf0.proofs.Putting.{past, known-bytes}
-use Rattle.index.specs.declared.mark.Mark.{Mark}
 use Rattle.index.specs.declared.walk.Rest.{Rest}
 use Rattle.index.specs.declared.walk.Role.{Role}
 use Rattle.index.specs.declared.walk.Role.the-variants as Role
@@ -35,11 +31,8 @@ use Rattle.index.specs.Mark.{markAt, markBytes, flat, rowsAt, rows}
 use Rattle.index.specs.Order.{before}
 use Rattle.index.specs.Sort.{Shuffled, Sorted}
 use Rattle.index.specs.Keys.{roleOf}
-use Rattle.index.specs.Index.{alone, rootBy, rootIn, rootOf, keysOf, Indexed, unindexed, keyed, unless, indexed, indexOf, Holds}
-use Rattle.index.proofs.Rows.{mark-means}
-
-clash : _≡_ {A = ℕ} 0 1 → ⊥
-clash e = omega arith
+use Rattle.index.specs.Index.{rootBy, rootIn, rootOf, keysOf, Indexed, unindexed, keyed, unless, indexOf, Holds}
+use Rattle.index.proofs.Rows.{clash}
 
 -- ---- where the root begins
 

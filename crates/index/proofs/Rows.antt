@@ -1,19 +1,18 @@
 -- Marks in bytes: what stands there after a store.
-use Prim.Native.Nat.{ℕ, zero, suc, _+_, _-_, _*_, _/_, _%_, _^_, _≤_, _<_}
+use Prim.Native.Nat.{ℕ, zero, suc, _+_, _-_, _*_, _/_, _%_, _≤_, _<_}
 use mathlib.Core.Path.{_≡_, refl, sym, ap, _∙_}
 use mathlib.Core.List.{List, [], _∷_, _++_, append-assoc}
 use mathlib.Core.Logic.{_⊎_, inl, inr, ⊎-elim}
-use native.Mathlib.Nat.{add-zero}
 use native.Mathlib.Numerals.{towards-suc}
 use native.Mathlib.Omega.{arith}
 use mathlib.Core.Bool.{Bool, true, false}
 use borrow.Author.Tests.{eqb-true, eqb-false, ltb-true, ltb-false}
 use lib.Dec.{eqb, ltb}
 use lib.ListN.{length, getD, take, drop, set, length-set, length-drop, take-append-drop}
-use lib.Seq.{sets, sets-eq, drop-cons, drop-drop, drop-append-le, drop-at, take-append-le, take-at, length-sets, length-take-le, getD-set-same, getD-set-other, ext-getD, take-add}
+use lib.Seq.{sets, sets-eq, drop-cons, drop-drop, drop-append-le, drop-at, take-append-le, length-take-le, getD-set-same, getD-set-other, ext-getD}
 use Rattle.wire.specs.Number.{digits, number}
 use Rattle.wire.specs.Field.{bytesAt}
-use Rattle.wire.proofs.Laws.{then-sets, number-digits, number-one}
+use Rattle.wire.proofs.Laws.{then-sets, number-digits}
 use Rattle.index.specs.declared.mark.Mark.{Mark}
 use Rattle.index.specs.Mark.{markAt, markBytes, Small, rowsAt, rows, nothing}
 
@@ -128,6 +127,13 @@ rows-at (suc n) at s (suc i) h = rows-at n (at + 13) s i (omega arith) ∙ ap (�
 
 pub rows-get : (n : ℕ) (s : List ℕ) (i : ℕ) → i < n → getD (rows n s) i nothing ≡ markAt s (13 * i)
 rows-get n s i h = rows-at n 0 s i h ∙ ap (λ (k : ℕ). markAt s k) (omega arith)
+
+pub clash : _≡_ {A = ℕ} 0 1 → ⊥
+clash e = omega arith
+
+pub cases : {P : Type 0} (b : Bool) → (b ≡ true → P) → (b ≡ false → P) → P
+cases true f g = f refl
+cases false f g = g refl
 
 pub decide : (m n : ℕ) → (m ≡ n) ⊎ (m ≡ n → ⊥)
 decide m n = go (eqb m n) refl

@@ -10,9 +10,9 @@ use native.Mathlib.Omega.{arith}
 use lib.ListN.{length, getD, set, length-set}
 use lib.Seq.{sets, length-sets, getD-set-same, getD-set-other, set-getD, set-set}
 use Rattle.wire.specs.Choice.{pick}
-use Rattle.wire.proofs.Laws.{false-true, picked}
+use Rattle.wire.proofs.Laws.{false-true}
 use Rattle.index.specs.declared.mark.Mark.{Mark}
-use Rattle.index.proofs.Rows.{decide, length-rowsAt, rows-get, rows-set, drop-past}
+use Rattle.index.proofs.Rows.{cases, decide, length-rowsAt, rows-get, rows-set, drop-past}
 use Rattle.index.specs.Mark.{markAt, markBytes, Small, rows, nothing}
 use Rattle.index.specs.Sort.{Shuffled, Rising, Sorted}
 use Rattle.index.specs.Code.{Mixed}
@@ -22,10 +22,6 @@ pub record Total (before : Mark → Mark → Bool) : Type 0 where
   pub asym : (a b : Mark) → before a b ≡ true → before b a ≡ false
   pub same : (a b : Mark) → before a b ≡ false → before b a ≡ false → a ≡ b
   pub trans : (a b c : Mark) → before b a ≡ false → before c b ≡ false → before c a ≡ false
-
-cases : {P : Type 0} (b : Bool) → (b ≡ true → P) → (b ≡ false → P) → P
-cases true f g = f refl
-cases false f g = g refl
 
 module _ (before : Mark → Mark → Bool) where
   -- an element put before the first that does not come before it

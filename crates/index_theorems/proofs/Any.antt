@@ -30,7 +30,7 @@ use Rattle.index.specs.Mark.{nothing, markAt, rowsAt, rows}
 use Rattle.index.specs.Keys.{roleOf}
 use Rattle.index.proofs.Ordering.{three}
 use Rattle.index.specs.Order.{orderOf}
-use Rattle.index_theorems.proofs.Refusals.{cases}
+use Rattle.index.proofs.Rows.{cases}
 use Rattle.index.specs.Find.{isValue, opensAt, startsAt, isSame, pastOf, behindBy, behindIn, leadsOf, upperOf, wayIf, lastOf, stepOf, thence, downOf, findOf}
 
 -- ---- texts that are the same

@@ -1,5 +1,4 @@
 -- The contract of the public call itself determines its outcome.
-use Prim.Native.Nat.{ℕ}
 use mathlib.Core.Path.{_≡_}
 use lib.ListN.{length}
 use denote.Ref.{now}

@@ -21,7 +21,7 @@ use Rattle.index.specs.declared.mark.Mark.{Mark}
 use Rattle.index.specs.Mark.{nothing}
 use Rattle.index.specs.Keys.{roleOf}
 use Rattle.index_theorems.specs.Way.{marks, marksOf, placesOf, isKey, keyPlaces}
-use Rattle.index_theorems.proofs.Lookup.{cases}
+use Rattle.index.proofs.Rows.{cases}
 use Rattle.index_theorems.proofs.Marks.{Valued, Keyed, Closed, means}
 use Rattle.index_theorems.proofs.Whole.{keys}
 use Rattle.index_theorems.proofs.Files.{fileKeys, head}

@@ -33,7 +33,7 @@ use Rattle.index.specs.Find.{opensAt, startsAt, stepOf, thence, findOf}
 use Rattle.index.specs.Index.{rootOf, keysOf, Indexed, unindexed, indexOf, Holds}
 use Rattle.index_theorems.specs.Way.{marks, marksOf, shorts, Short, Perhaps, lastElement, onward, way, placeOf, wayOf}
 use Rattle.index_theorems.specs.Stand.{In, Standing}
-use Rattle.index_theorems.proofs.Lookup.{cases}
+use Rattle.index.proofs.Rows.{cases}
 use Rattle.index_theorems.proofs.Latest.{in-both, Kept}
 use Rattle.index_theorems.proofs.Marks.{stands, walks, both}
 use Rattle.index_theorems.proofs.Stand.{key-there, mark-stands, value-there, stand}

@@ -16,7 +16,8 @@ use Rattle.index.specs.Sort.{Shuffled, Rising, Sorted}
 use Rattle.index.specs.Find.{opensAt, lastOf, stepOf}
 use Rattle.index.proofs.Ordering.{total, lower-le, by-key}
 use Rattle.index_theorems.specs.Stand.{In, Standing}
-use Rattle.index_theorems.proofs.Lookup.{cases, fitsOf, fits-means, order-same, Ordered, found, none}
+use Rattle.index.proofs.Rows.{cases}
+use Rattle.index_theorems.proofs.Lookup.{fitsOf, fits-means, order-same, Ordered, found, none}
 
 -- ---- a mark of a list
 

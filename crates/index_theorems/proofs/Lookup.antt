@@ -26,13 +26,9 @@ use Rattle.index.specs.Mark.{nothing}
 use Rattle.index.specs.Keys.{roleOf, roleIn, roleAt}
 use Rattle.index.specs.Order.{orderOf, keyOf, textBy, lower, rank, before}
 use Rattle.index.specs.Find.{isLess, isSame, pastOf, behindBy, behindIn, leadsOf, upperOf, lastOf}
-use Rattle.index.proofs.Rows.{decide}
+use Rattle.index.proofs.Rows.{cases, decide}
 use Rattle.index.proofs.Ordering.{ended, byOrder, lower-text, lower-eq, lower-lt, lower-gt, lower-differs, lower-asym, lower-same, lower-trans, three}
 use Rattle.index_theorems.specs.Stand.{Standing}
-
-pub cases : {P : Type 0} (b : Bool) → (b ≡ true → P) → (b ≡ false → P) → P
-cases true f g = f refl
-cases false f g = g refl
 
 same-text : (a b : List ℕ) → orderOf a b ≡ Same → a ≡ b
 unfolding orderOf

@@ -1,18 +1,16 @@
 -- A path is looked up key by key, and only one that is keys behind their lengths, in a row, is found.
-use Prim.Native.Nat.{ℕ, zero, suc, _+_, _-_, _*_, _/_, _≤_, _<_}
+use Prim.Native.Nat.{ℕ, zero, suc, _+_, _-_, _*_, _/_, _≤_}
 use mathlib.Core.Path.{_≡_, refl, sym, ap, _∙_}
 use mathlib.Core.List.{List, [], _∷_, _++_, append-nil}
 use mathlib.Core.Bool.{true}
-use native.Mathlib.Numerals.{sub-one}
 use native.Mathlib.Omega.{arith}
 use lib.Dec.{ltb, leb}
 use lib.ListN.{length, drop, length-append, length-drop, drop-of-length-le}
 use lib.Seq.{take-at, drop-at, drop-drop}
-use borrow.Author.Tests.{le-leb, leb-true, leb-false, lt-ltb, le-ltb, ltb-false}
+use borrow.Author.Tests.{le-leb, leb-true, leb-false, ltb-false}
 use Rattle.wire.specs.Number.{digits, Bytes}
 use Rattle.wire.specs.Field.{to, bytesAt, u16At}
 use Rattle.wire.specs.Text.{insideOf, partOf}
-use Rattle.wire.specs.declared.cursor.Cursor.{Cursor}
 use Rattle.wire.specs.declared.cursor.U16.the-variants as U16
 use Rattle.wire.proofs.Stands.{Here, cut, after, u16-at, Stood, end16, length-bytes, stood}
 use Rattle.amf0.specs.Standard.{Sort, Tree}
@@ -24,25 +22,11 @@ use Rattle.index.specs.Mark.{rows}
 use Rattle.index.specs.Find.{startsAt, stepOf, thence, downOf, findOf}
 use Rattle.index.specs.Index.{Indexed, indexOf, Holds}
 use Rattle.index_theorems.specs.Way.{shorts, Short, Keys, way, placeOf}
-use Rattle.index_theorems.proofs.Lookup.{cases}
+use Rattle.index.proofs.Rows.{cases}
+use Rattle.index.proofs.Finding.{down-done, down-goes}
 use Rattle.index_theorems.proofs.Stand.{starts-there}
 use Rattle.index_theorems.proofs.Ways.{looked, path-leads}
 use Rattle.index_theorems.proofs.Whole.{keys, fill, index-is, index-not, index-kept}
-
--- ---- a step of the search
-
-module _ (image text : List ℕ) (es : List Mark) (path : List ℕ) (i place : ℕ) where
-  find-done : (f : ℕ) → length path ≤ i → downOf image text es path f i place ≡ Way.At place
-  unfolding downOf
-  find-done zero h = refl
-  find-done (suc f) h = rw (le-ltb i (length path) h)
-
-  module _ (h : i < length path) (n : ℕ) (d : Cursor) (e : u16At path i ≡ U16.Got n d) (t : insideOf path (d .at) n ≡ true) where
-    find-next : (f : ℕ) → length path ≤ i + f
-        → downOf image text es path f i place ≡ thence image text es (stepOf image text es place (partOf path (d .at) n)) (downOf image text es path (f - 1) (d .at + n))
-    unfolding downOf
-    find-next zero g = absurd (omega arith)
-    find-next (suc f) g = rw (lt-ltb i (length path) h, e, t, sub-one (suc f))
 
 module _ (s image : List ℕ) (es : List Mark) (path : List ℕ) where
   thence-same : (f : Way) (k l : ℕ → Way) → ((p : ℕ) → k p ≡ l p) → thence image s es f k ≡ thence image s es f l
@@ -53,7 +37,7 @@ module _ (s image : List ℕ) (es : List Mark) (path : List ℕ) where
       → downOf image s es path fuel i place ≡ looked s image es place ks
   unfolding looked
   down-looked [] b i fuel place h l f =
-      find-done image s es path i place fuel (omega (arith, length-drop i path, ap length h))
+      down-done image s es path i place fuel (omega (arith, length-drop i path, ap length h))
   down-looked (k ∷ ks) b i fuel place h l f =
       let n : ℕ = length k in
       let size : length path - i ≡ length (shorts (k ∷ ks)) = sym (length-drop i path) ∙ ap length h in
@@ -65,8 +49,8 @@ module _ (s image : List ℕ) (es : List Mark) (path : List ℕ) where
       let t : insideOf path (i + 2) n ≡ true = le-leb (i + 2 + n) (length path) room in
       let part : partOf path (i + 2) n ≡ k = rw (t, behind) (take-at k (shorts ks) n refl) in
       let more : drop (i + 2 + n) path ≡ shorts ks = sym (drop-drop n (i + 2) path) ∙ ap (λ (x : List ℕ). drop n x) behind ∙ drop-at k (shorts ks) n refl in
-      find-next image s es path i place (omega arith) n (to (i + 2)) e t fuel (omega arith)
-      ∙ ap (λ (x : List ℕ). thence image s es (stepOf image s es place x) (downOf image s es path (fuel - 1) (i + 2 + n))) part
+      down-goes image s es path i place (omega arith) n (to (i + 2)) e t fuel (omega arith) (stepOf image s es place k)
+      (ap (λ (x : List ℕ). stepOf image s es place x) part)
       ∙ thence-same (stepOf image s es place k) (downOf image s es path (fuel - 1) (i + 2 + n)) (λ p. looked s image es p ks)
       (λ p. down-looked ks (b .1) (i + 2 + n) (fuel - 1) p more room (omega arith))
 

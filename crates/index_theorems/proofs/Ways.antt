@@ -27,7 +27,8 @@ use Rattle.index.specs.Find.{hasPairs, opensAt, stepOf, thence}
 use Rattle.index_theorems.specs.Way.{marks, Sub, Perhaps, orElse, lastIn, below, onward, way, placeOf}
 use Rattle.index_theorems.specs.Way.Perhaps.{nowhere, found}
 use Rattle.index_theorems.specs.Stand.{In}
-use Rattle.index_theorems.proofs.Lookup.{cases, fits-is}
+use Rattle.index.proofs.Rows.{cases}
+use Rattle.index_theorems.proofs.Lookup.{fits-is}
 use Rattle.index_theorems.proofs.Latest.{in-both, in-left, in-right, Kept, step-finds, step-misses}
 use Rattle.index_theorems.proofs.Marks.{dueOf}
 use Rattle.index_theorems.proofs.Stand.{key-there, opens-there, no-pairs}

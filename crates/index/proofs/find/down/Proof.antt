@@ -1,5 +1,5 @@
 -- What is left of the path gives what the whole gives.
-use Rattle.index.proofs.Finding.{down-done, down-short, down-over, down-none, down-next}
+use Rattle.index.proofs.Finding.{down-done, down-short, down-over, down-goes}
 use Rattle.index.specs.Find.{downOf}
 use Rattle.index.specs.Mark.{rows}
 use Rattle.wire.proofs.Laws.{u16-next}
@@ -7,8 +7,8 @@ use borrow.Author.Tests.{leb-true}
 use denote.Ref.{now}
 use lib.ListN.{length}
 use native.Mathlib.Omega.{arith}
-use mathlib.Core.Path.{_≡_, refl, sym, ap, _∙_}
-use Prim.Native.Nat.{ℕ, _+_, _-_, _*_, _/_, _≤_, _<_}
+use mathlib.Core.Path.{_≡_, refl, sym, _∙_}
+use Prim.Native.Nat.{ℕ, _+_, _-_, _/_, _≤_}
 use borrow.Author.Needs.{needs}
 use Rattle.index.proofs.find.down.Statement.{statement}
 use Rattle.index.proofs.find.down.Tie as tie
@@ -31,7 +31,7 @@ returns-2 : tie.Need-returns-2 Inv-loop μ-loop
 returns-2 c =
     let a = c .before .before .before .before .before .before .before .before .before .before .before .before .before .before .before .before .args in
     let l = c .before .before .before .before .before .before .before .before .before .before .before .loop in
-    sym (l .inv .3 ∙ down-none (now (a .image)) (now (a .text)) (rows (length (now (a .index)) / 13) (now (a .index))) (now (a .path)) (l .i) (l .place) (c .before .before .before .before .before .before .before .before .before .before .loop-test .taken) _ _ (sym (c .before .before .before .before .before .before .before .before .before .be-u16 .ensures) ∙ c .before .before .before .before .before .before .before .n .given .1) (sym (c .before .before .before .before .before .inside .ensures) ∙ c .before .before .before .before .if1 .taken) (l .inv .1) (l .inv .2) (sym (rw (c .before .before .before .part .ensures) at (c .before .before .step .ensures)) ∙ c .enum-told2 .given .1))
+    sym (l .inv .3 ∙ down-goes (now (a .image)) (now (a .text)) (rows (length (now (a .index)) / 13) (now (a .index))) (now (a .path)) (l .i) (l .place) (c .before .before .before .before .before .before .before .before .before .before .loop-test .taken) _ _ (sym (c .before .before .before .before .before .before .before .before .before .be-u16 .ensures) ∙ c .before .before .before .before .before .before .before .n .given .1) (sym (c .before .before .before .before .before .inside .ensures) ∙ c .before .before .before .before .if1 .taken) (l .inv .1) (l .inv .2) _ (sym (rw (c .before .before .before .part .ensures) at (c .before .before .step .ensures)) ∙ c .enum-told2 .given .1))
 
 add-i : tie.Need-add-i Inv-loop μ-loop
 add-i c =
@@ -50,7 +50,7 @@ loop-again c =
       b,
       l .inv .1 - 1,
       omega arith,
-      l .inv .3 ∙ down-next (now (a .image)) (now (a .text)) (rows (length (now (a .index)) / 13) (now (a .index))) (now (a .path)) (l .i) (l .place) (c .before .before .before .before .before .before .before .before .before .before .before .loop-test .taken) _ _ (sym (c .before .before .before .before .before .before .before .before .before .before .be-u16 .ensures) ∙ c .before .before .before .before .before .before .before .before .n .given .1) (sym (c .before .before .before .before .before .before .inside .ensures) ∙ c .before .before .before .before .before .if1 .taken) (l .inv .1) (l .inv .2) _ (sym (rw (c .before .before .before .before .part .ensures) at (c .before .before .before .step .ensures)) ∙ c .before .at .given .1),
+      l .inv .3 ∙ down-goes (now (a .image)) (now (a .text)) (rows (length (now (a .index)) / 13) (now (a .index))) (now (a .path)) (l .i) (l .place) (c .before .before .before .before .before .before .before .before .before .before .before .loop-test .taken) _ _ (sym (c .before .before .before .before .before .before .before .before .before .before .be-u16 .ensures) ∙ c .before .before .before .before .before .before .before .before .n .given .1) (sym (c .before .before .before .before .before .before .inside .ensures) ∙ c .before .before .before .before .before .if1 .taken) (l .inv .1) (l .inv .2) _ (sym (rw (c .before .before .before .before .part .ensures) at (c .before .before .before .step .ensures)) ∙ c .before .at .given .1),
     )
 
 returns-3 : tie.Need-returns-3 Inv-loop μ-loop

@@ -5,8 +5,8 @@ use Rattle.index.specs.Mark.{rows}
 use denote.Ref.{now}
 use lib.ListN.{length}
 use native.Mathlib.Omega.{arith}
-use mathlib.Core.Path.{_≡_, refl, sym, ap, _∙_}
-use Prim.Native.Nat.{ℕ, _+_, _-_, _*_, _/_, _≤_, _<_}
+use mathlib.Core.Path.{sym, _∙_}
+use Prim.Native.Nat.{_-_, _/_}
 use borrow.Author.Needs.{needs}
 use Rattle.index.proofs.find.last.Statement.{statement}
 use Rattle.index.proofs.find.last.Tie as tie

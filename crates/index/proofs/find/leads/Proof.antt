@@ -1,7 +1,6 @@
 -- Each test in turn; where one fails it does not lead on.
 use Rattle.index.specs.Find.{leadsOf}
 use borrow.Author.Tests.{eq-eqb, ne-eqb}
-use denote.Ref.{now}
 use mathlib.Core.Path.{sym, _∙_}
 use borrow.Author.Needs.{needs}
 use Rattle.index.proofs.find.leads.Statement.{statement}

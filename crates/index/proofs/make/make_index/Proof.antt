@@ -8,8 +8,8 @@ use Rattle.image.proofs.Pouring.{pour-onto}
 use denote.Ref.{now}
 use lib.ListN.{length}
 use native.Mathlib.Omega.{arith}
-use mathlib.Core.Path.{_≡_, refl, sym, ap, _∙_}
-use Prim.Native.Nat.{ℕ, _+_, _*_, _/_, _≤_, _<_}
+use mathlib.Core.Path.{sym, ap, _∙_}
+use Prim.Native.Nat.{ℕ, _/_}
 use borrow.Author.Needs.{needs}
 use Rattle.index.proofs.make.make_index.Statement.{statement}
 use Rattle.index.proofs.make.make_index.Tie as tie

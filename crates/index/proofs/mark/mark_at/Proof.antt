@@ -4,7 +4,7 @@ use Rattle.index.specs.Mark.{markAt}
 use Rattle.wire.proofs.Laws.{number-one}
 use denote.Ref.{now}
 use native.Mathlib.Omega.{arith}
-use mathlib.Core.Path.{_≡_, refl, sym, _∙_}
+use mathlib.Core.Path.{sym}
 use borrow.Author.Needs.{needs}
 use Rattle.index.proofs.mark.mark_at.Statement.{statement}
 use Rattle.index.proofs.mark.mark_at.Tie as tie

@@ -1,7 +1,6 @@
 -- Each parent stands above.
 use native.Mathlib.Omega.{arith}
-use Prim.Native.Nat.{ℕ, _+_, _-_, _*_, _/_, _≤_, _<_}
-use borrow.Author.Needs.{needs}
+use Prim.Native.Nat.{_<_}
 use Rattle.index.proofs.sort.belongs.Statement.{statement}
 use Rattle.index.proofs.sort.belongs.Tie as tie
 

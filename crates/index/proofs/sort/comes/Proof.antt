@@ -1,5 +1,5 @@
 -- Both marks stand there.
-use mathlib.Core.Path.{sym, _∙_}
+use mathlib.Core.Path.{sym}
 use native.Mathlib.Omega.{arith}
 use borrow.Author.Needs.{needs}
 use Rattle.index.proofs.sort.comes.Statement.{statement}

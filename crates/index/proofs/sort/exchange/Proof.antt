@@ -2,8 +2,7 @@
 use Rattle.index.proofs.Sorting.{mixed-exchange}
 use denote.Ref.{now}
 use native.Mathlib.Omega.{arith}
-use mathlib.Core.Path.{_≡_, refl, sym, ap, _∙_}
-use borrow.Author.Needs.{needs}
+use mathlib.Core.Path.{_∙_}
 use Rattle.index.proofs.sort.exchange.Statement.{statement}
 use Rattle.index.proofs.sort.exchange.Tie as tie
 

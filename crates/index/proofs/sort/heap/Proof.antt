@@ -3,9 +3,8 @@ use Rattle.index.proofs.Sorting.{mixed-same, mixed-then}
 use Rattle.index.specs.Code.{Mixed}
 use lib.ListN.{length}
 use native.Mathlib.Omega.{arith}
-use mathlib.Core.Path.{_≡_, refl, sym, ap, _∙_}
-use Prim.Native.Nat.{ℕ, _+_, _-_, _*_, _/_, _≤_, _<_}
-use borrow.Author.Needs.{needs}
+use mathlib.Core.Path.{_≡_, refl, _∙_}
+use Prim.Native.Nat.{_/_, _≤_}
 use Rattle.index.proofs.sort.heap.Statement.{statement}
 use Rattle.index.proofs.sort.heap.Tie as tie
 

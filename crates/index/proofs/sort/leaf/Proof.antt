@@ -1,7 +1,6 @@
 -- Each child stands below, and inside the heap.
 use native.Mathlib.Omega.{arith}
-use Prim.Native.Nat.{ℕ, _+_, _-_, _*_, _/_, _≤_, _<_}
-use borrow.Author.Needs.{needs}
+use Prim.Native.Nat.{_-_, _<_}
 use Rattle.index.proofs.sort.leaf.Statement.{statement}
 use Rattle.index.proofs.sort.leaf.Tie as tie
 

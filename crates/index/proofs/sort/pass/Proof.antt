@@ -4,9 +4,8 @@ use Rattle.index.specs.Order.{before}
 use Rattle.index.specs.Code.{Passed}
 use lib.ListN.{length}
 use native.Mathlib.Omega.{arith}
-use mathlib.Core.Path.{_≡_, refl, sym, ap, _∙_}
-use Prim.Native.Nat.{ℕ, _+_, _-_, _*_, _/_, _≤_, _<_}
-use borrow.Author.Needs.{needs}
+use mathlib.Core.Path.{_≡_, refl, _∙_}
+use Prim.Native.Nat.{_-_, _≤_}
 use Rattle.index.proofs.sort.pass.Statement.{statement}
 use Rattle.index.proofs.sort.pass.Tie as tie
 

@@ -7,8 +7,8 @@ use Rattle.index.specs.Mark.{rows, markBytes}
 use denote.Ref.{now}
 use lib.ListN.{length, drop}
 use native.Mathlib.Omega.{arith}
-use mathlib.Core.Path.{_≡_, refl, sym, ap, _∙_}
-use Prim.Native.Nat.{ℕ, _+_, _-_, _*_, _/_, _≤_, _<_}
+use mathlib.Core.Path.{_≡_, refl, sym, _∙_}
+use Prim.Native.Nat.{_-_, _*_, _≤_}
 use borrow.Author.Needs.{needs}
 use Rattle.index.proofs.sort.sink.Statement.{statement}
 use Rattle.index.proofs.sort.sink.Tie as tie

@@ -2,8 +2,7 @@
 use Rattle.index.proofs.Sorting.{mixed-then}
 use Rattle.index.proofs.Rows.{length-rowsAt}
 use native.Mathlib.Omega.{arith}
-use mathlib.Core.Path.{_≡_, refl, sym, ap, _∙_}
-use borrow.Author.Needs.{needs}
+use mathlib.Core.Path.{_∙_}
 use Rattle.index.proofs.sort.sort.Statement.{statement}
 use Rattle.index.proofs.sort.sort.Tie as tie
 
