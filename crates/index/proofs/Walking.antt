@@ -1,7 +1,7 @@
 -- How the code goes over an image.
 use Prim.Native.Nat.{ℕ, zero, suc, _+_, _-_, _*_, _≤_, _<_}
-use mathlib.Core.Path.{_≡_, refl, sym, ap, _∙_}
-use mathlib.Core.List.{List, []}
+use mathlib.Core.Path.{_≡_, refl, ap}
+use mathlib.Core.List.{List}
 use mathlib.Core.Bool.{Bool, true, false}
 use native.Mathlib.Numerals.{sub-one}
 use native.Mathlib.Omega.{arith}
@@ -9,13 +9,10 @@ use lib.Dec.{leb, eqb}
 use lib.ListN.{length, getD}
 use Rattle.wire.specs.Choice.{pick}
 use Rattle.wire.specs.Field.{to}
-use Rattle.wire.specs.Limit as limit
 use Rattle.wire.specs.Text.{insideOf, partOf}
 use Rattle.wire.specs.Utf8.{utf8}
 use Rattle.wire.specs.declared.cursor.Cursor.{Cursor}
 use Rattle.wire.proofs.Laws.{picked}
-use Rattle.image.specs.declared.record.Record.{Record}
-use Rattle.image.specs.declared.reading.Step.{Step}
 use Rattle.image.specs.declared.reading.Step.the-variants.{Next, Stop}
 use Rattle.image.specs.declared.taking.Taken.{Taken}
 use Rattle.image.specs.declared.taking.Taken.the-variants.{Found, Bad}
@@ -34,7 +31,7 @@ use Rattle.index.specs.declared.walk.Begun.the-variants as Begun
 use Rattle.index.specs.declared.walk.Coming.{Coming}
 use Rattle.index.specs.declared.walk.Coming.the-variants as Coming
 use Rattle.index.specs.Mark.{mark, markBytes}
-use Rattle.index.specs.Keys.{roleOf, ownBy, ownIn, keyBy, keyIn, ownOf, pairAt, elementAt, turnOf, turned, owned, rest, value}
+use Rattle.index.specs.Keys.{roleOf, ownBy, ownIn, keyBy, keyIn, ownOf, pairAt, turnOf, rest, value}
 use Rattle.index.specs.Code.{Onward}
 
 pub named-inside : (text : List ℕ) (p n : ℕ) → insideOf text p n ≡ true → utf8 (partOf text p n) ≡ namedAt text p n
@@ -70,17 +67,18 @@ module _ (image text : List ℕ) (h : (i : ℕ) → getD image i 0 < 256) (at : 
   Taking (Coming.Key c f) = Past image at c
   Taking Coming.Stop = Unit {0}
 
-  key-past : (due : Rest) (last : Cursor → Coming) → ((c : Cursor) → Past image at c → Taking (last c)) → Taking (keyIn text due last (recordAt image at))
-  key-past due last l = go (recordAt image at) refl
+  pair-past : (due : Rest) (ends : Bool) → Taking (pairAt image text due ends at)
+  unfolding pairAt
+  pair-past due ends = go (recordAt image at) refl
     where
-      by : (x : Role) (d : Cursor) → Past image at d → Taking (keyBy text due last x d)
+      by : (x : Role) (d : Cursor) → Past image at d → Taking (keyBy text due ends x d)
       by (Role.Value p n g) d s = tt
       by (Role.Key p n) d s = picked Taking (namedAt text p n) _ _ (λ _. s) (λ _. tt)
       by (Role.File p n) d s = tt
-      by Role.End d s = l d s
+      by Role.End d s = picked Taking ends _ _ (λ _. s) (λ _. tt)
       by Role.Other d s = tt
 
-      go : (t : Taken) → recordAt image at ≡ t → Taking (keyIn text due last t)
+      go : (t : Taken) → recordAt image at ≡ t → Taking (keyIn text due ends t)
       go (Found r d) g = by (roleOf r) d (past image h at {r = r} {c = d} g)
       go Bad g = tt
 
@@ -97,13 +95,16 @@ module _ (image text : List ℕ) (h : (i : ℕ) → getD image i 0 < 256) (at : 
   reached (Coming.Key c f) s = (s .from, s .fits)
   reached Coming.Stop s = tt
 
+  pair-reached : (due : Rest) (ends : Bool) → Reached (pairAt image text due ends at)
+  pair-reached due ends = reached (pairAt image text due ends at) (pair-past due ends)
+
   pub turn-reached : (due : Rest) → at ≤ length image → Reached (turnOf image text due at)
-  unfolding turnOf pairAt elementAt
+  unfolding turnOf
   turn-reached Nothing l = (omega arith, l)
   turn-reached (Values n) l = picked Reached (eqb n 0) (Coming.Done (to at)) (Coming.Value (to at) (Values (n - 1))) (λ _. (omega arith, l)) (λ _. refl)
-  turn-reached Dense l = picked Reached (valueAt image at) (Coming.Value (to at) Dense) (keyIn text Pairs Coming.Done (recordAt image at)) (λ _. refl) (λ _. reached (keyIn text Pairs Coming.Done (recordAt image at)) (key-past Pairs Coming.Done (λ c s. s)))
-  turn-reached Pairs l = reached (keyIn text Pairs Coming.Done (recordAt image at)) (key-past Pairs Coming.Done (λ c s. s))
-  turn-reached Body l = picked Reached (leb (length image) at) (Coming.Done (to at)) (keyIn text Body (λ c. Coming.Stop) (recordAt image at)) (λ _. (omega arith, l)) (λ _. reached (keyIn text Body (λ c. Coming.Stop) (recordAt image at)) (key-past Body (λ c. Coming.Stop) (λ c s. tt)))
+  turn-reached Dense l = picked Reached (valueAt image at) (Coming.Value (to at) Dense) (pairAt image text Pairs true at) (λ _. refl) (λ _. pair-reached Pairs true)
+  turn-reached Pairs l = pair-reached Pairs true
+  turn-reached Body l = picked Reached (leb (length image) at) (Coming.Done (to at)) (pairAt image text Body false at) (λ _. (omega arith, l)) (λ _. pair-reached Body false)
 
 -- ---- the turns
 

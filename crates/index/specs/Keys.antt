@@ -1,6 +1,7 @@
 -- The keys of an image, in the order of reading: each is put out as its mark, and the image's own refusals end the walk.
 use Prim.Native.Nat.{ℕ, zero, suc, _+_, _-_}
 use mathlib.Core.List.{List}
+use mathlib.Core.Bool.{Bool, true, false}
 use lib.Dec.{leb, eqb}
 use lib.ListN.{length}
 use Rattle.wire.specs.Choice.{pick}
@@ -66,38 +67,34 @@ module _ (text : List ℕ) where
   ownIn (Found r c) = ownBy (roleOf r) c
   ownIn Bad = Begun.Stop
 
-  -- a key's record, with what is due behind its value; and what the end's record comes to
-  abbrev pub keyBy : Rest → (Cursor → Coming) → Role → Cursor → Coming
-  keyBy due last (Role.Value p n f) c = Coming.Stop
-  keyBy due last (Role.Key p n) c = pick (namedAt text p n) (Coming.Key c due) Coming.Stop
-  keyBy due last (Role.File p n) c = Coming.Stop
-  keyBy due last Role.End c = last c
-  keyBy due last Role.Other c = Coming.Stop
+  -- a key's record, with what is due behind its value; or the end's, where it may stand
+  abbrev pub keyBy : Rest → Bool → Role → Cursor → Coming
+  keyBy due ends (Role.Value p n f) c = Coming.Stop
+  keyBy due ends (Role.Key p n) c = pick (namedAt text p n) (Coming.Key c due) Coming.Stop
+  keyBy due ends (Role.File p n) c = Coming.Stop
+  keyBy due ends Role.End c = pick ends (Coming.Done c) Coming.Stop
+  keyBy due ends Role.Other c = Coming.Stop
 
-  abbrev pub keyIn : Rest → (Cursor → Coming) → Taken → Coming
-  keyIn due last (Found r c) = keyBy due last (roleOf r) c
-  keyIn due last Bad = Coming.Stop
+  abbrev pub keyIn : Rest → Bool → Taken → Coming
+  keyIn due ends (Found r c) = keyBy due ends (roleOf r) c
+  keyIn due ends Bad = Coming.Stop
 
 module _ (image text : List ℕ) where
   -- the value's record at a place, and what follows it
   unfoldable pub ownOf : ℕ → Begun
   ownOf at = ownIn text (recordAt image at)
 
-  -- a key's record or the end's
-  unfoldable pub pairAt : ℕ → Coming
-  pairAt at = keyIn text Pairs Coming.Done (recordAt image at)
-
-  -- a key's record
-  unfoldable pub elementAt : ℕ → Coming
-  elementAt at = keyIn text Body (λ c. Coming.Stop) (recordAt image at)
+  -- the key's record at a place, or the end's
+  unfoldable pub pairAt : Rest → Bool → ℕ → Coming
+  pairAt due ends at = keyIn text due ends (recordAt image at)
 
   -- what comes at a place, where this is due
   unfoldable pub turnOf : Rest → ℕ → Coming
   turnOf Nothing at = Coming.Done (to at)
   turnOf (Values n) at = pick (eqb n 0) (Coming.Done (to at)) (Coming.Value (to at) (Values (n - 1)))
-  turnOf Dense at = pick (valueAt image at) (Coming.Value (to at) Dense) (pairAt at)
-  turnOf Pairs at = pairAt at
-  turnOf Body at = pick (leb (length image) at) (Coming.Done (to at)) (elementAt at)
+  turnOf Dense at = pick (valueAt image at) (Coming.Value (to at) Dense) (pairAt Pairs true at)
+  turnOf Pairs at = pairAt Pairs true at
+  turnOf Body at = pick (leb (length image) at) (Coming.Done (to at)) (pairAt Body false at)
 
 abbrev pub turned : ℕ → Coming → (ℕ → Rest → Out) → (ℕ → Rest → Out) → Out
 turned at (Coming.Done c) value key = end (c .at)

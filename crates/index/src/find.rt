@@ -124,26 +124,19 @@ fn leads(image: &[u8], text: &[u8], container: usize, key: &[u8], m: Mark) -> bo
     if container != m.container as usize {
         return false;
     }
-    match record_at(image, Cursor { at: m.key as usize }) {
-        Taken::Bad => false,
-        Taken::Found(r, c) => match role_of(r) {
-            Role::Key(p, n) => {
-                if c.at != m.value as usize {
-                    return false;
-                }
-                if inside(text, p, n) {
-                    if same(key, part(text, p, n)) {
-                        return is_value(image, c);
-                    }
-                }
-                false
+    if let Taken::Found(r, c) = record_at(image, Cursor { at: m.key as usize }) {
+        if let Role::Key(p, n) = role_of(r) {
+            if c.at != m.value as usize {
+                return false;
             }
-            Role::Value(_, _, _) => false,
-            Role::File(_, _) => false,
-            Role::End => false,
-            Role::Other => false,
-        },
+            if inside(text, p, n) {
+                if same(key, part(text, p, n)) {
+                    return is_value(image, c);
+                }
+            }
+        }
     }
+    false
 }
 
 // The number of the first mark that is past, by halves.

@@ -35,21 +35,15 @@ pub struct Indexing {
 fn root(image: &[u8], text: &[u8]) -> Begun
     ensures { λ r. ⌜ r ≡ rootOf (now (image .entry)) (now (text .entry)) ⌝ }
 {
-    match record_at(image, Cursor { at: 0 }) {
-        Taken::Bad => Begun::Next(Cursor { at: 0 }, Rest::Values(1)),
-        Taken::Found(r, d) => match role_of(r) {
-            Role::File(p, n) => {
-                if named(text, p, n) {
-                    return Begun::Next(d, Rest::Body);
-                }
-                Begun::Stop
+    if let Taken::Found(r, d) = record_at(image, Cursor { at: 0 }) {
+        if let Role::File(p, n) = role_of(r) {
+            if named(text, p, n) {
+                return Begun::Next(d, Rest::Body);
             }
-            Role::Value(_, _, _) => Begun::Next(Cursor { at: 0 }, Rest::Values(1)),
-            Role::Key(_, _) => Begun::Next(Cursor { at: 0 }, Rest::Values(1)),
-            Role::End => Begun::Next(Cursor { at: 0 }, Rest::Values(1)),
-            Role::Other => Begun::Next(Cursor { at: 0 }, Rest::Values(1)),
-        },
+            return Begun::Stop;
+        }
     }
+    Begun::Next(Cursor { at: 0 }, Rest::Values(1))
 }
 
 // The marks of all keys, in the order of reading, where they have room.

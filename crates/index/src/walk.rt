@@ -21,7 +21,7 @@ ghost use Rattle.wire.specs.Bytes.{laid};
 ghost use Rattle.wire.specs.Limit.{«image» as most-image};
 ghost use Rattle.image.specs.Out.{Out, namedAt, pour, poured};
 ghost use Rattle.index.specs.Mark.{markBytes};
-ghost use Rattle.index.specs.Keys.{roleOf, ownOf, pairAt, elementAt, turnOf, value, rest as restOf};
+ghost use Rattle.index.specs.Keys.{roleOf, ownOf, pairAt, turnOf, value, rest as restOf};
 ghost use Rattle.index.specs.Code.{onOf, countOf, Ready, Onward};
 
 // What follows a record: nothing, pairs up to the end, values without a key before such pairs, pairs up to the image's end, or so many values.
@@ -87,21 +87,14 @@ pub enum Begun {
 fn own(image: &[u8], text: &[u8], c: Cursor) -> Begun
     ensures { λ r. ⌜ r ≡ ownOf (now (image .entry)) (now (text .entry)) (c .at) ⌝ }
 {
-    match record_at(image, c) {
-        Taken::Bad => Begun::Stop,
-        Taken::Found(r, d) => match role_of(r) {
-            Role::Value(p, n, f) => {
-                if named(text, p, n) {
-                    return Begun::Next(d, f);
-                }
-                Begun::Stop
+    if let Taken::Found(r, d) = record_at(image, c) {
+        if let Role::Value(p, n, f) = role_of(r) {
+            if named(text, p, n) {
+                return Begun::Next(d, f);
             }
-            Role::Key(_, _) => Begun::Stop,
-            Role::File(_, _) => Begun::Stop,
-            Role::End => Begun::Stop,
-            Role::Other => Begun::Stop,
-        },
+        }
     }
+    Begun::Stop
 }
 
 // What comes next: nothing any more; a value without a key; a key, whose value is at the cursor. Behind a value, this is due then.
@@ -112,44 +105,26 @@ pub enum Coming {
     Stop,
 }
 
-fn pair(image: &[u8], text: &[u8], c: Cursor) -> Coming
-    ensures { λ r. ⌜ r ≡ pairAt (now (image .entry)) (now (text .entry)) (c .at) ⌝ }
+// A key's record, with what is due behind its value; or the end's, where it may stand.
+fn pair(image: &[u8], text: &[u8], c: Cursor, due: Rest, ends: bool) -> Coming
+    ensures { λ r. ⌜ r ≡ pairAt (now (image .entry)) (now (text .entry)) due ends (c .at) ⌝ }
 {
-    match record_at(image, c) {
-        Taken::Bad => Coming::Stop,
-        Taken::Found(r, d) => match role_of(r) {
+    if let Taken::Found(r, d) = record_at(image, c) {
+        match role_of(r) {
             Role::Key(p, n) => {
                 if named(text, p, n) {
-                    return Coming::Key(d, Rest::Pairs);
+                    return Coming::Key(d, due);
                 }
-                Coming::Stop
             }
-            Role::End => Coming::Done(d),
-            Role::Value(_, _, _) => Coming::Stop,
-            Role::File(_, _) => Coming::Stop,
-            Role::Other => Coming::Stop,
-        },
-    }
-}
-
-fn element(image: &[u8], text: &[u8], c: Cursor) -> Coming
-    ensures { λ r. ⌜ r ≡ elementAt (now (image .entry)) (now (text .entry)) (c .at) ⌝ }
-{
-    match record_at(image, c) {
-        Taken::Bad => Coming::Stop,
-        Taken::Found(r, d) => match role_of(r) {
-            Role::Key(p, n) => {
-                if named(text, p, n) {
-                    return Coming::Key(d, Rest::Body);
+            Role::End => {
+                if ends {
+                    return Coming::Done(d);
                 }
-                Coming::Stop
             }
-            Role::End => Coming::Stop,
-            Role::Value(_, _, _) => Coming::Stop,
-            Role::File(_, _) => Coming::Stop,
-            Role::Other => Coming::Stop,
-        },
+            _ => {}
+        }
     }
+    Coming::Stop
 }
 
 fn turn(image: &[u8], text: &[u8], c: Cursor, due: Rest) -> Coming
@@ -167,15 +142,15 @@ fn turn(image: &[u8], text: &[u8], c: Cursor, due: Rest) -> Coming
             if value_at(image, c) {
                 return Coming::Value(c, Rest::Dense);
             }
-            pair(image, text, c)
+            pair(image, text, c, Rest::Pairs, true)
         }
-        Rest::Pairs => pair(image, text, c),
+        Rest::Pairs => pair(image, text, c, Rest::Pairs, true),
         Rest::Body => {
             let at = c.at;
             if image.len() <= at {
                 return Coming::Done(c);
             }
-            element(image, text, c)
+            pair(image, text, c, Rest::Body, false)
         }
     }
 }

@@ -2,6 +2,7 @@
 use Prim.Native.Nat.{ℕ, zero, suc, _+_, _≤_, _<_}
 use mathlib.Core.Path.{_≡_, refl}
 use mathlib.Core.List.{List}
+use mathlib.Core.Bool.{false}
 use mathlib.Core.Logic.{_≢_}
 use native.Mathlib.Omega.{arith}
 use lib.Dec.{leb}
@@ -27,10 +28,9 @@ use Rattle.lso.specs.Writing.{partOf, keyed as keyedBy, rowOf, element, body, f
 use Rattle.index.specs.declared.walk.Rest.the-variants.{Body}
 use Rattle.index.specs.declared.walk.Role.{Role}
 use Rattle.index.specs.declared.walk.Role.the-variants as Role
-use Rattle.index.specs.declared.walk.Coming.the-variants as Coming
 use Rattle.index.specs.Mark.{mark, markBytes}
 use Rattle.index.specs.Index.{rootOf, keysOf}
-use Rattle.index.specs.Keys.{roleOf, keyBy, keyIn, elementAt, turnOf, turned, rest, value}
+use Rattle.index.specs.Keys.{roleOf, keyBy, keyIn, pairAt, turnOf, turned, rest, value}
 use Rattle.index_theorems.proofs.Refusals.{Alike, behind, both, cases, Ahead, alike-value, answerOf, same-answer, refused-alike}
 
 -- what a record is to the two
@@ -85,7 +85,7 @@ module _ (image s : List ℕ) (known : Bytes image) where
 
   alike-body : (f g at : ℕ) → at ≤ length image → length image < f + at → length image ≤ g + at
       → Alike AtEnd (rest (value 32 image s) image s 0 1 f Body at) (body image s g at)
-  unfolding rest turnOf elementAt body element zeroed Ahead AtEnd row
+  unfolding rest turnOf pairAt body element zeroed Ahead AtEnd row
   alike-body zero g at h m l = absurd (omega arith)
   alike-body (suc f) zero at h m l = rw (le-leb (length image) at (omega arith)) (Alike.ends {n = at} (omega arith))
   alike-body (suc f) (suc g) at h m l =
@@ -96,7 +96,7 @@ module _ (image s : List ℕ) (known : Bytes image) where
       by : (x : Part) (y : Role) (c : Cursor) → at + 1 ≤ c .at → c .at ≤ length image → Kin x y
           → ((n : ℕ) → (at + 1 ≤ n) × (n ≤ length image) → Alike AtEnd (rest (value 32 image s) image s 0 1 f Body n) (body image s g n))
           → Alike AtEnd
-          (turned at (keyBy s Body (λ c. Coming.Stop) y c) (λ q t. value 32 image s q >>= rest (value 32 image s) image s 0 1 f t)
+          (turned at (keyBy s Body false y c) (λ q t. value 32 image s q >>= rest (value 32 image s) image s 0 1 f t)
           (λ q t. put (markBytes (mark 1 0 at q)) (value 32 image s q >>= rest (value 32 image s) image s 0 1 f t)))
           ((keyedBy at x λ p n. row s (rowOf none (2 bytes n) none p n) at (zeroed at (c .at))) >>= body image s g)
       by x y c b e (Kin.k-key {p} {n}) more =
@@ -112,7 +112,7 @@ module _ (image s : List ℕ) (known : Bytes image) where
       go : (t : Taken) → recordAt image at ≡ t
           → ((n : ℕ) → (at + 1 ≤ n) × (n ≤ length image) → Alike AtEnd (rest (value 32 image s) image s 0 1 f Body n) (body image s g n))
           → Alike AtEnd
-          (turned at (keyIn s Body (λ c. Coming.Stop) t) (λ q y. value 32 image s q >>= rest (value 32 image s) image s 0 1 f y)
+          (turned at (keyIn s Body false t) (λ q y. value 32 image s q >>= rest (value 32 image s) image s 0 1 f y)
           (λ q y. put (markBytes (mark 1 0 at q)) (value 32 image s q >>= rest (value 32 image s) image s 0 1 f y)))
           ((taken at t λ r q. keyedBy at (partOf r) λ p n. row s (rowOf none (2 bytes n) none p n) at (zeroed at q)) >>= body image s g)
       go (Found r c) e more = let p = behind image known at r c e in by (partOf r) (roleOf r) c (p .from) (p .fits) (kin r) more

@@ -2,7 +2,7 @@
 use Prim.Native.Nat.{ℕ, zero, suc, _+_, _*_, _/_, _≤_, _<_}
 use mathlib.Core.Path.{_≡_, refl, sym, ap, _∙_}
 use mathlib.Core.List.{List, [], _∷_, _++_, append-nil}
-use mathlib.Core.Bool.{true}
+use mathlib.Core.Bool.{true, false}
 use mathlib.Core.Logic.{_⊎_, inl, inr, ⊎-elim}
 use native.Mathlib.Omega.{arith}
 use lib.Dec.{leb}
@@ -28,7 +28,7 @@ use Rattle.index.specs.declared.walk.Rest.the-variants.{Body}
 use Rattle.index.specs.declared.walk.Begun.the-variants as Begun
 use Rattle.index.specs.declared.walk.Coming.the-variants as Coming
 use Rattle.index.specs.Mark.{mark, markBytes, flat, rows, Small}
-use Rattle.index.specs.Keys.{roleAt, elementAt, turnOf, rest, value}
+use Rattle.index.specs.Keys.{roleAt, pairAt, turnOf, rest, value}
 use Rattle.index.specs.Find.{opensAt, startsAt, stepOf, thence, findOf}
 use Rattle.index.specs.Index.{rootOf, keysOf, Indexed, unindexed, indexOf, Holds}
 use Rattle.index_theorems.specs.Way.{marks, marksOf, shorts, Short, Perhaps, lastElement, onward, way, placeOf, wayOf}
@@ -46,11 +46,11 @@ use Rattle.index_theorems.proofs.Paths.{found-looked}
 
 module _ (s image : List ℕ) where
   element-first : {at : ℕ} (p n : ℕ) (rs : List Record) (z : List ℕ) → Here image at (laid (R.Key p n ∷ rs)) z → Right s (R.Key p n ∷ rs)
-      → elementAt image s at ≡ Coming.Key (to (at + size (R.Key p n))) Body
-  unfolding elementAt
+      → pairAt image s Body false at ≡ Coming.Key (to (at + size (R.Key p n))) Body
+  unfolding pairAt
   element-first p n rs z h g = rw (first s image (R.Key p n) rs z h (g .0), stands s p n (g .1))
 
-  key-turn : (v : ℕ → Out) (fuel at q : ℕ) {x : List ℕ} {n : ℕ} → at < length image → elementAt image s at ≡ Coming.Key (to q) Body
+  key-turn : (v : ℕ → Out) (fuel at q : ℕ) {x : List ℕ} {n : ℕ} → at < length image → pairAt image s Body false at ≡ Coming.Key (to q) Body
       → Puts ⊥ (v q >>= rest v image s 0 1 fuel Body) x n → Puts ⊥ (rest v image s 0 1 (suc fuel) Body at) (markBytes (mark 1 0 at q) ++ x) n
   unfolding rest turnOf
   key-turn v fuel at q l e p = rw (lt-leb (length image) at l, e) (Puts.more p)

@@ -140,20 +140,20 @@ module _ (s image : List ℕ) where
         let w : Valued s r i = rw e at (means s r (g .1)) in
         rw (first s image r rs z h (g .0), w .role, w .named) (rest-part (value left image s) at (33 - left) (length image) i (at + size r))
 
-    pair-first : (k : List ℕ) → look s r ≡ Word.name k → Right s (r ∷ rs) → pairAt image s at ≡ Coming.Key (to (at + size r)) Pairs
+    pair-first : (k : List ℕ) → look s r ≡ Word.name k → Right s (r ∷ rs) → pairAt image s Pairs true at ≡ Coming.Key (to (at + size r)) Pairs
     unfolding pairAt
     pair-first k e g =
         let w : Keyed s r k = rw e at (means s r (g .1)) in
         rw (first s image r rs z h (g .0), w .role, w .named)
 
-    end-first : look s r ≡ Word.close → Right s (r ∷ rs) → pairAt image s at ≡ Coming.Done (to (at + size r))
+    end-first : look s r ≡ Word.close → Right s (r ∷ rs) → pairAt image s Pairs true at ≡ Coming.Done (to (at + size r))
     unfolding pairAt
     end-first e g =
         let w : Closed r = rw e at (means s r (g .1)) in
         rw (first s image r rs z h (g .0), w .role)
 
   module _ (v : ℕ → Out) (place d fuel at : ℕ) {D : Type 0} {x : List ℕ} {n : ℕ} where
-    key-turn : (q : ℕ) → pairAt image s at ≡ Coming.Key (to q) Pairs → Puts D (v q >>= rest v image s place d fuel Pairs) x n
+    key-turn : (q : ℕ) → pairAt image s Pairs true at ≡ Coming.Key (to q) Pairs → Puts D (v q >>= rest v image s place d fuel Pairs) x n
         → Puts D (rest v image s place d (suc fuel) Pairs at) (markBytes (mark d place at q) ++ x) n
     unfolding rest turnOf
     key-turn q e p = rw e (Puts.more p)
@@ -170,7 +170,7 @@ module _ (s image : List ℕ) where
     unfolding rest turnOf
     last-turn e p = rw e p
 
-  end-turn : (v : ℕ → Out) (place d fuel at q : ℕ) {D : Type 0} → pairAt image s at ≡ Coming.Done (to q) → Puts D (rest v image s place d (suc fuel) Pairs at) [] q
+  end-turn : (v : ℕ → Out) (place d fuel at q : ℕ) {D : Type 0} → pairAt image s Pairs true at ≡ Coming.Done (to q) → Puts D (rest v image s place d (suc fuel) Pairs at) [] q
   unfolding rest turnOf
   end-turn v place d fuel at q e = rw e Puts.done
 

@@ -35,7 +35,6 @@ use Rattle.index.specs.declared.walk.Rest.{Rest}
 use Rattle.index.specs.declared.walk.Rest.the-variants.{Nothing, Pairs, Dense, Values}
 use Rattle.index.specs.declared.walk.Role.{Role}
 use Rattle.index.specs.declared.walk.Role.the-variants as Role
-use Rattle.index.specs.declared.walk.Coming.the-variants as Coming
 use Rattle.index.specs.Mark.{mark, markBytes}
 use Rattle.index.specs.Index.{alone, rootOf, keysOf}
 use Rattle.index.specs.Keys.{roleOf, ownBy, ownIn, keyBy, keyIn, ownOf, pairAt, turnOf, turned, owned, rest, value}
@@ -147,7 +146,7 @@ module _ (image s : List ℕ) (known : Bytes image) where
         by : (x : Shape) (y : Role) (c : Cursor) → at + 1 ≤ c .at → c .at ≤ length image → Kin s x y
             → ((n : ℕ) → (at + 1 ≤ n) × (n ≤ length image) → Alike (From at) (rest v image s place d f Pairs n) (pairs w image s g n))
             → Alike (From at)
-            (turned at (keyBy s Pairs Coming.Done y c) (λ q t. v q >>= rest v image s place d f t)
+            (turned at (keyBy s Pairs true y c) (λ q t. v q >>= rest v image s place d f t)
             (λ q t. put (markBytes (mark d place at q)) (v q >>= rest v image s place d f t)))
             (paired at x (λ r. row s r at (w (c .at) >>= pairs w image s g)) (λ r. row s r at (end (c .at))))
         by (S.Value r a) (Role.Value p n due) c b e (Kin.k-value q u) more = Alike.stops
@@ -162,7 +161,7 @@ module _ (image s : List ℕ) (known : Bytes image) where
 
         go : (t : Taken) → recordAt image at ≡ t → ((n : ℕ) → (at + 1 ≤ n) × (n ≤ length image) → Alike (From at) (rest v image s place d f Pairs n) (pairs w image s g n))
             → Alike (From at)
-            (turned at (keyIn s Pairs Coming.Done t) (λ q y. v q >>= rest v image s place d f y)
+            (turned at (keyIn s Pairs true t) (λ q y. v q >>= rest v image s place d f y)
             (λ q y. put (markBytes (mark d place at q)) (v q >>= rest v image s place d f y)))
             (taken at t λ r q. paired at (shapeOf r) (λ x. row s x at (w q >>= pairs w image s g)) (λ x. row s x at (end q)))
         go (Found r c) e more = let p = behind image known at r c e in by (shapeOf r) (roleOf r) c (p .from) (p .fits) (kin s r) more

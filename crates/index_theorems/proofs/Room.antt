@@ -3,6 +3,7 @@
 use Prim.Native.Nat.{ℕ, zero, suc, _+_, _-_, _*_, _≤_}
 use mathlib.Core.Path.{_≡_, refl}
 use mathlib.Core.List.{List}
+use mathlib.Core.Bool.{Bool, true, false}
 use mathlib.Core.Logic.{_⊎_, inl, inr}
 use native.Mathlib.Omega.{arith}
 use lib.Dec.{leb, eqb}
@@ -31,7 +32,7 @@ use Rattle.index.specs.declared.walk.Begun.the-variants as Begun
 use Rattle.index.specs.declared.walk.Coming.{Coming}
 use Rattle.index.specs.declared.walk.Coming.the-variants as Coming
 use Rattle.index.specs.Mark.{mark, markBytes}
-use Rattle.index.specs.Keys.{roleOf, ownBy, ownIn, keyBy, keyIn, ownOf, pairAt, elementAt, turnOf, turned, owned, rest, value}
+use Rattle.index.specs.Keys.{roleOf, ownBy, ownIn, keyBy, keyIn, ownOf, pairAt, turnOf, turned, owned, rest, value}
 use Rattle.index.specs.Index.{rootBy, rootIn, rootOf, keysOf}
 use Rattle.index_theorems.proofs.Refusals.{Behind, behind, answerOf}
 
@@ -70,8 +71,8 @@ module _ (image s : List ℕ) where
   Comes at (Coming.Key c t) = Bytes image → (c .at ≡ at + 6) × (c .at ≤ length image)
   Comes at Coming.Stop = Unit {0}
 
-  module _ (at : ℕ) (due : Rest) (last : Cursor → Coming) (h : (c : Cursor) → (Bytes image → Behind image at c) → Comes at (last c)) where
-    came : (r : Record) (c : Cursor) → recordAt image at ≡ Found r c → Comes at (keyBy s due last (roleOf r) c)
+  module _ (at : ℕ) (due : Rest) (ends : Bool) where
+    came : (r : Record) (c : Cursor) → recordAt image at ≡ Found r c → Comes at (keyBy s due ends (roleOf r) c)
     unfolding size
     came (R.Number n) c e = tt
     came (R.Boolean b) c e = tt
@@ -81,7 +82,8 @@ module _ (image s : List ℕ) where
     came R.Undefined c e = tt
     came (R.Reference n) c e = tt
     came (R.EcmaArray n) c e = tt
-    came R.ObjectEnd c e = h c (λ known. behind image known at R.ObjectEnd c e)
+    came R.ObjectEnd c e =
+        picked (Comes at) ends (Coming.Done c) Coming.Stop (λ _ known l. let p = behind image known at R.ObjectEnd c e in (omega (arith, p .from), p .fits)) (λ _. tt)
     came (R.StrictArray n) c e = tt
     came (R.Date n present zone) c e = tt
     came R.Unsupported c e = tt
@@ -96,25 +98,25 @@ module _ (image s : List ℕ) where
     came (R.Message p n q m) c e = tt
     came (R.Lso l p n) c e = tt
 
-    came-in : (t : Taken) → recordAt image at ≡ t → Comes at (keyIn s due last t)
+    came-in : (t : Taken) → recordAt image at ≡ t → Comes at (keyIn s due ends t)
     came-in (Found r c) e = came r c e
     came-in Bad e = tt
 
-  pair-comes : (at : ℕ) → Comes at (pairAt image s at)
-  unfolding pairAt
-  pair-comes at = came-in at Pairs Coming.Done (λ c b known l. let p = b known in (omega (arith, p .from), p .fits)) (recordAt image at) refl
+    pair-comes : Comes at (pairAt image s due ends at)
+    unfolding pairAt
+    pair-comes = came-in (recordAt image at) refl
 
   turn-comes : (due : Rest) (at : ℕ) → Comes at (turnOf image s due at)
-  unfolding turnOf elementAt
+  unfolding turnOf
   turn-comes Nothing at = λ known l. (omega arith, l)
   turn-comes (Values n) at =
       picked (Comes at) (eqb n 0) (Coming.Done (to at)) (Coming.Value (to at) (Values (n - 1))) (λ _ known l. (omega arith, l)) (λ _. refl)
-  turn-comes Dense at = picked (Comes at) (valueAt image at) (Coming.Value (to at) Dense) (pairAt image s at) (λ _. refl) (λ _. pair-comes at)
-  turn-comes Pairs at = pair-comes at
+  turn-comes Dense at = picked (Comes at) (valueAt image at) (Coming.Value (to at) Dense) (pairAt image s Pairs true at) (λ _. refl) (λ _. pair-comes at Pairs true)
+  turn-comes Pairs at = pair-comes at Pairs true
   turn-comes Body at =
-      picked (Comes at) (leb (length image) at) (Coming.Done (to at)) (keyIn s Body (λ c. Coming.Stop) (recordAt image at))
+      picked (Comes at) (leb (length image) at) (Coming.Done (to at)) (pairAt image s Body false at)
       (λ _ known l. (omega arith, l))
-      (λ _. came-in at Body (λ c. Coming.Stop) (λ c b. tt) (recordAt image at) refl)
+      (λ _. pair-comes at Body false)
 
   module _ (v : ℕ → Out) (inner : (k at : ℕ) → Rowed (Paced 1 at k) k (v at)) (place d : ℕ) where
     rest-rowed : (f : ℕ) (due : Rest) (at k : ℕ) → Rowed (Paced 0 at k) k (rest v image s place d f due at)

@@ -12,7 +12,7 @@ use Rattle.index.specs.declared.find.Way.{Way}
 use Rattle.index.specs.declared.find.Way.the-variants.{At, Nothing}
 use Rattle.index.specs.Mark.{mark, markAt, rowsAt}
 use Rattle.index.specs.Order.{orderOf, keyOf}
-use Rattle.index.specs.Keys.{roleAt, ownOf, pairAt, elementAt, turnOf, rest, value}
+use Rattle.index.specs.Keys.{roleAt, ownOf, pairAt, turnOf, rest, value}
 use Rattle.index.specs.Index.{rootOf, keysOf, Indexed, unindexed, unless, indexOf}
 use Rattle.index.specs.Find.{isValue, opensAt, startsAt, pastOf, leadsOf, upperOf, lastOf, stepOf, downOf, findOf}
 use Rattle.index_theorems.specs.Way.{shorts}
@@ -72,7 +72,7 @@ table =
     and []
 
 pub examples : map (λ e. indexOf (e .image) text (e .room)) table ≡ map (λ e. e .result) table
-unfolding keysOf rootOf rest value ownOf pairAt elementAt turnOf unless rowsAt markAt out.bytes writing.valueAt recordAt bodyAt flagAt shortAt longAt u16 u32 u64 flag
+unfolding keysOf rootOf rest value ownOf pairAt turnOf unless rowsAt markAt out.bytes writing.valueAt recordAt bodyAt flagAt shortAt longAt u16 u32 u64 flag
     short long zoned u8At u16At u24At u32At u64At ends
 examples = refl
 

@@ -1,5 +1,6 @@
 -- Each test in turn; where one fails it does not lead on.
 use Rattle.index.specs.Find.{leadsOf}
+use Rattle.index.proofs.Others.{leads-other}
 use borrow.Author.Tests.{eq-eqb, ne-eqb}
 use mathlib.Core.Path.{sym, _∙_}
 use borrow.Author.Needs.{needs}
@@ -21,44 +22,23 @@ returns-3 c =
 returns-4 : tie.Need-returns-4
 unfolding leadsOf
 returns-4 c =
-    let a = c .before .before .before .before .before .before .before .before .before .args in
-    rw (eq-eqb (a .container) (a .m .container) (c .before .before .before .before .if1 .left), sym (c .before .before .record-at .ensures) ∙ c .enum-told .given .1)
+    let a = c .before .before .before .before .before .before .before .before .before .before .before .before .before .before .before .before .before .before .before .before .before .before .args in
+    rw (eq-eqb (a .container) (a .m .container) (c .before .before .before .before .before .before .before .before .before .before .before .before .before .before .before .before .before .if1 .left), sym (c .before .before .before .before .before .before .before .before .before .before .before .before .before .before .before .record-at .ensures) ∙ c .before .before .before .before .before .before .before .before .before .before .before .before .before .r .given .1, sym (c .before .before .before .before .before .before .before .before .before .before .before .role-of .ensures) ∙ c .before .before .before .before .before .before .before .before .before .p .given .1, eq-eqb _ _ (c .before .before .before .before .before .if2 .left), ← c .before .before .part .ensures, sym (c .before .before .before .before .inside .ensures) ∙ c .before .before .before .if3 .taken, sym (c .before .same .ensures) ∙ c .if4 .left)
 
 returns-5 : tie.Need-returns-5
 unfolding leadsOf
 returns-5 c =
-    let a = c .before .before .before .before .before .before .before .before .before .before .before .before .before .before .before .before .before .before .before .before .before .before .args in
-    rw (eq-eqb (a .container) (a .m .container) (c .before .before .before .before .before .before .before .before .before .before .before .before .before .before .before .before .before .if1 .left), sym (c .before .before .before .before .before .before .before .before .before .before .before .before .before .before .before .record-at .ensures) ∙ c .before .before .before .before .before .before .before .before .before .before .before .before .before .r .given .1, sym (c .before .before .before .before .before .before .before .before .before .before .before .role-of .ensures) ∙ c .before .before .before .before .before .before .before .before .before .p .given .1, eq-eqb _ _ (c .before .before .before .before .before .if2 .left), ← c .before .before .part .ensures, sym (c .before .before .before .before .inside .ensures) ∙ c .before .before .before .if3 .taken, sym (c .before .same .ensures) ∙ c .if4 .left)
-
-returns-6 : tie.Need-returns-6
-unfolding leadsOf
-returns-6 c =
     let a = c .before .before .before .before .before .before .before .before .before .before .before .before .before .before .before .before .before .before .before .args in
     rw (eq-eqb (a .container) (a .m .container) (c .before .before .before .before .before .before .before .before .before .before .before .before .before .before .if1 .left), sym (c .before .before .before .before .before .before .before .before .before .before .before .before .record-at .ensures) ∙ c .before .before .before .before .before .before .before .before .before .before .r .given .1, sym (c .before .before .before .before .before .before .before .before .role-of .ensures) ∙ c .before .before .before .before .before .before .p .given .1, eq-eqb _ _ (c .before .before .if2 .left), sym (c .before .inside .ensures) ∙ c .if3 .left)
+
+returns-6 : tie.Need-returns-6
+returns-6 c = sym (leads-other _ _ _ _ _ (c .before .before .before .before .before .before .before .if1 .left) (sym (c .before .before .before .before .before .record-at .ensures) ∙ c .before .before .before .r .given .1) (rw (c .before .role-of .ensures) at (c .match2 .keys2)))
 
 returns-7 : tie.Need-returns-7
 unfolding leadsOf
 returns-7 c =
-    let a = c .before .before .before .before .before .before .before .before .before .before .before .before .before .args in
-    rw (eq-eqb (a .container) (a .m .container) (c .before .before .before .before .before .before .before .before .if1 .left), sym (c .before .before .before .before .before .before .record-at .ensures) ∙ c .before .before .before .before .r .given .1, sym (c .before .before .role-of .ensures) ∙ c .enum-told2 .given .1)
-
-returns-8 : tie.Need-returns-8
-unfolding leadsOf
-returns-8 c =
-    let a = c .before .before .before .before .before .before .before .before .before .before .before .before .before .args in
-    rw (eq-eqb (a .container) (a .m .container) (c .before .before .before .before .before .before .before .before .if1 .left), sym (c .before .before .before .before .before .before .record-at .ensures) ∙ c .before .before .before .before .r .given .1, sym (c .before .before .role-of .ensures) ∙ c .enum-told3 .given .1)
-
-returns-9 : tie.Need-returns-9
-unfolding leadsOf
-returns-9 c =
-    let a = c .before .before .before .before .before .before .before .before .before .before .before .before .before .args in
-    rw (eq-eqb (a .container) (a .m .container) (c .before .before .before .before .before .before .before .before .if1 .left), sym (c .before .before .before .before .before .before .record-at .ensures) ∙ c .before .before .before .before .r .given .1, sym (c .before .before .role-of .ensures) ∙ c .enum-told4 .given .1)
-
-returns-10 : tie.Need-returns-10
-unfolding leadsOf
-returns-10 c =
-    let a = c .before .before .before .before .before .before .before .before .before .before .before .before .before .args in
-    rw (eq-eqb (a .container) (a .m .container) (c .before .before .before .before .before .before .before .before .if1 .left), sym (c .before .before .before .before .before .before .record-at .ensures) ∙ c .before .before .before .before .r .given .1, sym (c .before .before .role-of .ensures) ∙ c .enum-told5 .given .1)
+    let a = c .before .before .before .before .before .before .before .before .before .args in
+    rw (eq-eqb (a .container) (a .m .container) (c .before .before .before .before .if1 .left), sym (c .before .before .record-at .ensures) ∙ c .enum-told .given .1)
 
 pub leads-spec : {M : Type 1} → statement M
 unfolding leadsOf
@@ -70,7 +50,6 @@ leads-spec =
     (λ c. search needs)
     (λ c κs. search needs)
     (λ c. search needs)
-    (λ c. search needs)
     (λ c κs. search needs)
     (λ c. search needs)
     (λ c. search needs)
@@ -81,13 +60,7 @@ leads-spec =
     (λ c κs. search needs)
     returns-3
     (λ c. search needs)
-    (λ c. search needs)
-    (λ c. search needs)
-    (λ c. search needs)
     returns-4
     returns-5
     returns-6
-    returns-7
-    returns-8
-    returns-9
-    returns-10)
+    returns-7)

@@ -1,5 +1,6 @@
 -- A file, whose name is right or not, or one value.
 use Rattle.index.specs.Index.{rootOf}
+use Rattle.index.proofs.Others.{root-other}
 use mathlib.Core.Path.{sym, _∙_}
 use borrow.Author.Needs.{needs}
 use Rattle.index.proofs.make.root.Statement.{statement}
@@ -7,53 +8,30 @@ use Rattle.index.proofs.make.root.Tie as tie
 
 returns : tie.Need-returns
 unfolding rootOf
-returns c =
-    rw (sym (c .before .before .before .before .before .before .before .before .before .record-at .ensures) ∙ c .before .before .before .before .before .before .before .r .given .1, sym (c .before .before .before .before .before .role-of .ensures) ∙ c .before .before .before .p .given .1, sym (c .before .named .ensures) ∙ c .if1 .taken)
+returns c = rw (sym (c .before .before .before .before .before .before .before .before .before .record-at .ensures) ∙ c .before .before .before .before .before .before .before .r .given .1, sym (c .before .before .before .before .before .role-of .ensures) ∙ c .before .before .before .p .given .1, sym (c .before .named .ensures) ∙ c .if1 .taken)
+
+returns-2 : tie.Need-returns-2
+unfolding rootOf
+returns-2 c = rw (sym (c .before .before .before .before .before .before .before .before .before .record-at .ensures) ∙ c .before .before .before .before .before .before .before .r .given .1, sym (c .before .before .before .before .before .role-of .ensures) ∙ c .before .before .before .p .given .1, sym (c .before .named .ensures) ∙ c .if1 .left)
 
 returns-3 : tie.Need-returns-3
-unfolding rootOf
-returns-3 c =
-    rw (sym (c .before .before .before .before .before .before .before .before .before .record-at .ensures) ∙ c .before .before .before .before .before .before .before .r .given .1, sym (c .before .before .before .before .before .role-of .ensures) ∙ c .before .before .before .p .given .1, sym (c .before .named .ensures) ∙ c .if1 .left)
+returns-3 c = sym (root-other _ _ (sym (c .before .before .before .before .before .record-at .ensures) ∙ c .before .before .before .r .given .1) (rw (c .before .role-of .ensures) at (c .match2 .keys2)))
 
 returns-4 : tie.Need-returns-4
 unfolding rootOf
-returns-4 c =
-    rw (sym (c .before .before .before .before .before .before .record-at .ensures) ∙ c .before .before .before .before .r .given .1, sym (c .before .before .role-of .ensures) ∙ c .enum-told2 .given .1)
-
-returns-5 : tie.Need-returns-5
-unfolding rootOf
-returns-5 c =
-    rw (sym (c .before .before .before .before .before .before .record-at .ensures) ∙ c .before .before .before .before .r .given .1, sym (c .before .before .role-of .ensures) ∙ c .enum-told3 .given .1)
-
-returns-6 : tie.Need-returns-6
-unfolding rootOf
-returns-6 c =
-    rw (sym (c .before .before .before .before .before .before .record-at .ensures) ∙ c .before .before .before .before .r .given .1, sym (c .before .before .role-of .ensures) ∙ c .enum-told4 .given .1)
-
-returns-7 : tie.Need-returns-7
-unfolding rootOf
-returns-7 c =
-    rw (sym (c .before .before .before .before .before .before .record-at .ensures) ∙ c .before .before .before .before .r .given .1, sym (c .before .before .role-of .ensures) ∙ c .enum-told5 .given .1)
+returns-4 c = rw (sym (c .before .before .record-at .ensures) ∙ c .enum-told .given .1)
 
 pub root-spec : {M : Type 1} → statement M
-unfolding rootOf
 root-spec =
     tie.close
     (tie.spec
     (λ c κs. search needs)
     (λ c. search needs)
-    (λ c. search needs)
     (λ c κs. search needs)
     (λ c. search needs)
     (λ c κs. search needs)
     returns
+    returns-2
     (λ c. search needs)
-    (λ c. search needs)
-    (λ c. search needs)
-    (λ c. search needs)
-    (λ c. rw (sym (c .before .before .record-at .ensures) ∙ c .enum-told .given .1))
     returns-3
-    returns-4
-    returns-5
-    returns-6
-    returns-7)
+    returns-4)

@@ -1,44 +1,33 @@
--- A key's record, whose text is right or not, the end's, or another, or none.
+-- A key's record, whose text is right or not, the end's, which may stand there or not, or another, or none.
 use Rattle.index.specs.Keys.{pairAt}
-use mathlib.Core.Path.{_≡_, refl, sym, ap, _∙_}
+use Rattle.index.proofs.Others.{pair-other}
+use mathlib.Core.Path.{sym, _∙_}
 use borrow.Author.Needs.{needs}
 use Rattle.index.proofs.walk.pair.Statement.{statement}
 use Rattle.index.proofs.walk.pair.Tie as tie
 
 returns : tie.Need-returns
 unfolding pairAt
-returns c =
-    rw (sym (c .before .before .before .before .before .before .before .before .before .record-at .ensures) ∙ c .before .before .before .before .before .before .before .r .given .1, sym (c .before .before .before .before .before .role-of .ensures) ∙ c .before .before .before .p .given .1, sym (c .before .named .ensures) ∙ c .if1 .taken)
+returns c = rw (sym (c .before .before .before .before .before .before .before .before .before .record-at .ensures) ∙ c .before .before .before .before .before .before .before .r .given .1, sym (c .before .before .before .before .before .role-of .ensures) ∙ c .before .before .before .p .given .1, sym (c .before .named .ensures) ∙ c .if1 .taken)
 
 returns-2 : tie.Need-returns-2
 unfolding pairAt
-returns-2 c =
-    rw (sym (c .before .before .record-at .ensures) ∙ c .enum-told .given .1)
+returns-2 c = rw (sym (c .before .before .before .before .before .before .before .record-at .ensures) ∙ c .before .before .before .before .before .r .given .1, sym (c .before .before .before .role-of .ensures) ∙ c .before .enum-told .given .1, c .if2 .taken)
 
 returns-3 : tie.Need-returns-3
 unfolding pairAt
-returns-3 c =
-    rw (sym (c .before .before .before .before .before .before .before .before .before .record-at .ensures) ∙ c .before .before .before .before .before .before .before .r .given .1, sym (c .before .before .before .before .before .role-of .ensures) ∙ c .before .before .before .p .given .1, sym (c .before .named .ensures) ∙ c .if1 .left)
+returns-3 c = rw (sym (c .before .before .before .before .before .before .before .before .before .record-at .ensures) ∙ c .before .before .before .before .before .before .before .r .given .1, sym (c .before .before .before .before .before .role-of .ensures) ∙ c .before .before .before .p .given .1, sym (c .before .named .ensures) ∙ c .if1 .left)
 
 returns-4 : tie.Need-returns-4
 unfolding pairAt
-returns-4 c =
-    rw (sym (c .before .before .before .before .before .before .record-at .ensures) ∙ c .before .before .before .before .r .given .1, sym (c .before .before .role-of .ensures) ∙ c .enum-told2 .given .1)
+returns-4 c = rw (sym (c .before .before .before .before .before .before .before .record-at .ensures) ∙ c .before .before .before .before .before .r .given .1, sym (c .before .before .before .role-of .ensures) ∙ c .before .enum-told .given .1, c .if2 .left)
 
 returns-5 : tie.Need-returns-5
-unfolding pairAt
-returns-5 c =
-    rw (sym (c .before .before .before .before .before .before .record-at .ensures) ∙ c .before .before .before .before .r .given .1, sym (c .before .before .role-of .ensures) ∙ c .enum-told3 .given .1)
+returns-5 c = sym (pair-other _ _ _ (sym (c .before .before .before .before .before .record-at .ensures) ∙ c .before .before .before .r .given .1) _ _ (rw (c .before .role-of .ensures) at (c .match2 .keys3)))
 
 returns-6 : tie.Need-returns-6
 unfolding pairAt
-returns-6 c =
-    rw (sym (c .before .before .before .before .before .before .record-at .ensures) ∙ c .before .before .before .before .r .given .1, sym (c .before .before .role-of .ensures) ∙ c .enum-told4 .given .1)
-
-returns-7 : tie.Need-returns-7
-unfolding pairAt
-returns-7 c =
-    rw (sym (c .before .before .before .before .before .before .record-at .ensures) ∙ c .before .before .before .before .r .given .1, sym (c .before .before .role-of .ensures) ∙ c .enum-told5 .given .1)
+returns-6 c = rw (sym (c .before .before .record-at .ensures) ∙ c .enum-told2 .given .1)
 
 pub pair-spec : {M : Type 1} → statement M
 pair-spec =
@@ -46,18 +35,14 @@ pair-spec =
     (tie.spec
     (λ c κs. search needs)
     (λ c. search needs)
-    (λ c. search needs)
     (λ c κs. search needs)
     (λ c. search needs)
     (λ c κs. search needs)
     returns
     (λ c. search needs)
-    (λ c. search needs)
-    (λ c. search needs)
-    (λ c. search needs)
     returns-2
+    (λ c. search needs)
     returns-3
     returns-4
     returns-5
-    returns-6
-    returns-7)
+    returns-6)

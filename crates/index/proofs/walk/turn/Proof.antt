@@ -3,7 +3,7 @@ use Rattle.index.specs.Keys.{turnOf}
 use borrow.Author.Tests.{eq-eqb, ne-eqb, le-leb, lt-leb}
 use denote.Ref.{now}
 use lib.ListN.{length}
-use mathlib.Core.Path.{_≡_, refl, sym, ap, _∙_}
+use mathlib.Core.Path.{sym, _∙_}
 use borrow.Author.Needs.{needs}
 use Rattle.index.proofs.walk.turn.Statement.{statement}
 use Rattle.index.proofs.walk.turn.Tie as tie
@@ -46,7 +46,7 @@ returns-7 c =
 returns-8 : tie.Need-returns-8
 unfolding turnOf
 returns-8 c =
-    let a = c .before .before .before .before .before .before .args in rw (c .before .before .enum-told4 .given .1, lt-leb (length (now (a .image))) (a .c .at) (c .before .if3 .left)) (c .element .ensures)
+    let a = c .before .before .before .before .before .before .args in rw (c .before .before .enum-told4 .given .1, lt-leb (length (now (a .image))) (a .c .at) (c .before .if3 .left)) (c .pair3 .ensures)
 
 pub turn-spec : {M : Type 1} → statement M
 turn-spec =
