@@ -3,13 +3,13 @@ use Rattle.index.specs.Keys.{value, rest}
 use Rattle.index.specs.Code.{Ready}
 use Rattle.index.specs.declared.walk.Ahead.the-variants as Ahead
 use Rattle.image.proofs.Pouring.{pour-then, pour-halt, pour-stop, pour-end}
-use Rattle.image.specs.Out.{pour, _>>=_}
+use Rattle.image.specs.Out.{pour}
 use borrow.Author.Needs.{needs}
 use denote.Ref.{now}
 use lib.ListN.{length}
 use native.Mathlib.Omega.{arith}
 use mathlib.Core.Bool.{true, false}
-use mathlib.Core.Path.{_≡_, refl, sym, ap, _∙_}
+use mathlib.Core.Path.{_≡_, refl, sym, _∙_}
 use Prim.Native.Nat.{ℕ, suc, _+_, _-_, _*_, _≤_, _<_}
 use borrow.Fn.Kinds.{In}
 use borrow.Fn.PlainCycle.{Measures, is, falls, and}

@@ -3,7 +3,7 @@ use Rattle.index.specs.Mark.{markBytes}
 use Rattle.wire.proofs.Laws.{laid-room, laid-none}
 use denote.Ref.{now}
 use native.Mathlib.Omega.{arith}
-use mathlib.Core.Path.{_≡_, refl, sym, ap, _∙_}
+use mathlib.Core.Path.{sym, _∙_}
 use borrow.Author.Needs.{needs}
 use Rattle.index.proofs.walk.emit.Statement.{statement}
 use Rattle.index.proofs.walk.emit.Tie as tie

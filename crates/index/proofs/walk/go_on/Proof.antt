@@ -4,8 +4,8 @@ use Rattle.index.specs.Keys.{turnOf}
 use Rattle.index.specs.declared.walk.Coming.the-variants as Coming
 use denote.Ref.{now}
 use native.Mathlib.Omega.{arith}
-use mathlib.Core.Path.{_≡_, refl, sym, ap, _∙_}
-use Prim.Native.Nat.{ℕ, _+_, _-_, _*_, _≤_, _<_}
+use mathlib.Core.Path.{_≡_, sym, _∙_}
+use Prim.Native.Nat.{_-_}
 use borrow.Author.Needs.{needs}
 use Rattle.index.proofs.walk.go_on.Statement.{statement}
 use Rattle.index.proofs.walk.go_on.Tie as tie
