@@ -1,7 +1,7 @@
 #!/usr/bin/env python3
 """index.py COUNTED PLUGIN WORST CORPUS: runs the program COUNTED (lookup.c) under qemu with PLUGIN on files of
 the folder CORPUS, and prints what the key index costs, in tables. WORST (worst.c) makes an order that
-the index's sort takes long for. bench/index makes all four.
+the index's sort takes long for, and counts its comparisons. bench/index makes all four.
 
 Needs: python3 and qemu-x86_64.
 Status: 0 all is counted; 2 wrong words, or a missing file or command; 3 a run failed."""
@@ -18,7 +18,6 @@ import corpus
 
 KEYS = 100_000
 PATHS = 16  # so many places of a file, evenly spread, are looked up
-SORT = os.path.join(common.ROOT, "crates", "index", "src", "sort.rt")
 
 
 def run(asked, *words):
@@ -59,39 +58,48 @@ def looking_up(asked):
         print(f"| {name}.lso | {len(ways[0])} | {found:,.0f} | {first:,.0f} | {first / found:,.0f} | {last:,.0f} | {last / found:,.0f} |", flush=True)
 
 
-def gaps():
-    """The gaps of the sort, as its source has them, and the last."""
-    with open(SORT) as f:
-        row = re.search(r"const GAPS: .*?= \[(.*?)\];", f.read(), re.S)
-    if not row:
-        raise common.Fault("%s: there are no gaps in it" % SORT)
-    return [1] + [int(g.replace("_", "")) for g in row[1].split(",") if g.strip()]
-
-
 def bits_reversed(i):
     return int(f"{i:017b}"[::-1], 2)
 
 
+def digits(rank):
+    return "%06d" % rank
+
+
+def alike(rank):
+    return "aaa" + chr(rank >> 14) + chr(rank >> 7 & 127) + chr(rank & 127)
+
+
 def orders(asked):
+    """Names, the ranks of the keys in that order, and what makes a key of six bytes of a rank."""
     numbers = list(range(KEYS))
-    yield "sorted", numbers
-    yield "reversed", numbers[::-1]
-    yield "all equal", [0] * KEYS
-    yield "random", random.Random(1).sample(numbers, KEYS)
-    yield "bits reversed", [bits_reversed(i) for i in numbers]
-    done = subprocess.run([asked.worst, str(KEYS), *map(str, gaps())], capture_output=True, check=True)
-    yield "the worst found", list(map(int, done.stdout.split()))
-    print(f"\nThe worst found takes {done.stderr.decode().strip()}.")
+    yield "sorted", numbers, digits
+    yield "reversed", numbers[::-1], digits
+    yield "all equal", [0] * KEYS, digits
+    yield "random", random.Random(1).sample(numbers, KEYS), digits
+    yield "bits reversed", [bits_reversed(i) for i in numbers], digits
+    done = subprocess.run([asked.worst, "make", str(KEYS)], capture_output=True, check=True)
+    worst = list(map(int, done.stdout.split()))
+    yield "the most comparisons found", worst, digits
+    yield "the same, all with three bytes in common", worst, alike
+
+
+def steps(asked, ranks):
+    """The comparisons and the exchanges a key."""
+    lines = "\n".join(map(str, ranks)).encode()
+    return subprocess.run([asked.worst, "count", str(KEYS)], input=lines, capture_output=True, check=True).stdout.decode().split()
 
 
 def sorting(asked):
-    print(f"\nMaking the index of {KEYS:,} keys of six bytes in one object\n\n| order | instructions | a key |\n|---|---|---|")
+    print(f"\nMaking the index of {KEYS:,} keys of six bytes in one object\n")
+    print("| order | instructions | a key | comparisons a key | exchanges a key |\n|---|---|---|---|---|")
     file = os.path.join(asked.corpus, "order.amf")
-    for name, ranks in orders(asked):
+    for name, ranks, key in orders(asked):
         with open(file, "wb") as f:
-            f.write(corpus.thing(*(("%06d" % r, b"\x05") for r in ranks)))
+            f.write(corpus.thing(*((key(r), b"\x05") for r in ranks)))
         made, keys = once(asked, "index", file)
-        print(f"| {name} | {made:,.0f} | {made / keys:,.0f} |", flush=True)
+        compared, exchanged = steps(asked, ranks)
+        print(f"| {name} | {made:,.0f} | {made / keys:,.0f} | {compared} | {exchanged} |", flush=True)
 
 
 def main():

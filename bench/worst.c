@@ -1,105 +1,93 @@
-/* worst N GAP..: prints the worst order found of N keys for Shell's sort with these gaps, from the smallest on: the rank of each key in a line. How many
-   comparisons it takes a key goes to standard error.
+/* worst make N: prints the order of N keys in which the index's sort was found to compare the most, the rank of each key in a line.
+   worst count N: reads such lines, ranks or equal numbers, and prints the comparisons and the exchanges a key that the sort makes of them.
 
-   A row that is in order for all gaps above one (its places are then ordered by the sums of those gaps alone) is left as it is by their passes. Of such rows
-   those take long in the passes below that rank places as far to the right as can be first: each is ranked behind the places that must come before it, and the
-   places are taken from the right on, in strides. Then the passes above are run backwards: two keys a gap apart are exchanged where the row stays in order for
-   the larger gaps. Each gap and some strides are tried, and the worst is kept. Of 3,000 keys, exchanges at random made it worse by 0.3 % and no more. */
+   The order is made by running the heap backwards. Taking the last key out of a heap of m + 1 brings the key of place m down to a place p, and those above p up
+   by one. Backwards, the key of p goes to place m, those above it come down by one, and a key that is later than all stands on top. What is free is p: any
+   place whose key is not later than the one above m. The nearer to the top it is the more comparisons settling makes, since it comes up to it from a leaf. So p
+   is the first of the highest such places, if they are three rows or more above the one that m hangs from; else the highest that leads to the next leaf, or the
+   one after it, below which places will come, so that late keys stand above them; else the place above m, which always does. At last each key is exchanged with
+   one below it, from the top on: that is the first phase backwards. */
 #include <stdint.h>
 #include <stdio.h>
 #include <stdlib.h>
 #include <string.h>
 
-enum { GAPS = 64 };
+static long n;
+static uint64_t *key, comparisons, exchanges;
 
-static long n, gap[GAPS];
-static int gaps;
-static uint32_t *row, *work, *worst;
-static long *stack, *ranked, count;
-static char *seen;
+static long above(long i) { return (i - 1) / 2; }
 
-static uint64_t comparisons(void) {
-    uint64_t made = 0;
-    memcpy(work, row, n * sizeof *row);
-    for (int k = gaps; k-- > 0;)
-        for (long i = gap[k]; i < n; i++) {
-            uint32_t held = work[i];
-            long j = i;
-            for (; gap[k] <= j; j -= gap[k]) {
-                made++;
-                if (work[j - gap[k]] <= held) break;
-                work[j] = work[j - gap[k]];
-            }
-            work[j] = held;
-        }
-    return made;
+static int row(long i) { return 63 - __builtin_clzl((unsigned long)i + 1); }
+
+static void exchange(long i, long j) {
+    uint64_t held = key[i];
+    key[i] = key[j];
+    key[j] = held;
+    exchanges++;
 }
 
-/* Ranks a place, behind those that gaps above number k demand before it. */
-static void rank(long place, int k) {
-    long depth = 0;
-    stack[depth++] = place;
-    while (depth > 0) {
-        long at = stack[depth - 1];
-        int j = gaps - 1;
-        while (j > k && (at < gap[j] || seen[at - gap[j]])) j--;
-        if (!seen[at] && j > k) {
-            stack[depth++] = at - gap[j];
-            continue;
-        }
-        depth--;
-        if (!seen[at]) ranked[count++] = at;
-        seen[at] = 1;
-    }
+static long place(long m) {
+    long hung = above(m), next = m % 2 ? hung + 1 : hung + 2, best = -1;
+    for (int r = 1; best < 0 && r <= row(hung) - 3; r++)
+        for (long i = (1L << r) - 1; i < (2L << r) - 1; i++)
+            if (best < 0 && key[i] <= key[hung]) best = i;
+    if (best < 0 && next < m)
+        for (long i = next; i > 0 && key[i] <= key[hung]; i = above(i)) best = i;
+    return best < 0 ? hung : best;
 }
 
-/* Whether the keys at a place and a gap behind it can be exchanged, so that the pass of that gap puts them back. */
-static int can(long i, int k) {
-    long next = i + gap[k];
-    if (row[i] >= row[next]) return 0;
-    for (int j = k + 1; j < gaps; j++) {
-        if (i + gap[j] < n && row[i + gap[j]] < row[next]) return 0;
-        if (next >= gap[j] && row[next - gap[j]] > row[i]) return 0;
+static void make(void) {
+    key[0] = 0;
+    for (long m = 1; m < n; m++) {
+        long i = place(m);
+        key[m] = key[i];
+        for (; i > 0; i = above(i)) key[i] = key[above(i)];
+        key[0] = (uint64_t)m;
     }
-    return 1;
+    for (long i = 0; i < n / 2; i++) exchange(i, 2 * i + 2 < n && key[2 * i + 2] < key[2 * i + 1] ? 2 * i + 2 : 2 * i + 1);
 }
 
-static void unsort(int k) {
-    for (int more = 1; more;) {
-        more = 0;
-        for (long i = n - 1 - gap[k]; i >= 0; i--)
-            for (long j = i; j + gap[k] < n && can(j, k); j += gap[k]) {
-                uint32_t held = row[j];
-                row[j] = row[j + gap[k]];
-                row[j + gap[k]] = held;
-                more = 1;
-            }
+/* As in crates/index/src/sort.rt. */
+static int comes(long i, long j) {
+    comparisons++;
+    return key[i] < key[j];
+}
+
+static void settle(long m, long i) {
+    long at = i;
+    while (at < m / 2) {
+        at = 2 * at + 1;
+        if (at + 1 < m && comes(at, at + 1)) at++;
     }
+    while (i < at && !comes(i, at)) at = above(at);
+    for (; i < at; at = above(at)) exchange(i, at);
+}
+
+static void sort(void) {
+    for (long i = n / 2; i-- > 0;) settle(n, i);
+    for (long m = n; --m > 0;) {
+        exchange(0, m);
+        settle(m, 0);
+    }
+    for (long i = 1; i < n; i++)
+        for (long j = i; j > 0 && comes(j, j - 1); j--) exchange(j, j - 1);
 }
 
 int main(int words, char **word) {
-    uint64_t most = 0;
-    n = words > 2 ? atol(word[1]) : 0;
-    gaps = words - 2;
-    if (n < 2 || gaps > GAPS) return 2;
-    for (int k = 0; k < gaps; k++) gap[k] = atol(word[k + 2]);
-    row = malloc(n * sizeof *row), work = malloc(n * sizeof *row), worst = malloc(n * sizeof *row);
-    stack = malloc(n * sizeof *stack), ranked = malloc(n * sizeof *ranked), seen = malloc(n);
-    if (!row || !work || !worst || !stack || !ranked || !seen) return 3;
-    for (int k = 0; k < gaps && gap[k] < n / 2; k++)
-        for (int s = 0; s < gaps && gap[s] < 200; s++) {
-            memset(seen, 0, n);
-            count = 0;
-            for (long b = 0; b < gap[s] && b < n; b++)
-                for (long i = n - 1 - b; i >= 0; i -= gap[s]) rank(i, k);
-            for (long r = 0; r < n; r++) row[ranked[r]] = (uint32_t)r;
-            for (int j = k + 1; j < gaps; j++) unsort(j);
-            uint64_t made = comparisons();
-            if (made > most) {
-                most = made;
-                memcpy(worst, row, n * sizeof *row);
-            }
-        }
-    for (long i = 0; i < n; i++) printf("%u\n", worst[i]);
-    fprintf(stderr, "%.1f comparisons a key\n", (double)most / (double)n);
+    n = words == 3 ? atol(word[2]) : 0;
+    if (n < 1 || n > 1 << 24) return 2;
+    key = malloc((size_t)n * sizeof *key);
+    if (!key) return 3;
+    if (strcmp(word[1], "make") == 0) {
+        make();
+        for (long i = 0; i < n; i++) printf("%llu\n", (unsigned long long)key[i]);
+        return 0;
+    }
+    for (long i = 0; i < n; i++) {
+        long rank;
+        if (scanf("%ld", &rank) != 1) return 2;
+        key[i] = (uint64_t)rank << 32 | (uint64_t)i; /* of equal keys the earlier comes first */
+    }
+    sort();
+    printf("%.1f %.1f\n", (double)comparisons / (double)n, (double)exchanges / (double)n);
 }
