@@ -95,15 +95,16 @@ def functions(crate, file, text, ts):
     return found
 
 
-# relations that fix a lent buffer as an equation does, each by a theorem: `Holds` by `contract-determined` of crates/index_theorems/proofs/Contract.antt
+# relations that fix a lent buffer as an equation does, each by a theorem: `Holds` by `index-determined` of crates/index_theorems/proofs/Determined.antt
 FIXED = "Holds"
 
 
 def exact(f):
-    """Whether a function's contract fixes its result and all that it is lent to change, by equations: then a program that meets it is the same program."""
+    """Whether a function's contract fixes its result and all that it is lent to change, by equations: then a program that meets it is the same program.
+    A slice that is returned is fixed by its bytes and its address together."""
     signature, *clauses = re.split(r"\b(?:requires|ensures) \{", f.head)
     said = " ".join(clauses)
-    result = re.search(r"λ (\w+)\. ⌜ \(*(?:\(?\w+ : [^)]*\) → )*(?:\1 ≡ (?!true →)|(?:ran|poured) \1 )", said)
+    result = re.search(r"λ (\w+)\. ⌜ \(*(?:\(?\w+ : [^)]*\) → )*(?:\1 ≡ (?!true →)|(?:ran|poured) \1 |ptr \1 ≡ )", said)
     lent = re.findall(r"(\w+): &mut ", signature)
     return (bool(result) or "->" not in signature) and all(
         re.search(rf"now \({p} \.exit\)\)? ≡|⌜ (?:{FIXED}) .*\(now \({p} \.exit\)\) ⌝", said) for p in lent

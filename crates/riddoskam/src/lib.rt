@@ -14,7 +14,7 @@ ghost use mathlib.Core.Path.{_≡_};
 ghost use Prim.Native.Nat.{_/_};
 ghost use lib.ListN.{length, take, drop};
 ghost use Rattle.wire.specs.Choice.{pick};
-ghost use Rattle.wire.specs.Text.{insideOf, partOf};
+ghost use Rattle.wire.specs.Text.{insideOf, partOf, placeOf};
 ghost use Rattle.image.specs.Whole.{padded};
 ghost use Rattle.image.specs.Out.{onto};
 ghost use Rattle.image.specs.Taking.{recordAt};
@@ -49,7 +49,7 @@ pub extern "C" fn riddoskam_part(
     from: &mut usize,
 ) -> usize
     ensures { λ r. ⌜ r ≡ pick (insideOf (now (input .entry)) place length) length 0 ⌝ }
-    ensures { λ _. ⌜ now (from .exit) ≡ pick (insideOf (now (input .entry)) place length) place 0 ⌝ }
+    ensures { λ _. ⌜ now (from .exit) ≡ placeOf (now (input .entry)) place length ⌝ }
     ensures { λ r. ⌜ take r (drop (now (from .exit)) (now (input .entry))) ≡ partOf (now (input .entry)) place length ⌝ }
 {
     if inside(input, place, length) {

@@ -1,6 +1,7 @@
 // The text that a place and a length name.
 ghost use mathlib.Core.Path.{_≡_};
-ghost use Rattle.wire.specs.Text.{insideOf, partOf};
+ghost use denote.Ref.{ptr};
+ghost use Rattle.wire.specs.Text.{insideOf, partOf, placeOf, further};
 
 pub fn inside(input: &[u8], place: usize, length: usize) -> bool
     ensures { λ r. ⌜ r ≡ insideOf (now (input .entry)) place length ⌝ }
@@ -15,6 +16,7 @@ pub fn inside(input: &[u8], place: usize, length: usize) -> bool
 // The empty part at the front where the place and the length are not inside.
 pub fn part(input: &[u8], place: usize, length: usize) -> &[u8]
     ensures { λ r. ⌜ now r ≡ partOf (now (input .entry)) place length ⌝ }
+    ensures { λ r. ⌜ ptr r ≡ further (placeOf (now (input .entry)) place length) (ptr (input .entry)) ⌝ }
 {
     if place <= input.len() {
         if length <= input.len() - place {

@@ -43,7 +43,7 @@ returns c =
     let x1 = laid-field o (a .at) (r .mark) x0 (c .before .before .before .before .before .before .before .before .before .before .before .before .before .before .before .lay .ensures .0) (c .before .before .before .before .before .before .before .before .before .before .before .before .before .before .before .lay .ensures .1) in
     let x2 = laid-field o (a .at) (r .a) x1 (c .before .before .before .before .before .before .before .before .before .before .before .lay2 .ensures .0) (c .before .before .before .before .before .before .before .before .before .before .before .lay2 .ensures .1) in
     let x3 = laid-field o (a .at) (r .b) x2 (c .before .before .before .before .before .before .before .lay3 .ensures .0) (c .before .before .before .before .before .before .before .lay3 .ensures .1) in
-    laid-row t r (a .at) o x3 (rw (← c .before .before .before .part .ensures) (c .before .before .write-bytes .ensures .1)) (omega arith)
+    laid-row t r (a .at) o x3 (rw (← c .before .before .before .part .ensures .0) (c .before .before .write-bytes .ensures .1)) (omega arith)
 
 returns-2 : tie.Need-returns-2
 returns-2 c =

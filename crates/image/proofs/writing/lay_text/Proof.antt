@@ -21,7 +21,7 @@ returns c =
     let k = length-text t r (c .before .before .before .before .before .before .before .before .before .before .before .before .before .before .before .before .before .pre .2) in
     let x = laid-number o (a .at) (a .v) (a .mark) (laid-nothing o (a .at)) (omega arith) (c .before .before .before .before .before .before .before .before .before .before .before .write-number .ensures .1) in
     let y = laid-number o (a .at) (a .w) (a .n) x (omega arith) (c .before .before .before .before .before .before .before .write-number2 .ensures .1) in
-    laid-row t r (a .at) o (laid-same o (a .at) (sym (append-nil _)) y) (rw (← c .before .before .before .part .ensures) (c .before .before .write-bytes .ensures .1)) (omega arith)
+    laid-row t r (a .at) o (laid-same o (a .at) (sym (append-nil _)) y) (rw (← c .before .before .before .part .ensures .0) (c .before .before .write-bytes .ensures .1)) (omega arith)
 
 returns-2 : tie.Need-returns-2
 returns-2 c =

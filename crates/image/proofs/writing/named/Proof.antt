@@ -24,7 +24,7 @@ returns c =
 returns-2 : tie.Need-returns-2
 returns-2 c =
     let e = sym (c .before .before .before .before .inside .ensures) ∙ c .before .before .before .if1 .taken in
-    rw e (c .is-utf8 .ensures ∙ ap utf8 (c .before .part .ensures ∙ rw e))
+    rw e (c .is-utf8 .ensures ∙ ap utf8 (c .before .part .ensures .0 ∙ rw e))
 
 returns-3 : tie.Need-returns-3
 returns-3 c =

@@ -31,7 +31,7 @@ returns-2 : tie.Need-returns-2 Inv-loop μ-loop
 returns-2 c =
     let a = c .before .before .before .before .before .before .before .before .before .before .before .before .before .before .before .before .args in
     let l = c .before .before .before .before .before .before .before .before .before .before .before .loop in
-    sym (l .inv .3 ∙ down-goes (now (a .image)) (now (a .text)) (rows (length (now (a .index)) / 13) (now (a .index))) (now (a .path)) (l .i) (l .place) (c .before .before .before .before .before .before .before .before .before .before .loop-test .taken) _ _ (sym (c .before .before .before .before .before .before .before .before .before .be-u16 .ensures) ∙ c .before .before .before .before .before .before .before .n .given .1) (sym (c .before .before .before .before .before .inside .ensures) ∙ c .before .before .before .before .if1 .taken) (l .inv .1) (l .inv .2) _ (sym (rw (c .before .before .before .part .ensures) at (c .before .before .step .ensures)) ∙ c .enum-told2 .given .1))
+    sym (l .inv .3 ∙ down-goes (now (a .image)) (now (a .text)) (rows (length (now (a .index)) / 13) (now (a .index))) (now (a .path)) (l .i) (l .place) (c .before .before .before .before .before .before .before .before .before .before .loop-test .taken) _ _ (sym (c .before .before .before .before .before .before .before .before .before .be-u16 .ensures) ∙ c .before .before .before .before .before .before .before .n .given .1) (sym (c .before .before .before .before .before .inside .ensures) ∙ c .before .before .before .before .if1 .taken) (l .inv .1) (l .inv .2) _ (sym (rw (c .before .before .before .part .ensures .0) at (c .before .before .step .ensures)) ∙ c .enum-told2 .given .1))
 
 add-i : tie.Need-add-i Inv-loop μ-loop
 add-i c =
@@ -50,7 +50,7 @@ loop-again c =
       b,
       l .inv .1 - 1,
       omega arith,
-      l .inv .3 ∙ down-goes (now (a .image)) (now (a .text)) (rows (length (now (a .index)) / 13) (now (a .index))) (now (a .path)) (l .i) (l .place) (c .before .before .before .before .before .before .before .before .before .before .before .loop-test .taken) _ _ (sym (c .before .before .before .before .before .before .before .before .before .before .be-u16 .ensures) ∙ c .before .before .before .before .before .before .before .before .n .given .1) (sym (c .before .before .before .before .before .before .inside .ensures) ∙ c .before .before .before .before .before .if1 .taken) (l .inv .1) (l .inv .2) _ (sym (rw (c .before .before .before .before .part .ensures) at (c .before .before .before .step .ensures)) ∙ c .before .at .given .1),
+      l .inv .3 ∙ down-goes (now (a .image)) (now (a .text)) (rows (length (now (a .index)) / 13) (now (a .index))) (now (a .path)) (l .i) (l .place) (c .before .before .before .before .before .before .before .before .before .before .before .loop-test .taken) _ _ (sym (c .before .before .before .before .before .before .before .before .before .before .be-u16 .ensures) ∙ c .before .before .before .before .before .before .before .before .n .given .1) (sym (c .before .before .before .before .before .before .inside .ensures) ∙ c .before .before .before .before .before .if1 .taken) (l .inv .1) (l .inv .2) _ (sym (rw (c .before .before .before .before .part .ensures .0) at (c .before .before .before .step .ensures)) ∙ c .before .at .given .1),
     )
 
 returns-3 : tie.Need-returns-3 Inv-loop μ-loop

@@ -17,13 +17,13 @@ returns-3 : tie.Need-returns-3
 unfolding leadsOf
 returns-3 c =
     let a = c .before .before .before .before .before .before .before .before .before .before .before .before .before .before .before .before .before .before .before .before .before .before .before .args in
-    rw (eq-eqb (a .container) (a .m .container) (c .before .before .before .before .before .before .before .before .before .before .before .before .before .before .before .before .before .before .if1 .left), sym (c .before .before .before .before .before .before .before .before .before .before .before .before .before .before .before .before .record-at .ensures) ∙ c .before .before .before .before .before .before .before .before .before .before .before .before .before .before .r .given .1, sym (c .before .before .before .before .before .before .before .before .before .before .before .before .role-of .ensures) ∙ c .before .before .before .before .before .before .before .before .before .before .p .given .1, eq-eqb _ _ (c .before .before .before .before .before .before .if2 .left), ← c .before .before .before .part .ensures, sym (c .before .before .before .before .before .inside .ensures) ∙ c .before .before .before .before .if3 .taken, sym (c .before .before .same .ensures) ∙ c .before .if4 .taken) (c .is-value .ensures)
+    rw (eq-eqb (a .container) (a .m .container) (c .before .before .before .before .before .before .before .before .before .before .before .before .before .before .before .before .before .before .if1 .left), sym (c .before .before .before .before .before .before .before .before .before .before .before .before .before .before .before .before .record-at .ensures) ∙ c .before .before .before .before .before .before .before .before .before .before .before .before .before .before .r .given .1, sym (c .before .before .before .before .before .before .before .before .before .before .before .before .role-of .ensures) ∙ c .before .before .before .before .before .before .before .before .before .before .p .given .1, eq-eqb _ _ (c .before .before .before .before .before .before .if2 .left), ← c .before .before .before .part .ensures .0, sym (c .before .before .before .before .before .inside .ensures) ∙ c .before .before .before .before .if3 .taken, sym (c .before .before .same .ensures) ∙ c .before .if4 .taken) (c .is-value .ensures)
 
 returns-4 : tie.Need-returns-4
 unfolding leadsOf
 returns-4 c =
     let a = c .before .before .before .before .before .before .before .before .before .before .before .before .before .before .before .before .before .before .before .before .before .before .args in
-    rw (eq-eqb (a .container) (a .m .container) (c .before .before .before .before .before .before .before .before .before .before .before .before .before .before .before .before .before .if1 .left), sym (c .before .before .before .before .before .before .before .before .before .before .before .before .before .before .before .record-at .ensures) ∙ c .before .before .before .before .before .before .before .before .before .before .before .before .before .r .given .1, sym (c .before .before .before .before .before .before .before .before .before .before .before .role-of .ensures) ∙ c .before .before .before .before .before .before .before .before .before .p .given .1, eq-eqb _ _ (c .before .before .before .before .before .if2 .left), ← c .before .before .part .ensures, sym (c .before .before .before .before .inside .ensures) ∙ c .before .before .before .if3 .taken, sym (c .before .same .ensures) ∙ c .if4 .left)
+    rw (eq-eqb (a .container) (a .m .container) (c .before .before .before .before .before .before .before .before .before .before .before .before .before .before .before .before .before .if1 .left), sym (c .before .before .before .before .before .before .before .before .before .before .before .before .before .before .before .record-at .ensures) ∙ c .before .before .before .before .before .before .before .before .before .before .before .before .before .r .given .1, sym (c .before .before .before .before .before .before .before .before .before .before .before .role-of .ensures) ∙ c .before .before .before .before .before .before .before .before .before .p .given .1, eq-eqb _ _ (c .before .before .before .before .before .if2 .left), ← c .before .before .part .ensures .0, sym (c .before .before .before .before .inside .ensures) ∙ c .before .before .before .if3 .taken, sym (c .before .same .ensures) ∙ c .if4 .left)
 
 returns-5 : tie.Need-returns-5
 unfolding leadsOf

@@ -9,7 +9,7 @@ use Rattle.index.proofs.order.key_text.Tie as tie
 returns : tie.Need-returns
 returns c =
     let a = c .before .before .before .before .before .before .before .before .before .before .before .before .args in
-    c .part .ensures
+    c .part .ensures .0
     ∙ sym (key-there (now (a .image)) (now (a .text)) (a .key) _ _ (sym (c .before .before .before .before .before .before .before .before .before .be-u8 .ensures) ∙ c .before .before .before .before .before .before .before .kind .given .1) (c .before .before .before .before .before .if1 .taken) _ _ _ (sym (c .before .before .before .before .short-at .ensures) ∙ c .before .before .p .given .1))
 
 returns-2 : tie.Need-returns-2

@@ -8,7 +8,7 @@ use Rattle.index.proofs.walk.named.Tie as tie
 
 returns : tie.Need-returns
 returns c =
-    let a = c .before .before .before .before .before .args in c .is-utf8 .ensures ∙ (rw (c .before .part .ensures) (named-inside (now (a .text)) (a .p) (a .n) (sym (c .before .before .before .inside .ensures) ∙ c .before .before .if1 .taken)))
+    let a = c .before .before .before .before .before .args in c .is-utf8 .ensures ∙ (rw (c .before .part .ensures .0) (named-inside (now (a .text)) (a .p) (a .n) (sym (c .before .before .before .inside .ensures) ∙ c .before .before .if1 .taken)))
 
 pub named-spec : {M : Type 1} → statement M
 named-spec =
