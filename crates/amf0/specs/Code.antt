@@ -5,6 +5,7 @@ use mathlib.Core.List.{List}
 use mathlib.Core.Bool.{Bool, true, false}
 use lib.Dec.{eqb}
 use Rattle.wire.specs.Choice.{pick}
+use Rattle.wire.specs.Limit as limit
 use Rattle.wire.specs.declared.cursor.Cursor.{Cursor}
 use Rattle.image.specs.declared.record.Record.{Record}
 use Rattle.image.specs.declared.reading.Step.{Step}
@@ -32,11 +33,11 @@ pub record FieldsWithin (x : Fields) (low high : ℕ) : Type 0 where
 
 -- the most bytes that a row comes to: three numbers, and a text
 abbrev pub longest : ℕ
-longest = 1048600
+longest = 24 + limit.bytes
 
 -- the most that a byte of an image is put out as, with what a layer puts around its values: four rows
 abbrev pub growth : ℕ
-growth = 4194400
+growth = 4 * longest
 
 -- how many bytes a writing can have put out at a place of the image
 abbrev pub room : ℕ → ℕ

@@ -39,6 +39,11 @@ ghost use Rattle.amf0.specs.Shape.{Value};
 ghost use Rattle.amf0.specs.Writing.{shapeOf, plain as plainOf, among, kinds, valueAt, value, rest as restOf, valueIn, writeOf};
 ghost use Rattle.amf0.specs.Code.{Ahead, longest, room, thenOf, zoneFits, Owned, Paired, dueAt, owed};
 
+// The most bytes of a string whose length has two bytes.
+const SHORT: usize = 0xFFFF;
+// The most bytes that a layer may have put out before a value.
+const BEFORE: usize = 0x1000_0000_0000_0000;
+
 // What follows a value's own bytes: nothing, pairs up to the end, values without a key before such pairs, or so many values.
 pub enum Rest {
     Nothing,
@@ -144,7 +149,7 @@ fn string(out: &mut [u8], image: &[u8], text: &[u8], c: Cursor, at: usize, count
 {
     match long_at(image, c) {
         Text::Got(p, n, e) => {
-            if n <= 0xFFFF {
+            if n <= SHORT {
                 then(
                     emit_text(out, text, count, 1, 0x02, 2, p, n, at, e),
                     Rest::Nothing,
@@ -466,7 +471,7 @@ pub fn pour_value(out: &mut [u8], image: &[u8], text: &[u8], c: Cursor, count: u
     if image.len() < c.at {
         return Step::Stop(OVER_LIMIT, 0);
     }
-    if 0x1000_0000_0000_0000 < count {
+    if BEFORE < count {
         return Step::Stop(OVER_LIMIT, 0);
     }
     values(out, image, text, c, count, limit::LEVELS, Rest::Values(1))

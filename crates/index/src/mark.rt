@@ -15,7 +15,8 @@ pub struct Mark {
     pub value: u32,
 }
 
-pub(crate) const SIZE: usize = 13;
+// The bytes of one.
+pub const SIZE: usize = 13;
 
 fn wide(x: u8) -> u32
     ensures { λ r. ⌜ (r ≡ x) × (r < 256) ⌝ }

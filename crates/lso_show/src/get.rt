@@ -6,11 +6,16 @@ use figures::page::word;
 use index::find::Way;
 use index::find::step;
 use index::make::make_index;
+use index::mark::SIZE;
 use wire::answer::ACCEPTED;
 use wire::answer::NO_ROOM;
+use wire::limit::BYTES;
 
 // The first key's number among the arguments: `lso_show get FILE KEY..`.
 const FIRST: usize = 3;
+// How many keys the index has room for: twice the image's length would be more than a stack of 8 MiB has beside the buffers of main. A file has more keys only
+// where an object has a key twice; else its pairs, with the ends of their objects, have four bytes each at least.
+const KEYS: usize = BYTES / 4;
 
 // A step by the key that an argument is. An argument that doesn't fit the buffer is longer than any key.
 fn by_argument(image: &[u8], text: &[u8], index: &[u8], place: usize, i: usize) -> Way {
@@ -72,9 +77,7 @@ fn get_by(
     }
 }
 
-// Room for 262,144 keys: twice the image's length would be more than a stack of 8 MiB has beside the buffers of main. A file has more keys only where an object
-// has a key twice; else its pairs, with the ends of their objects, have four bytes each at least.
 pub fn get(page: &mut Page, used: &mut usize, input: &[u8], image: &[u8], end: usize) {
-    let mut index = [0u8; 3_407_872];
+    let mut index = [0u8; SIZE * KEYS];
     get_by(page, used, input, image, &mut index, end);
 }

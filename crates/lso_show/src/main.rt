@@ -13,7 +13,11 @@ use image::reading::Reading;
 use libc::STDOUT_FILENO;
 use refusal::refusal;
 use wire::answer::ACCEPTED;
+use wire::limit::BYTES;
 use wire::text::part;
+
+// One byte more than an input may have, so that a longer file is known for one.
+const ASKED: usize = BYTES + 1;
 
 // What a file is to be read as.
 enum Form {
@@ -219,7 +223,7 @@ fn show_asked(buffer: &mut [u8], image: &mut [u8]) {
 }
 
 fn main() {
-    let mut buffer = [0u8; 1_048_577];
-    let mut image = [0u8; 3_145_728];
+    let mut buffer = [0u8; ASKED];
+    let mut image = [0u8; 3 * BYTES];
     show_asked(&mut buffer, &mut image);
 }

@@ -37,6 +37,8 @@ use packet::entry::cut;
 use packet::head::Entry;
 use wire::cursor::Cursor;
 use wire::cursor::U32;
+use wire::limit::BYTES;
+use wire::limit::IMAGE;
 use wire::text::part;
 
 // What stands in every byte of a lent image before a reading, and of a lent index.
@@ -369,8 +371,8 @@ fn frames(first: &mut [u8], second: &mut [u8], room: &mut [u8]) {
 }
 
 fn main() {
-    let mut first = [0u8; 3_145_729];
-    let mut second = [0u8; 1_048_577];
-    let mut room = [0u8; 3_145_729];
+    let mut first = [0u8; IMAGE + 1];
+    let mut second = [0u8; BYTES + 1];
+    let mut room = [0u8; IMAGE + 1];
     frames(&mut first, &mut second, &mut room);
 }
