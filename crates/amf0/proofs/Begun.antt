@@ -24,6 +24,7 @@ use Rattle.image.specs.Out.{Out, end, stop, row, most, rowIn, pour, poured, Gro
 use Rattle.image.proofs.Found.{found-kind}
 use Rattle.image.proofs.Pouring.{pour-stop, row-in, row-then, row-halt}
 use Rattle.amf0.specs.declared.write.Rest.{Rest}
+use Rattle.amf0.specs.Standard.{short-most}
 use Rattle.amf0.specs.Shape.{Shape}
 use Rattle.amf0.specs.Shape as S
 use Rattle.amf0.specs.declared.write.Begun.the-variants as Begun
@@ -145,7 +146,7 @@ module _ (text : List ℕ) (at count : ℕ) (out : List ℕ) where
     no-pair m n (Number x) e q k = refl
     no-pair m n (Boolean b) e q k = refl
     no-pair m n (Text p l) e q k =
-        picked (λ (x : Shape). paired at x (λ w. row text w at (k q)) (λ w. row text w at (end q)) ≡ stop 6 at) (leb l 65535) _ _ (λ h. refl) (λ h. refl)
+        picked (λ (x : Shape). paired at x (λ w. row text w at (k q)) (λ w. row text w at (end q)) ≡ stop 6 at) (leb l short-most) _ _ (λ h. refl) (λ h. refl)
     no-pair m n Object e q k = refl
     no-pair m n Null e q k = refl
     no-pair m n Undefined e q k = refl

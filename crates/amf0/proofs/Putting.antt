@@ -25,6 +25,7 @@ use Rattle.image.proofs.Laws.{size-some}
 use Rattle.image.proofs.Found.{found-stood}
 use Rattle.image.proofs.Pouring.{Slim, pour-then, pour-halt, pour-stop, pour-end, went, bytes-bind, settled-stop, settled-halt, settled-over, settled-full, settled-fits}
 use Rattle.amf0.specs.declared.write.Rest.the-variants.{Nothing, Pairs, Dense, Values}
+use Rattle.amf0.specs.Standard.{short-most}
 use Rattle.amf0.specs.Shape.{Shape}
 use Rattle.amf0.specs.Shape as S
 use Rattle.amf0.specs.Writing.{shapeOf, indexed, valueAt, items, pairs, dense, rest, value, before, valueIn, whole, writeOf}
@@ -76,7 +77,7 @@ thin : (r : Record) → Thin (shapeOf r)
 thin (Number n) = omega arith
 thin (Boolean b) = omega arith
 thin (Text p n) =
-    picked Thin (leb n 65535) _ _
+    picked Thin (leb n short-most) _ _
     (λ h. omega arith)
     (λ h. omega arith)
 thin Object = omega arith

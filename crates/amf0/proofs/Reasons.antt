@@ -1,13 +1,12 @@
--- A reading goes forward and ends inside the input, lays at most three bytes for each byte that it reads, and is refused for a reason.
+-- A reading goes forward and ends inside the input, lays at most three bytes for each byte that it reads, and is refused with 2, 3 or 5, at a
+-- place inside the input.
 use Prim.Native.Nat.{ℕ, zero, suc, _+_, _*_, _≤_, _<_}
-use mathlib.Core.Path.{_≡_, refl}
+use mathlib.Core.Logic.{_≢_}
 use mathlib.Core.List.{List}
-use mathlib.Core.Bool.{false}
 use native.Mathlib.Nat.{le-refl}
 use native.Mathlib.Omega.{arith}
 use lib.ListN.{length, getD, length-append}
 use lib.Dec.{leb, eqb}
-use borrow.Author.Tests.{leb-false, eqb-true, eqb-false}
 use Rattle.wire.specs.Number.{number}
 use Rattle.wire.specs.Field.{bytesAt, textAt, gotText}
 use Rattle.wire.proofs.Laws.{picked}
@@ -25,19 +24,32 @@ use Rattle.amf0.specs.declared.read.Fields.the-variants.{Got, Stop}
 use Rattle.amf0.specs.Marker.{markers, markerOf}
 use Rattle.amf0.specs.Fields.{fieldsAt, gotFields, gives, shut}
 use Rattle.amf0.specs.Reading.{items, pair, pairs, follow, value}
-use Rattle.amf0.specs.Why.{Bars, Why, Reasoned}
-use Rattle.amf0.specs.Why.Bars.{movie-clip, object-end, record-set}
 use Rattle.amf0.proofs.Rows.{Each, _▸_, each-marker}
 
--- c bytes are laid already, in all at most three for each byte up to the end
+-- an answer that refuses a reading: 2, 3 or 5
+pub record Named (a : ℕ) : Type 0 where
+  pub low : 2 ≤ a
+  pub high : a ≤ 5
+  pub other : a ≢ 4
+
+two : Named 2
+two = record { low = omega arith; high = omega arith; other = λ e. omega arith }
+
+three : Named 3
+three = record { low = omega arith; high = omega arith; other = λ e. omega arith }
+
+five : Named 5
+five = record { low = omega arith; high = omega arith; other = λ e. omega arith }
+
+-- c bytes are laid already, in all at most three for each byte up to the end; a refusal has one of those answers, at a place inside
 abbrev pub Kept : List ℕ → ℕ → Due → Type 0
 Kept s c (end n) = (c ≤ 3 * n) × (n ≤ length s)
-Kept s c (stop a p) = (c ≤ 3 * length s) × Why s a p
+Kept s c (stop a p) = (c ≤ 3 * length s) × Named a × (p ≤ length s)
 Kept s c (due r p d) = Kept s (c + length (bytesOf r)) d
 
 fewer : (s : List ℕ) (c b : ℕ) (d : Due) → c ≤ b → Kept s b d → Kept s c d
 fewer s c b (end n) h k = (omega arith, k .1)
-fewer s c b (stop a p) h k = (omega arith, k .1)
+fewer s c b (stop a p) h k = (omega arith, k .1, k .2)
 fewer s c b (due r p d) h k = fewer s (c + length (bytesOf r)) (b + length (bytesOf r)) d (omega arith) k
 
 bind-kept : (s : List ℕ) (c : ℕ) (d : Due) (k : ℕ → Due) → Kept s c d → ((n : ℕ) → c ≤ 3 * n → n ≤ length s → Kept s (3 * n) (k n)) → Kept s c (d >>= k)
@@ -49,49 +61,46 @@ bind-kept s c (due r p d) k h g = bind-kept s (c + length (bytesOf r)) d k h λ 
 
 abbrev KeptFields : List ℕ → ℕ → Fields → Type 0
 KeptFields s at (Got r f c) = (3 * at + length (bytesOf r) ≤ 3 * c .at) × (c .at ≤ length s)
-KeptFields s at (Stop a p) = Why s a p
+KeptFields s at (Stop a p) = Named a × (p ≤ length s)
 
 module _ (s : List ℕ) (at : ℕ) (l : at < length s) where
   Entry : ℕ → TypeMarker → Type 0
-  Entry m t = getD s at 0 ≡ m → KeptFields s at (fieldsAt s at (at + 1) t)
+  Entry m t = KeptFields s at (fieldsAt s at (at + 1) t)
 
-  text-kept : (w : ℕ) (q : ℕ → ℕ → Record) (f : Follow) → w ≤ 4 → ((p n : ℕ) → length (bytesOf (q p n)) ≤ 3 + 3 * w)
+  text-kept : (w : ℕ) (q : ℕ → ℕ → Record) (f : Follow) → ((p n : ℕ) → length (bytesOf (q p n)) ≤ 3 + 3 * w)
       → KeptFields s at (gotText Stop (textAt w s (at + 1)) λ p n e. gives (q p n) f e)
-  text-kept w q f b h = goText (KeptFields s at) Stop s (at + 1) w _
-      (λ n e i u. (omega (arith, h (at + 1 + w) n), i)) (λ i. Why.short w (omega arith) (omega arith) i)
-      (λ n e i j. Why.short-text (at + 1) w b refl i (rw (← e) j)) (λ n e i u. Why.wrong-text (at + 1) w n b refl e i u)
+  text-kept w q f h = goText (KeptFields s at) Stop s (at + 1) w _
+      (λ n e i u. (omega (arith, h (at + 1 + w) n), i)) (λ i. (two, omega arith)) (λ n e i j. (two, i)) (λ n e i u. (three, omega arith))
 
   entries : Each Entry markers
   unfolding Entry fieldsAt bytesOf
   entries =
-      (λ e. go64 (KeptFields s at) Stop s (at + 1) _ (λ i. (omega arith, i)) (λ i. Why.short 8 (omega arith) (omega arith) i))
-      ▸ (λ e. go8 (KeptFields s at) Stop s (at + 1) _ (λ i. (omega arith, omega arith)) (λ i. Why.short 1 (omega arith) (omega arith) (omega arith)))
-      ▸ (λ e. text-kept 2 R.Text Nothing (omega arith) (λ p n. omega arith))
-      ▸ (λ e. (omega arith, omega arith))
-      ▸ (λ e. Why.marker l (rw e movie-clip))
-      ▸ (λ e. (omega arith, omega arith))
-      ▸ (λ e. (omega arith, omega arith))
-      ▸ (λ e. go16 (KeptFields s at) Stop s (at + 1) _ (λ i. (omega arith, i)) (λ i. Why.short 2 (omega arith) (omega arith) i))
-      ▸ (λ e. go32 (KeptFields s at) Stop s (at + 1) _ (λ i. (omega arith, i)) (λ i. Why.short 4 (omega arith) (omega arith) i))
-      ▸ (λ e. Why.marker l (rw e object-end))
-      ▸ (λ e. go32 (KeptFields s at) Stop s (at + 1) _
-      (λ i. picked (KeptFields s at) (leb (at + 1 + 4 + number (bytesAt 4 s (at + 1))) (length s)) _ _
-      (λ j. (omega arith, i)) (λ j. Why.count i (leb-false _ _ j)))
-      (λ i. Why.short 4 (omega arith) (omega arith) i))
-      ▸ (λ e. go64 (KeptFields s at) Stop s (at + 1) _
-      (λ i. go16 (KeptFields s at) Stop s (at + 1 + 8) _ (λ j. (omega arith, j)) (λ j. Why.short 2 (omega arith) i j))
-      (λ i. Why.short 8 (omega arith) (omega arith) i))
-      ▸ (λ e. text-kept 4 R.Text Nothing (omega arith) (λ p n. omega arith))
-      ▸ (λ e. (omega arith, omega arith))
-      ▸ (λ e. Why.marker l (rw e record-set))
-      ▸ (λ e. text-kept 4 R.Xml Nothing (omega arith) (λ p n. omega arith))
-      ▸ (λ e. text-kept 2 R.TypedObject Pairs (omega arith) (λ p n. omega arith))
-      ▸ (λ e. (omega arith, omega arith))
+      go64 (KeptFields s at) Stop s (at + 1) _ (λ i. (omega arith, i)) (λ i. (two, omega arith))
+      ▸ go8 (KeptFields s at) Stop s (at + 1) _ (λ i. (omega arith, omega arith)) (λ i. (two, omega arith))
+      ▸ text-kept 2 R.Text Nothing (λ p n. omega arith)
+      ▸ (omega arith, omega arith)
+      ▸ (three, omega arith)
+      ▸ (omega arith, omega arith)
+      ▸ (omega arith, omega arith)
+      ▸ go16 (KeptFields s at) Stop s (at + 1) _ (λ i. (omega arith, i)) (λ i. (two, omega arith))
+      ▸ go32 (KeptFields s at) Stop s (at + 1) _ (λ i. (omega arith, i)) (λ i. (two, omega arith))
+      ▸ (three, omega arith)
+      ▸ go32 (KeptFields s at) Stop s (at + 1) _
+      (λ i. picked (KeptFields s at) (leb (at + 1 + 4 + number (bytesAt 4 s (at + 1))) (length s)) _ _ (λ j. (omega arith, i)) (λ j. (two, omega arith)))
+      (λ i. (two, omega arith))
+      ▸ go64 (KeptFields s at) Stop s (at + 1) _
+      (λ i. go16 (KeptFields s at) Stop s (at + 1 + 8) _ (λ j. (omega arith, j)) (λ j. (two, i))) (λ i. (two, omega arith))
+      ▸ text-kept 4 R.Text Nothing (λ p n. omega arith)
+      ▸ (omega arith, omega arith)
+      ▸ (three, omega arith)
+      ▸ text-kept 4 R.Xml Nothing (λ p n. omega arith)
+      ▸ text-kept 2 R.TypedObject Pairs (λ p n. omega arith)
+      ▸ (omega arith, omega arith)
       ▸ tt
 
   fields-kept : KeptFields s at (fieldsAt s at (at + 1) (markerOf (getD s at 0)))
   unfolding Entry fieldsAt bytesOf
-  fields-kept = each-marker Entry entries (λ m h e. (omega arith, omega arith)) (getD s at 0) refl
+  fields-kept = each-marker Entry entries (λ m h. (omega arith, omega arith)) (getD s at 0)
 
 -- ---- values, and what follows them
 
@@ -107,16 +116,14 @@ module _ (s : List ℕ) (u : ℕ → Due) (g : (at : ℕ) → at ≤ length s �
   pair-kept k at p n q h i f = go8 (Kept s (3 * at)) stop s q _
       (λ l. picked (Kept s (3 * at)) (eqb (getD s q 0) 9) _ _ (λ e. (omega arith, omega arith))
       (λ e. fewer s (3 * at + 6) (3 * q) (u q >>= k) (omega arith) (bind-kept s (3 * q) (u q) k (g q i) λ m j. f m (omega arith))))
-      (λ l. (omega arith, Why.short 1 (omega arith) (omega arith) (omega arith)))
+      (λ l. (omega arith, two, i))
 
   pairs-kept : (fuel at : ℕ) → length s ≤ at + fuel → at ≤ length s → Kept s (3 * at) (pairs u s fuel at)
   unfolding pairs
-  pairs-kept zero at h i = (omega arith, Why.short 1 (omega arith) i (omega arith))
+  pairs-kept zero at h i = (omega arith, two, i)
   pairs-kept (suc fuel) at h i = goText (Kept s (3 * at)) stop s at 2 _
       (λ n e j v. pair-kept (pairs u s fuel) at (at + 2) n (at + 2 + n) (omega arith) j λ m l. pairs-kept fuel m (omega arith))
-      (λ j. (omega arith, Why.short 2 (omega arith) i j))
-      (λ n e j l. (omega arith, Why.short-text at 2 (omega arith) refl j (rw (← e) l)))
-      (λ n e j v. (omega arith, Why.wrong-text at 2 n (omega arith) refl e j v))
+      (λ j. (omega arith, two, i)) (λ n e j l. (omega arith, two, j)) (λ n e j v. (omega arith, three, omega arith))
 
   follow-kept : (f : Follow) (at : ℕ) → at ≤ length s → Kept s (3 * at) (follow u s f at)
   unfolding follow
@@ -126,27 +133,17 @@ module _ (s : List ℕ) (u : ℕ → Due) (g : (at : ℕ) → at ≤ length s �
 
   node-kept : (at : ℕ) (x : Fields) → at ≤ length s → KeptFields s at x → Kept s (3 * at) (gotFields stop x λ r f q. due r at (follow u s f q))
   node-kept at (Got r f c) h k = fewer s (3 * at + length (bytesOf r)) (3 * c .at) (follow u s f (c .at)) (k .0) (follow-kept f (c .at) (k .1))
-  node-kept at (Stop a p) h k = (omega arith, k)
+  node-kept at (Stop a p) h k = (omega arith, k .0, k .1)
 
-no-bar : (m : ℕ) → eqb m 4 ≡ false → eqb m 9 ≡ false → eqb m 14 ≡ false → Bars m → ⊥
-no-bar m a b c movie-clip = eqb-false 4 4 a refl
-no-bar m a b c object-end = eqb-false 9 9 b refl
-no-bar m a b c record-set = eqb-false 14 14 c refl
-
-shut-why : (s : List ℕ) (at : ℕ) → at < length s → Why s (shut (getD s at 0)) at
-shut-why s at l =
-    let m : ℕ = getD s at 0 in
-    let P : ℕ → Type 0 = λ a. Why s a at in
-    picked P (eqb m 4) _ _ (λ e. Why.marker l (rw (eqb-true m 4 e) movie-clip)) λ a.
-    picked P (eqb m 9) _ _ (λ e. Why.marker l (rw (eqb-true m 9 e) object-end)) λ b.
-    picked P (eqb m 14) _ _ (λ e. Why.marker l (rw (eqb-true m 14 e) record-set)) λ c. Why.deep l (no-bar m a b c)
+-- where no level is left
+shut-named : (m : ℕ) → Named (shut m)
+shut-named m = picked Named (eqb m 4) _ _ (λ e. three) λ e. picked Named (eqb m 9) _ _ (λ f. three) λ f. picked Named (eqb m 14) _ _ (λ g. three) λ g. five
 
 pub kept : (left : ℕ) (s : List ℕ) (at : ℕ) → at ≤ length s → Kept s (3 * at) (value left s at)
 unfolding value
-kept zero s at h = go8 (Kept s (3 * at)) stop s at _ (λ l. (omega arith, shut-why s at l)) (λ l. (omega arith, Why.short 1 (omega arith) (omega arith) (omega arith)))
+kept zero s at h = go8 (Kept s (3 * at)) stop s at _ (λ l. (omega arith, shut-named (getD s at 0), h)) (λ l. (omega arith, two, h))
 kept (suc left) s at h = go8 (Kept s (3 * at)) stop s at _
-    (λ l. node-kept s (value left s) (kept left s) at (fieldsAt s at (at + 1) (markerOf (getD s at 0))) h (fields-kept s at l))
-    (λ l. (omega arith, Why.short 1 (omega arith) (omega arith) (omega arith)))
+    (λ l. node-kept s (value left s) (kept left s) at (fieldsAt s at (at + 1) (markerOf (getD s at 0))) h (fields-kept s at l)) (λ l. (omega arith, two, h))
 
 -- ---- what that says of a reading
 
@@ -160,8 +157,3 @@ unfolding bytes
 small s c (end n) k = omega arith
 small s c (stop a p) k = omega arith
 small s c (due r p d) k = omega (arith, small s (c + length (bytesOf r)) d k, length-append (bytesOf r) (bytes d))
-
-pub because : (s : List ℕ) (c : ℕ) (d : Due) → Kept s c d → Reasoned s d
-because s c (end n) k = tt
-because s c (stop a p) k = k .1
-because s c (due r p d) k = because s (c + length (bytesOf r)) d k

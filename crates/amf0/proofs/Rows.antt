@@ -2,16 +2,16 @@
 use Prim.Native.Nat.{ℕ, zero, suc, _+_, _^_, _≤_, _<_, zero-le, suc-le-suc}
 use mathlib.Core.Path.{_≡_, refl, sym, ap, _∙_}
 use mathlib.Core.List.{List, [], _∷_, _++_}
-use mathlib.Core.Bool.{true, false}
+use mathlib.Core.Bool.{Bool, true, false}
 use native.Mathlib.Omega.{arith}
 use lib.ListN.{length, getD, List·getD-eq-default}
 use lib.Dec.{leb, ltb, eqb}
-use borrow.Author.Tests.{le-leb, lt-ltb, ne-eqb}
+use borrow.Author.Tests.{le-leb, lt-ltb, ne-eqb, leb-true, leb-false}
 use Rattle.wire.specs.Number.{digits, number, Bytes}
 use Rattle.wire.specs.Utf8.{utf8}
 use Rattle.wire.specs.Field.{u8At, textAt, got8, gotText}
 use Rattle.wire.proofs.Laws.{picked}
-use Rattle.wire.proofs.Stands.{Here, join, cut, skip, byte-at, u16-at, u32-at, u64-at, text-at, end8, end16, end32, end64, endText}
+use Rattle.wire.proofs.Stands.{Here, join, cut, skip, bytes-here, byte-at, u16-at, u32-at, u64-at, text-at, end8, end16, end32, end64, endText}
 use Rattle.image.specs.declared.record.Record.{Record}
 use Rattle.image.specs.declared.record.Record.the-variants as R
 use Rattle.amf0.specs.declared.type_marker.TypeMarker.{TypeMarker}
@@ -22,7 +22,7 @@ use Rattle.amf0.specs.declared.read.Fields.{Fields}
 use Rattle.amf0.specs.declared.read.Fields.the-variants.{Got, Stop}
 use Rattle.amf0.specs.Marker.{markers, markerOf}
 use Rattle.amf0.specs.Fields.{fieldsAt, gives}
-use Rattle.amf0.specs.Standard.{Item, Sort, follows, Row}
+use Rattle.amf0.specs.Standard.{Item, follows, many, short-most, Row}
 use Rattle.amf0.specs.Standard.UTF-8.{short}
 use Rattle.amf0.specs.Standard.UTF-8-long.{long}
 
@@ -34,21 +34,24 @@ itemAt s at = got8 Stop (u8At s at) λ m p. fieldsAt s at p (markerOf m)
 unfoldable pub mark : {i : Item} {x : List ℕ} → Row i x → ℕ → Record
 mark (Row.number n h) at = R.Number n
 mark Row.boolean-false at = R.Boolean false
-mark (Row.boolean-true b) at = R.Boolean true
+mark Row.boolean-true at = R.Boolean true
+mark (Row.boolean-above b h l) at = R.Boolean true
 mark (Row.string (short t h u)) at = R.Text (at + 1 + 2) (length t)
 mark Row.object at = R.Object
 mark Row.null at = R.Null
 mark Row.undefined at = R.Undefined
-mark (Row.reference n h) at = R.Reference n
-mark (Row.ecma-array n h) at = R.EcmaArray n
+mark (Row.departure-any-index n h) at = R.Reference n
+mark (Row.departure-any-count n h) at = R.EcmaArray n
 mark (Row.strict-array n h) at = R.StrictArray n
-mark (Row.date n z h l) at = R.Date n true z
-mark (Row.long-string (long t h u)) at = R.Text (at + 1 + 4) (length t)
+mark (Row.date n h) at = R.Date n true 0
+mark (Row.departure-any-zone n z h k l) at = R.Date n true z
+mark (Row.long-string (long t h u) l) at = R.Text (at + 1 + 4) (length t)
+mark (Row.departure-long-string (long t h u) l) at = R.Text (at + 1 + 4) (length t)
 mark Row.unsupported at = R.Unsupported
 mark (Row.xml-document (long t h u)) at = R.Xml (at + 1 + 4) (length t)
 mark (Row.typed-object (short t h u)) at = R.TypedObject (at + 1 + 2) (length t)
 mark Row.departure-avmplus at = R.Unsupported
-mark (Row.departure-unknown m h) at = R.Unsupported
+mark (Row.departure-unknown m h l) at = R.Unsupported
 
 abbrev pub next : Item → Follow
 next (Item.number n) = Nothing
@@ -65,12 +68,6 @@ next Item.unsupported = Nothing
 next (Item.xml-document t) = Nothing
 next (Item.typed-object t) = Pairs
 
--- how many values follow in a row
-abbrev pub many : Sort → ℕ
-many Sort.value = 0
-many Sort.properties = 0
-many (Sort.values n) = n
-
 -- a row begins with a byte that is not the object end marker
 pub record Begins (x : List ℕ) : Type 0 where
   pub first : ℕ
@@ -84,21 +81,24 @@ begins m y e = record { first = m; rest = y; same = refl; other = e }
 pub row-begins : {i : Item} {x : List ℕ} → Row i x → Begins x
 row-begins (Row.number n h) = begins 0 _ refl
 row-begins Row.boolean-false = begins 1 _ refl
-row-begins (Row.boolean-true b) = begins 1 _ refl
+row-begins Row.boolean-true = begins 1 _ refl
+row-begins (Row.boolean-above b h l) = begins 1 _ refl
 row-begins (Row.string t) = begins 2 _ refl
 row-begins Row.object = begins 3 _ refl
 row-begins Row.null = begins 5 _ refl
 row-begins Row.undefined = begins 6 _ refl
-row-begins (Row.reference n h) = begins 7 _ refl
-row-begins (Row.ecma-array n h) = begins 8 _ refl
+row-begins (Row.departure-any-index n h) = begins 7 _ refl
+row-begins (Row.departure-any-count n h) = begins 8 _ refl
 row-begins (Row.strict-array n h) = begins 10 _ refl
-row-begins (Row.date n z h l) = begins 11 _ refl
-row-begins (Row.long-string t) = begins 12 _ refl
+row-begins (Row.date n h) = begins 11 _ refl
+row-begins (Row.departure-any-zone n z h k l) = begins 11 _ refl
+row-begins (Row.long-string t l) = begins 12 _ refl
+row-begins (Row.departure-long-string t l) = begins 12 _ refl
 row-begins Row.unsupported = begins 13 _ refl
 row-begins (Row.xml-document t) = begins 15 _ refl
 row-begins (Row.typed-object t) = begins 16 _ refl
 row-begins Row.departure-avmplus = begins 17 _ refl
-row-begins (Row.departure-unknown m h) = begins m _ (ne-eqb m 9 λ e. omega arith)
+row-begins (Row.departure-unknown m h l) = begins m _ (ne-eqb m 9 λ e. omega arith)
 
 -- ---- a row that stands there is read
 
@@ -123,31 +123,39 @@ module _ (s r : List ℕ) (at n : ℕ) where
   unfolding fieldsAt markerOf
   bool-at b h l = marker-at 1 (b ∷ []) refl h (rw (byte-at b (skip (1 ∷ []) (b ∷ []) h)) (ap (gives _ _) (omega arith)))
 
+  -- a date, whatever its zone
+  date-at : (c z : ℕ) → c < 256 ^ 8 → z < 256 ^ 2 → Here s at (11 ∷ digits 8 c ++ digits 2 z) r → n ≡ at + 11 → itemAt s at ≡ gives (R.Date c true z) Nothing n
+  unfolding fieldsAt markerOf
+  date-at c z b d h l =
+      let x = skip (11 ∷ []) (digits 8 c ++ digits 2 z) h in
+      marker-at 11 (digits 8 c ++ digits 2 z) refl h
+      (rw (u64-at c (cut (digits 8 c) (digits 2 z) x) b, u16-at z (skip (digits 8 c) (digits 2 z) x) d) (ap (gives _ _) (omega arith)))
+
   pub item-at : {i : Item} {x : List ℕ} (row : Row i x) → Here s at x r → n ≡ at + length x → n + many (follows i) ≤ length s
       → itemAt s at ≡ gives (mark row at) (next i) n
   unfolding mark fieldsAt markerOf
   item-at (Row.number c b) h l f = marker-at 0 (digits 8 c) refl h (rw (u64-at c (skip (0 ∷ []) (digits 8 c) h) b) (ap (gives _ _) (omega arith)))
   item-at Row.boolean-false h l f = bool-at 0 h l
-  item-at (Row.boolean-true b) h l f = bool-at (suc b) h l ∙ rw (lt-ltb 0 (suc b) (omega arith))
+  item-at Row.boolean-true h l f = bool-at 1 h l
+  item-at (Row.boolean-above b g k) h l f = bool-at b h l ∙ rw (lt-ltb 0 b (omega arith))
   item-at (Row.string (short t b u)) h l f = text-row 2 2 t R.Text Nothing refl refl (omega arith) h b u (omega arith)
   item-at Row.object h l f = bare-at 3 refl h refl l
   item-at Row.null h l f = bare-at 5 refl h refl l
   item-at Row.undefined h l f = bare-at 6 refl h refl l
-  item-at (Row.reference c b) h l f = marker-at 7 (digits 2 c) refl h (rw (u16-at c (skip (7 ∷ []) (digits 2 c) h) b) (ap (gives _ _) (omega arith)))
-  item-at (Row.ecma-array c b) h l f = marker-at 8 (digits 4 c) refl h (rw (u32-at c (skip (8 ∷ []) (digits 4 c) h) b) (ap (gives _ _) (omega arith)))
+  item-at (Row.departure-any-index c b) h l f = marker-at 7 (digits 2 c) refl h (rw (u16-at c (skip (7 ∷ []) (digits 2 c) h) b) (ap (gives _ _) (omega arith)))
+  item-at (Row.departure-any-count c b) h l f = marker-at 8 (digits 4 c) refl h (rw (u32-at c (skip (8 ∷ []) (digits 4 c) h) b) (ap (gives _ _) (omega arith)))
   item-at (Row.strict-array c b) h l f =
       let e : n ≡ at + 1 + 4 = omega arith in
       marker-at 10 (digits 4 c) refl h (rw (u32-at c (skip (10 ∷ []) (digits 4 c) h) b, ← e, le-leb (n + c) (length s) f))
-  item-at (Row.date c z b d) h l f =
-      let x = skip (11 ∷ []) (digits 8 c ++ digits 2 z) h in
-      marker-at 11 (digits 8 c ++ digits 2 z) refl h
-      (rw (u64-at c (cut (digits 8 c) (digits 2 z) x) b, u16-at z (skip (digits 8 c) (digits 2 z) x) d) (ap (gives _ _) (omega arith)))
-  item-at (Row.long-string (long t b u)) h l f = text-row 12 4 t R.Text Nothing refl refl (omega arith) h b u (omega arith)
+  item-at (Row.date c b) h l f = date-at c 0 b (omega arith) h l
+  item-at (Row.departure-any-zone c z b k d) h l f = date-at c z b d h l
+  item-at (Row.long-string (long t b u) k) h l f = text-row 12 4 t R.Text Nothing refl refl (omega arith) h b u (omega arith)
+  item-at (Row.departure-long-string (long t b u) k) h l f = text-row 12 4 t R.Text Nothing refl refl (omega arith) h b u (omega arith)
   item-at Row.unsupported h l f = bare-at 13 refl h refl l
   item-at (Row.xml-document (long t b u)) h l f = text-row 15 4 t R.Xml Nothing refl refl (omega arith) h b u (omega arith)
   item-at (Row.typed-object (short t b u)) h l f = text-row 16 2 t R.TypedObject Pairs refl refl (omega arith) h b u (omega arith)
   item-at Row.departure-avmplus h l f = bare-at 17 refl h refl l
-  item-at (Row.departure-unknown m b) h l f = bare-at m (List·getD-eq-default markers M.Unsupported b) h refl l
+  item-at (Row.departure-unknown m b k) h l f = bare-at m (List·getD-eq-default markers M.Unsupported b) h refl l
 
 -- ---- what was read is a row
 
@@ -194,7 +202,26 @@ module _ (s : List ℕ) (bs : Bytes s) (at : ℕ) where
   boolean-row : {r z : List ℕ} (b : ℕ) → Here s at (1 ∷ []) r → Here s (at + 1) (b ∷ []) z → IsRow s at (R.Boolean (ltb 0 b)) Nothing (at + 1 + 1)
   unfolding mark
   boolean-row zero h g = is-row Row.boolean-false (join h refl g) (omega arith) refl
-  boolean-row (suc b) h g = is-row (Row.boolean-true b) (join h refl g) (omega arith) (rw (lt-ltb 0 (suc b) (omega arith)))
+  boolean-row (suc zero) h g = is-row Row.boolean-true (join h refl g) (omega arith) refl
+  boolean-row (suc (suc b)) h g =
+      is-row (Row.boolean-above (suc (suc b)) (omega arith) (bytes-here g bs .0)) (join h refl g) (omega arith) (rw (lt-ltb 0 (suc (suc b)) (omega arith)))
+
+  -- a date with the zone 0 is the document's, and one with another a departure
+  date-row : {r : List ℕ} (n z : ℕ) → Here s at (11 ∷ digits 8 n ++ digits 2 z) r → n < 256 ^ 8 → z < 256 ^ 2
+      → IsRow s at (R.Date n true z) Nothing (at + 1 + 8 + 2)
+  unfolding mark
+  date-row n zero h b d = is-row (Row.date n b) h (omega arith) refl
+  date-row n (suc z) h b d = is-row (Row.departure-any-zone n (suc z) b (omega arith) d) h (omega arith) refl
+
+  -- a long string that would not fit a short one is the document's, and one that would a departure
+  long-row : {r : List ℕ} (t : List ℕ) → Here s at (12 ∷ digits 4 (length t) ++ t) r → length t < 256 ^ 4 → utf8 t ≡ true
+      → IsRow s at (R.Text (at + 1 + 4) (length t)) Nothing (at + 1 + 4 + length t)
+  unfolding mark
+  long-row t h b u = go (leb (length t) short-most) refl
+    where
+      go : (x : Bool) → leb (length t) short-most ≡ x → IsRow s at (R.Text (at + 1 + 4) (length t)) Nothing (at + 1 + 4 + length t)
+      go true e = is-row (Row.departure-long-string (long t b u) (leb-true _ _ e)) h (omega arith) refl
+      go false e = is-row (Row.long-string (long t b u) (leb-false _ _ e)) h (omega arith) refl
 
   entries : Each Entry markers
   unfolding Entry fieldsAt mark
@@ -206,14 +233,14 @@ module _ (s : List ℕ) (bs : Bytes s) (at : ℕ) where
       ▸ (λ r h. tt)
       ▸ (λ r h. is-row Row.null h refl refl)
       ▸ (λ r h. is-row Row.undefined h refl refl)
-      ▸ (λ r h. end16 (IsRead s at) Stop (λ a p. tt) s bs (at + 1) _ λ n d. is-row (Row.reference n (d .bound)) (join h refl (d .here)) (omega arith) refl)
-      ▸ (λ r h. end32 (IsRead s at) Stop (λ a p. tt) s bs (at + 1) _ λ n d. is-row (Row.ecma-array n (d .bound)) (join h refl (d .here)) (omega arith) refl)
+      ▸ (λ r h. end16 (IsRead s at) Stop (λ a p. tt) s bs (at + 1) _ λ n d. is-row (Row.departure-any-index n (d .bound)) (join h refl (d .here)) (omega arith) refl)
+      ▸ (λ r h. end32 (IsRead s at) Stop (λ a p. tt) s bs (at + 1) _ λ n d. is-row (Row.departure-any-count n (d .bound)) (join h refl (d .here)) (omega arith) refl)
       ▸ (λ r h. tt)
       ▸ (λ r h. end32 (IsRead s at) Stop (λ a p. tt) s bs (at + 1) _ λ n d. picked (IsRead s at) (leb (at + 1 + 4 + n) (length s)) _ _
       (λ e. is-row (Row.strict-array n (d .bound)) (join h refl (d .here)) (omega arith) refl) (λ e. tt))
       ▸ (λ r h. end64 (IsRead s at) Stop (λ a p. tt) s bs (at + 1) _ λ n d. end16 (IsRead s at) Stop (λ a p. tt) s bs (at + 1 + 8) _ λ z e.
-      is-row (Row.date n z (d .bound) (e .bound)) (join h refl (join (d .here) refl (e .here))) (omega arith) refl)
-      ▸ (λ r h. endText (IsRead s at) Stop (λ a p. tt) s bs (at + 1) 4 _ λ t x g b u. is-row (Row.long-string (long t b u)) (join h refl g) (omega arith) refl)
+      date-row n z (join h refl (join (d .here) refl (e .here))) (d .bound) (e .bound))
+      ▸ (λ r h. endText (IsRead s at) Stop (λ a p. tt) s bs (at + 1) 4 _ λ t x g b u. long-row t (join h refl g) b u)
       ▸ (λ r h. is-row Row.unsupported h refl refl)
       ▸ (λ r h. tt)
       ▸ (λ r h. endText (IsRead s at) Stop (λ a p. tt) s bs (at + 1) 4 _ λ t x g b u. is-row (Row.xml-document (long t b u)) (join h refl g) (omega arith) refl)
@@ -223,4 +250,4 @@ module _ (s : List ℕ) (bs : Bytes s) (at : ℕ) where
 
   pub item-ends : IsRead s at (itemAt s at)
   unfolding itemAt Entry fieldsAt mark
-  item-ends = end8 (IsRead s at) Stop (λ a p. tt) s bs at _ λ m h. each-marker Entry entries (λ m l r h. is-row (Row.departure-unknown m l) h refl refl) m _ h
+  item-ends = end8 (IsRead s at) Stop (λ a p. tt) s bs at _ λ m h. each-marker Entry entries (λ m l r h. is-row (Row.departure-unknown m l (bytes-here h bs .0)) h refl refl) m _ h

@@ -1,9 +1,8 @@
--- What reading a value is, by document 01 (Marker, Fields, Reading, Why), by Adobe's document (Standard), and how the two meet (Shown); what writing one
+-- What reading a value is, by document 01 (Marker, Fields, Reading), by Adobe's document (Standard), and how the two meet (Shown); what writing one
 -- is (Shape, Writing), and which bytes those are by Adobe's document (Written).
 pub mod Marker
 pub mod Fields
 pub mod Reading
-pub mod Why
 pub mod Standard
 pub mod Shown
 pub mod Examples

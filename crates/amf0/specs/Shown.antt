@@ -1,10 +1,14 @@
 -- What the records of a reading show: a tree told from left to right, its texts taken out of the input.
-use Prim.Native.Nat.{ℕ, _+_}
+use Prim.Native.Nat.{ℕ, _+_, _≤_}
 use mathlib.Core.Path.{_≡_}
 use mathlib.Core.List.{List, [], _∷_, _++_}
+use mathlib.Core.Bool.{true}
+use lib.ListN.{length}
 use Rattle.image.specs.declared.record.Record.{Record}
 use Rattle.image.specs.declared.record.Record.the-variants.{Number, Boolean, Text, Object, Null, Undefined, Reference, EcmaArray, ObjectEnd, StrictArray, Date, Unsupported, Xml, TypedObject, Key, Packet, Header, Message, Lso}
 use Rattle.image.specs.Record.{bytesOf}
+use Rattle.image.specs.Taking.{Fits}
+use Rattle.wire.specs.Utf8.{utf8}
 use Rattle.wire.specs.Field.{bytesAt}
 use Rattle.amf0.specs.Standard.{Item, Tree, Sort}
 use Rattle.amf0.specs.Standard.Tree.{node, none, property, nil, cons}
@@ -55,8 +59,41 @@ abbrev pub laid : List Record → List ℕ
 laid [] = []
 laid (r ∷ rs) = bytesOf r ++ laid rs
 
--- image bytes that are records which, over the input s, tell the tree t
+-- a text of n bytes at p is inside the input, and UTF-8
+pub record Stands (s : List ℕ) (p n : ℕ) : Type 0 where
+  pub inside : p + n ≤ length s
+  pub right : utf8 (bytesAt n s p) ≡ true
+
+-- the text that a value's record names stands
+abbrev pub Named : List ℕ → Record → Type 0
+Named s (Number n) = Unit {0}
+Named s (Boolean b) = Unit {0}
+Named s (Text p n) = Stands s p n
+Named s Object = Unit {0}
+Named s Null = Unit {0}
+Named s Undefined = Unit {0}
+Named s (Reference n) = Unit {0}
+Named s (EcmaArray n) = Unit {0}
+Named s ObjectEnd = Unit {0}
+Named s (StrictArray n) = Unit {0}
+Named s (Date n present zone) = Unit {0}
+Named s Unsupported = Unit {0}
+Named s (Xml p n) = Stands s p n
+Named s (TypedObject p n) = Stands s p n
+Named s (Key p n) = Stands s p n
+Named s (Packet h m) = Unit {0}
+Named s (Header p n f) = Unit {0}
+Named s (Message p n q m) = Unit {0}
+Named s (Lso l p n) = Unit {0}
+
+-- records that can stand in an image, over an input: their numbers fit their fields, and the texts that they name stand
+abbrev pub Right : List ℕ → List Record → Type 0
+Right s [] = Unit {0}
+Right s (r ∷ rs) = Fits r × Named s r × Right s rs
+
+-- image bytes that are records which can stand in an image over the input s, and there tell the tree t
 pub record Shows (s : List ℕ) (t : Tree Sort.value) (image : List ℕ) : Type 0 where
   pub records : List Record
+  pub right : Right s records
   pub tells : words s records ≡ told t []
   pub lies : image ≡ laid records

@@ -20,6 +20,7 @@ use Rattle.image.specs.Taking.{recordAt}
 use Rattle.image.specs.Out.{Out, end, stop, put, _>>=_, row, Written, unwritten, settled}
 use Rattle.amf0.specs.declared.write.Rest.{Rest}
 use Rattle.amf0.specs.declared.write.Rest.the-variants.{Nothing, Pairs, Dense, Values}
+use Rattle.amf0.specs.Standard.{short-most}
 use Rattle.amf0.specs.Shape.{Shape}
 use Rattle.amf0.specs.Shape as S
 
@@ -33,11 +34,11 @@ plain m a b = record { mark = 1 bytes m; a = a; b = b; place = 0; length = 0 }
 abbrev pub texted : Field → ℕ → ℕ → ℕ → Row
 texted m w p n = record { mark = m; a = w bytes n; b = none; place = p; length = n }
 
--- What each record is put out as. A string of up to 65,535 bytes is a short one. The end of pairs is an empty key and the end marker.
+-- What each record is put out as. A string that fits a U16 length is a short one. The end of pairs is an empty key and the end marker.
 abbrev pub shapeOf : Record → Shape
 shapeOf (Number n) = S.Value (plain 0x00 (8 bytes n) none) Nothing
 shapeOf (Boolean b) = S.Value (plain 0x01 (1 bytes (bitOf b)) none) Nothing
-shapeOf (Text p n) = pick (leb n 65535) (S.Value (texted (1 bytes 0x02) 2 p n) Nothing) (S.Value (texted (1 bytes 0x0C) 4 p n) Nothing)
+shapeOf (Text p n) = pick (leb n short-most) (S.Value (texted (1 bytes 0x02) 2 p n) Nothing) (S.Value (texted (1 bytes 0x0C) 4 p n) Nothing)
 shapeOf Object = S.Value (plain 0x03 none none) Pairs
 shapeOf Null = S.Value (plain 0x05 none none) Nothing
 shapeOf Undefined = S.Value (plain 0x06 none none) Nothing

@@ -2,32 +2,28 @@
 use Prim.Native.Nat.{ℕ, suc, _+_, _<_, _≤_}
 use mathlib.Core.Path.{_≡_}
 use mathlib.Core.List.{List, [], _∷_, _++_, map}
-use mathlib.Core.Bool.{true}
 use lib.ListN.{length}
 use lib.Dec.{leb}
 use Rattle.wire.specs.Choice.{pick}
 use Rattle.wire.specs.Number.{digits}
 use Rattle.wire.specs.Bytes.{decimal}
-use Rattle.wire.specs.Utf8.{utf8}
-use Rattle.wire.specs.Field.{bytesAt}
 use Rattle.wire.specs.Limit as limit
 use Rattle.image.specs.declared.record.Record.{Record}
 use Rattle.image.specs.declared.record.Record.the-variants as R
 use Rattle.image.specs.Record.{bitOf}
-use Rattle.image.specs.Taking.{Fits}
-use Rattle.image.specs.Out.{Written, written, unwritten}
-use Rattle.amf0.specs.Standard.{Item, Sort, Tree, depth, follows, Encodes}
+use Rattle.image.specs.Out.{Written}
+use Rattle.amf0.specs.Standard.{Item, Sort, Tree, depth, follows, short-most, Encodes}
 use Rattle.amf0.specs.Standard.Item.{number, boolean, string, object, null, undefined, reference, ecma-array, strict-array, date, unsupported, xml-document, typed-object}
 use Rattle.amf0.specs.Standard.Sort.{value, properties, values}
-use Rattle.amf0.specs.Shown.{Word, look, laid}
+use Rattle.amf0.specs.Shown.{Word, look, laid, Right}
 use Rattle.amf0.specs.Reading.{readOf}
 use Rattle.amf0.specs.Writing.{writeOf}
 
 -- ---- the bytes of a tree
 
--- a string of up to 65,535 bytes is a short one
+-- a string that fits a U16 length is a short one
 abbrev pub writeString : List ℕ → List ℕ
-writeString t = pick (leb (length t) 65535) (0x02 ∷ digits 2 (length t) ++ t) (0x0C ∷ digits 4 (length t) ++ t)
+writeString t = pick (leb (length t) short-most) (0x02 ∷ digits 2 (length t) ++ t) (0x0C ∷ digits 4 (length t) ++ t)
 
 abbrev pub writeItem : Item → List ℕ
 writeItem (number n) = 0x00 ∷ digits 8 n
@@ -58,38 +54,6 @@ pub record Shortest (t : Tree value) (x : List ℕ) : Type 0 where
   pub least : (y : List ℕ) → Encodes value t y → length x ≤ length y
 
 -- ---- the tree of an image
-
--- a text of n bytes at p is inside the given one, and UTF-8
-pub record Stands (s : List ℕ) (p n : ℕ) : Type 0 where
-  pub inside : p + n ≤ length s
-  pub right : utf8 (bytesAt n s p) ≡ true
-
--- the text that a value's record names stands
-abbrev pub Named : List ℕ → Record → Type 0
-Named s (R.Number n) = Unit {0}
-Named s (R.Boolean b) = Unit {0}
-Named s (R.Text p n) = Stands s p n
-Named s R.Object = Unit {0}
-Named s R.Null = Unit {0}
-Named s R.Undefined = Unit {0}
-Named s (R.Reference n) = Unit {0}
-Named s (R.EcmaArray n) = Unit {0}
-Named s R.ObjectEnd = Unit {0}
-Named s (R.StrictArray n) = Unit {0}
-Named s (R.Date n present zone) = Unit {0}
-Named s R.Unsupported = Unit {0}
-Named s (R.Xml p n) = Stands s p n
-Named s (R.TypedObject p n) = Stands s p n
-Named s (R.Key p n) = Stands s p n
-Named s (R.Packet h m) = Unit {0}
-Named s (R.Header p n f) = Unit {0}
-Named s (R.Message p n q m) = Unit {0}
-Named s (R.Lso l p n) = Unit {0}
-
--- records that can stand in an image, over a text
-abbrev pub Right : List ℕ → List Record → Type 0
-Right s [] = Unit {0}
-Right s (r ∷ rs) = Fits r × Named s r × Right s rs
 
 -- whether values without a key may come before pairs, and then the number of the next one
 pub data Lead : Type 0 where
@@ -140,20 +104,6 @@ pub record Writable (image text : List ℕ) (t : Tree value) : Type 0 where
   pub image-size : length image ≤ limit.image
   pub images : Images text t image
   pub deep : depth t ≤ limit.levels
-
--- What the public call can come to in a room, and when.
-pub data Outcome (image text : List ℕ) (room : ℕ) : Written → Type 0 where
-  text-over : limit.bytes < length text → Outcome image text room (unwritten 1)
-  image-over : limit.image < length image → Outcome image text room (unwritten 1)
-  -- the image is that of no tree
-  no-tree : length text ≤ limit.bytes → length image ≤ limit.image → ((t : Tree value) → Images text t image → ⊥) → Outcome image text room (unwritten 6)
-  -- the image is that of a tree that is too deep, or of none
-  too-deep : length text ≤ limit.bytes → length image ≤ limit.image → ((t : Tree value) → Images text t image → limit.levels < depth t)
-      → Outcome image text room (unwritten 5)
-  output-over : {t : Tree value} → Writable image text t → limit.bytes < length (write t) → Outcome image text room (unwritten 1)
-  no-room : {t : Tree value} → Writable image text t → length (write t) ≤ limit.bytes → room < length (write t) → Outcome image text room (unwritten 4)
-  put-out : {t : Tree value} → Writable image text t → length (write t) ≤ limit.bytes → length (write t) ≤ room
-      → Outcome image text room (written (write t))
 
 -- the reasons for the answer 1
 pub data Over (image text : List ℕ) : Type 0 where

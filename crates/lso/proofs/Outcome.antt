@@ -21,8 +21,7 @@ use Rattle.image.specs.Due.{Due, end, stop, due, _>>=_}
 use Rattle.image.specs.Whole.{Whole, bytes, accepted, refused}
 use Rattle.image.proofs.Laws.{size-bytes, size-some}
 use Rattle.amf0.specs.Reading.{value}
-use Rattle.amf0.proofs.Reasons.{Kept, kept}
-use Rattle.amf0.proofs.Outcome.{Named, named}
+use Rattle.amf0.proofs.Reasons.{Named, Kept, kept}
 use Rattle.lso.specs.File.{version, signature}
 use Rattle.lso.specs.Reading.{End, endOf, headerAt, elementAt, Body, bodyAt, headed, everDue, incompleteOf, all, wholeOf}
 use Rattle.lso.specs.Reading.End.{ends, stops}
@@ -40,7 +39,7 @@ Sized A s c (due r p d) = Sized A s (c + length (bytesOf r)) d
 
 from-kept : (s : List ℕ) (c : ℕ) (d : Due) → Kept s c d → Sized Named s c d
 from-kept s c (end n) k = k
-from-kept s c (stop a p) k = (k .0, named (k .1))
+from-kept s c (stop a p) k = (k .0, k .1)
 from-kept s c (due r p d) k = from-kept s (c + length (bytesOf r)) d k
 
 fewer : (s : List ℕ) (c b : ℕ) (d : Due) → c ≤ b → Sized Named s b d → Sized Named s c d

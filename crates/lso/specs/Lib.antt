@@ -3,7 +3,6 @@
 pub mod File
 pub mod Reading
 pub mod Shown
-pub mod Examples
 pub mod Code
 pub mod Writing
 pub mod Written

@@ -1,5 +1,5 @@
 -- What the records of a file's image mean, and the bytes that a file is written as.
-use Prim.Native.Nat.{ℕ, _+_, _-_, _^_, _≤_, _<_}
+use Prim.Native.Nat.{ℕ, _-_, _^_, _≤_, _<_}
 use mathlib.Core.Path.{_≡_}
 use mathlib.Core.List.{List, [], _∷_, _++_}
 use lib.ListN.{length, take, drop}
@@ -10,11 +10,10 @@ use Rattle.image.specs.declared.record.Record.{Record}
 use Rattle.image.specs.declared.record.Record.the-variants as R
 use Rattle.image.specs.Taking.{Fits}
 use Rattle.image.specs.Whole.{Whole}
-use Rattle.image.specs.Out.{Written, written, unwritten}
+use Rattle.image.specs.Out.{Written}
 use Rattle.amf0.specs.Standard.{Sort, Tree}
-use Rattle.amf0.specs.Shown.{laid}
+use Rattle.amf0.specs.Shown.{laid, Stands, Right}
 use Rattle.amf0.specs.Written as amf0
-use Rattle.amf0.specs.Written.{Stands, Right}
 use Rattle.amf0.specs.Written.Lead.{keyed}
 use Rattle.lso.specs.File.{Body, Lso, version, signature, padding, deepest}
 use Rattle.lso.specs.Writing.{lengthOf, writeOf}
@@ -76,20 +75,6 @@ pub record Writable (image text : List ℕ) (file : Lso) : Type 0 where
   pub image-size : length image ≤ limit.image
   pub images : Images text file image
   pub deep : deepest (file .body) ≤ limit.levels
-
--- What the public call can come to in a room, and when.
-pub data Outcome (image text : List ℕ) (room : ℕ) : Written → Type 0 where
-  text-over : limit.bytes < length text → Outcome image text room (unwritten 1)
-  image-over : limit.image < length image → Outcome image text room (unwritten 1)
-  -- the image is that of no file
-  no-file : length text ≤ limit.bytes → length image ≤ limit.image → ((f : Lso) → Images text f image → ⊥) → Outcome image text room (unwritten 6)
-  -- the image is that of a file with a value that is too deep, or of none
-  too-deep : length text ≤ limit.bytes → length image ≤ limit.image → ((f : Lso) → Images text f image → limit.levels < deepest (f .body))
-      → Outcome image text room (unwritten 5)
-  output-over : {f : Lso} → Writable image text f → limit.bytes < length (write f) → Outcome image text room (unwritten 1)
-  no-room : {f : Lso} → Writable image text f → length (write f) ≤ limit.bytes → room < length (write f) → Outcome image text room (unwritten 4)
-  put-out : {f : Lso} → Writable image text f → length (write f) ≤ limit.bytes → length (write f) ≤ room
-      → Outcome image text room (written (write f))
 
 -- an input is read in one room, and what was read is written in another
 abbrev pub rewriteOf : (List ℕ → ℕ → Whole) → List ℕ → ℕ → ℕ → Written

@@ -1,5 +1,5 @@
 -- The laws of heads, of the cut and of an entry's reading.
-use Prim.Native.Nat.{ℕ, zero, suc, _+_, _*_, _-_, _≤_, _<_}
+use Prim.Native.Nat.{ℕ, zero, suc, _+_, _-_, _≤_, _<_}
 use mathlib.Core.Path.{_≡_, refl, ap, _∙_}
 use mathlib.Core.List.{List, [], _∷_, _++_, append-assoc, append-nil}
 use mathlib.Core.Bool.{Bool, true, false}
@@ -30,10 +30,8 @@ use Rattle.image.specs.Whole.{refused, finished}
 use Rattle.image.proofs.Laws.{clear-more}
 use Rattle.image.proofs.Settle.{finished-ran}
 use Rattle.amf0.specs.Reading.{value, valueIn}
-use Rattle.amf0.specs.Why.{Reasoned}
 use Rattle.amf0.proofs.Laws.{part-read}
-use Rattle.amf0.proofs.Outcome.{named}
-use Rattle.amf0.proofs.Reasons.{kept, because}
+use Rattle.amf0.proofs.Reasons.{Kept, kept}
 use Rattle.packet.specs.declared.head.Entry.{Entry}
 use Rattle.packet.specs.declared.head.Head.{Head}
 use Rattle.packet.specs.declared.head.Head.the-variants as Head
@@ -502,10 +500,10 @@ run-halts (due r p d) made image h =
     picked (λ (x : Ran). Halts (x .step)) (leb (made + size r) (length image)) _ _
     (λ t. run-halts d (made + size r) (sets image made (bytesOf r)) h) (λ t. omega arith)
 
-pub reasoned-answers : (b : ℕ) (s : List ℕ) (d : Due) → Reasoned s d → Answers (based b d)
-reasoned-answers b s (end n) r = tt
-reasoned-answers b s (stop a p) r = omega (arith, named r .low)
-reasoned-answers b s (due q p d) r = reasoned-answers b s d r
+kept-answers : (b : ℕ) (s : List ℕ) (c : ℕ) (d : Due) → Kept s c d → Answers (based b d)
+kept-answers b s c (end n) k = tt
+kept-answers b s c (stop a p) k = omega (arith, k .1 .low)
+kept-answers b s c (due r p d) k = kept-answers b s (c + length (bytesOf r)) d k
 
 -- a step judged, and the whole judged
 judge-finished : (base n : ℕ) (i : List ℕ) (x : Step) → Halts x → finished (judgedOf x base n) i ≡ judge n (finished x i)
@@ -530,7 +528,7 @@ entry-read s image i e x l h r =
     let v = value limit.levels (spanOf s e) 0 in
     let d = based (e .place) v in
     let q = r ∙ ap (λ (d : Due). run d 0 image) (part-read (e .place) (spanOf s e) 0 (omega arith) (omega arith)) in
-    let w = reasoned-answers (e .place) (spanOf s e) v (because (spanOf s e) (3 * 0) v (kept limit.levels (spanOf s e) 0 (omega arith))) in
+    let w = kept-answers (e .place) (spanOf s e) 0 v (kept limit.levels (spanOf s e) 0 (omega arith)) in
     let a : Halts x = rw (ap (λ (y : Ran). y .step) q) (run-halts d 0 image w) in
     rw (n, judge-finished (e .place) (e .length) i x a, finished-ran d image q)
 

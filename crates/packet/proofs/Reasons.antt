@@ -21,9 +21,7 @@ use Rattle.image.specs.Due.{Due, end, stop, due, _>>=_, based, Ends, Stops}
 use Rattle.image.specs.Whole.{bytes}
 use Rattle.image.proofs.Laws.{based-zero, size-bytes, size-moved}
 use Rattle.amf0.specs.Reading.{value}
-use Rattle.amf0.specs.Why.{Why}
 use Rattle.amf0.proofs.Reasons as values
-use Rattle.amf0.proofs.Outcome.{named}
 use Rattle.packet.specs.declared.head.Entry.{Entry}
 use Rattle.packet.specs.declared.head.Head.{Head}
 use Rattle.packet.specs.declared.head.Head.the-variants as Head
@@ -41,8 +39,8 @@ pub record Tells (a : ℕ) : Type 0 where
 field-tells : {a : ℕ} → Field a → Tells a
 field-tells f = record { low = omega arith; high = omega arith; room = λ e. omega arith; tree = λ e. omega arith }
 
-why-tells : {s : List ℕ} {a p : ℕ} → Why s a p → Tells a
-why-tells {s} {a} {p} w = let n = named w in record { low = n .low; high = omega arith; room = n .other; tree = λ e. omega arith }
+value-tells : {a : ℕ} → values.Named a → Tells a
+value-tells n = record { low = n .low; high = omega arith; room = n .other; tree = λ e. omega arith }
 
 -- c bytes are laid already, in all at most three for each byte up to the end
 abbrev pub Kept : List ℕ → ℕ → Due → Type 0
@@ -63,7 +61,7 @@ bind-kept s c (due r p d) k h g = bind-kept s (c + length (bytesOf r)) d k h g
 -- a part's reading too
 pub value-kept : (b : ℕ) (s : List ℕ) (c : ℕ) (d : Due) → values.Kept s c d → Kept s c (based b d)
 value-kept b s c (end n) k = k
-value-kept b s c (stop a p) k = (k .0, why-tells (k .1))
+value-kept b s c (stop a p) k = (k .0, value-tells (k .1))
 value-kept b s c (due r p d) k =
     let e : length (bytesOf (moved b r)) ≡ length (bytesOf r) = size-bytes (moved b r) ∙ size-moved b r ∙ sym (size-bytes r) in
     fewer s (c + length (bytesOf (moved b r))) (c + length (bytesOf r)) (based b d) (omega arith) (value-kept b s (c + length (bytesOf r)) d k)

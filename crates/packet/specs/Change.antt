@@ -1,4 +1,4 @@
--- A packet with other bytes in its values, and a packet whose declared lengths are those of its values: what demand 3 speaks of.
+-- A packet with other bytes in its values, and what its entries answer against the value reader and against the whole reading: what demand 3 speaks of.
 use Prim.Native.Nat.{ℕ, suc, _+_, _≤_, _<_}
 use mathlib.Core.Path.{_≡_}
 use mathlib.Core.Logic.{_≢_, _⊎_}
@@ -12,8 +12,6 @@ use Rattle.image.specs.Whole.{Whole, accepted, refused}
 use Rattle.amf0.specs.Reading.{readOf}
 use Rattle.amf0.specs.Shown.{laid}
 use Rattle.packet.specs.declared.head.Entry.{Entry}
-use Rattle.packet.specs.Packet
-use Rattle.packet.specs.Packet.{Label, Item, Items, Encoded}
 use Rattle.packet.specs.Reading.{recordOf, wholeOf}
 use Rattle.packet.specs.Entry.{found, cutOf, noEntry, spanOf, readEntry}
 
@@ -61,20 +59,6 @@ pub record Agrees (s : List ℕ) (room : ℕ) : Type 0 where
   pub accepts : (k : ℕ) → k < length (headers ++ messages)
       → readEntry s k room ≡ accepted (getD (headers ++ messages) k noEntry .length) (readEntry s k room .bytes)
   pub image : wholeOf s room .bytes ≡ bytesOf (R.Packet (length headers) (length messages)) ++ imagesFrom s room 0 (headers ++ messages)
-
--- every entry in a row declares the length of the bytes that encode its value
-abbrev pub ExactItems : {Kind : Label → Type 0} {is : List Item} {x : List ℕ} → Items Kind is x → Type 0
-ExactItems Items.none = Unit {0}
-ExactItems (Items.more {d} {y} k h b v i) = (d ≡ length y) × ExactItems i
-
-abbrev pub ExactPacket : {p : Packet.Packet} {s : List ℕ} → Encoded p s → Type 0
-ExactPacket (Encoded.packet h m hs ms) = ExactItems hs × ExactItems ms
-
--- a packet with exact lengths: s encodes a packet, each entry of which declares the length of the bytes that encode its value
-pub record Exact (s : List ℕ) : Type 0 where
-  pub packet : Packet.Packet
-  pub encoded : Encoded packet s
-  pub exact : ExactPacket encoded
 
 -- what the changed packet t keeps of s, which its declared lengths cut into the entries es, and what its changed values answer
 pub record Keeps (s t : List ℕ) (es : List Entry) : Type 0 where

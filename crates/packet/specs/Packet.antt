@@ -1,5 +1,5 @@
 -- The packet, as the Rust has it: which rows of bytes are a packet, with its values as AMF 0 has them, and the length that each entry declares.
-use Prim.Native.Nat.{ℕ, suc, _^_, _<_}
+use Prim.Native.Nat.{ℕ, _^_, _≤_, _<_}
 use mathlib.Core.List.{List, [], _∷_, _++_}
 use mathlib.Core.Bool.{Bool, true, false}
 use lib.ListN.{length}
@@ -23,7 +23,9 @@ pub record Packet : Type 0 where
 
 pub data Head : Label → List ℕ → Type 0 where
   header-false : {name x : List ℕ} → UTF-8 name x → Head (Label.header name false) (x ++ (0 ∷ []))
-  header-true : {name x : List ℕ} (b : ℕ) → UTF-8 name x → Head (Label.header name true) (x ++ (suc b ∷ []))
+  header-true : {name x : List ℕ} → UTF-8 name x → Head (Label.header name true) (x ++ (1 ∷ []))
+  -- 0 is false and every other byte true
+  header-above : {name x : List ℕ} (b : ℕ) → 2 ≤ b → b < 256 → UTF-8 name x → Head (Label.header name true) (x ++ (b ∷ []))
   message : {target response x y : List ℕ} → UTF-8 target x → UTF-8 response y → Head (Label.message target response) (x ++ y)
 
 abbrev pub IsHeader : Label → Type 0

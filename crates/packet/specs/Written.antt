@@ -1,5 +1,5 @@
 -- What the records of a packet's image mean, the bytes that a packet is written as, and the entries that those are cut into.
-use Prim.Native.Nat.{ℕ, _+_, _≤_, _<_}
+use Prim.Native.Nat.{ℕ, _+_, _≤_}
 use mathlib.Core.Path.{_≡_}
 use mathlib.Core.List.{List, [], _∷_, _++_, map}
 use mathlib.Core.Bool.{Bool}
@@ -8,20 +8,18 @@ use Rattle.wire.specs.Number.{digits}
 use Rattle.wire.specs.Field.{bytesAt}
 use Rattle.wire.specs.Limit as limit
 use Rattle.image.specs.declared.record.Record.{Record}
-use Rattle.image.specs.declared.record.Record.the-variants as R
 use Rattle.image.specs.Record.{bitOf}
 use Rattle.image.specs.Taking.{Fits}
 use Rattle.image.specs.Whole.{Whole}
-use Rattle.image.specs.Out.{Written, written, unwritten}
+use Rattle.image.specs.Out.{Written}
 use Rattle.amf0.specs.Standard as standard
 use Rattle.amf0.specs.Standard.{Sort, Tree}
-use Rattle.amf0.specs.Shown.{laid}
+use Rattle.amf0.specs.Shown.{laid, Right}
 use Rattle.amf0.specs.Written as amf0
-use Rattle.amf0.specs.Written.{Stands, Right}
 use Rattle.amf0.specs.Written.Lead.{keyed}
 use Rattle.packet.specs.declared.head.Entry.{Entry}
 use Rattle.packet.specs.Packet.{Label, Item, Packet, IsHeader, IsMessage}
-use Rattle.packet.specs.Shown.{Within}
+use Rattle.packet.specs.Shown.{Names, counts, Within}
 use Rattle.packet.specs.Entry.{spanOf}
 use Rattle.packet.specs.Writing.{declared, writeOf}
 
@@ -59,22 +57,12 @@ saying exact p = record { headers = map (sayingItem exact) (p .headers); message
 
 -- ---- the packet of an image
 
--- the record of an entry names its texts, which stand in s
-pub data Names (s : List ℕ) : Label → Record → Type 0 where
-  header : {name : List ℕ} {p n : ℕ} (flag : Bool) → Stands s p n → bytesAt n s p ≡ name → Names s (Label.header name flag) (R.Header p n flag)
-  message : {target response : List ℕ} {p n q m : ℕ} → Stands s p n → Stands s q m → bytesAt n s p ≡ target → bytesAt m s q ≡ response
-      → Names s (Label.message target response) (R.Message p n q m)
-
 -- records that spell entries of one kind in a row, over a text: each entry's own, and then those of its value. They don't tell what it declares.
 pub data Spells (s : List ℕ) (Kind : Label → Type 0) : List Item → List Record → Type 0 where
   none : Spells s Kind [] []
   more : {l : Label} {d : ℕ} {v : Tree Sort.value} {is : List Item} {r : Record} {rs qs : List Record} → Kind l → Fits r → Names s l r → Right s rs
       → amf0.Spells s keyed Sort.value v rs → Spells s Kind is qs
       → Spells s Kind (record { label = l; declared = d; value = v } ∷ is) (r ∷ (rs ++ qs))
-
--- the packet's record, with both counts
-abbrev pub counts : Packet → Record
-counts p = R.Packet (length (p .headers)) (length (p .messages))
 
 -- image bytes that are the packet's record, and then records which, over the text s, spell its headers and its messages
 pub record Images (s : List ℕ) (p : Packet) (image : List ℕ) : Type 0 where
@@ -92,21 +80,6 @@ pub record Writable (image text : List ℕ) (p : Packet) : Type 0 where
   pub image-size : length image ≤ limit.image
   pub images : Images text p image
   pub deep : Within limit.levels p
-
--- What the public call can come to in a room, and when.
-pub data Outcome (image text : List ℕ) (exact : Bool) (room : ℕ) : Written → Type 0 where
-  text-over : limit.bytes < length text → Outcome image text exact room (unwritten 1)
-  image-over : limit.image < length image → Outcome image text exact room (unwritten 1)
-  -- the image is that of no packet
-  no-packet : length text ≤ limit.bytes → length image ≤ limit.image → ((p : Packet) → Images text p image → ⊥) → Outcome image text exact room (unwritten 6)
-  -- the image is that of a packet with a value that is too deep, or of none
-  too-deep : length text ≤ limit.bytes → length image ≤ limit.image → ((p : Packet) → Images text p image → Within limit.levels p → ⊥)
-      → Outcome image text exact room (unwritten 5)
-  output-over : {p : Packet} → Writable image text p → limit.bytes < length (write exact p) → Outcome image text exact room (unwritten 1)
-  no-room : {p : Packet} → Writable image text p → length (write exact p) ≤ limit.bytes → room < length (write exact p)
-      → Outcome image text exact room (unwritten 4)
-  put-out : {p : Packet} → Writable image text p → length (write exact p) ≤ limit.bytes → length (write exact p) ≤ room
-      → Outcome image text exact room (written (write exact p))
 
 -- an input is read in one room, and what was read is written in another
 abbrev pub rewriteOf : (List ℕ → ℕ → Whole) → List ℕ → ℕ → Bool → ℕ → Written
