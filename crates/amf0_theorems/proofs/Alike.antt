@@ -15,10 +15,11 @@ use Rattle.amf0.specs.Reading.{value}
 use Rattle.amf0.specs.Standard.{Item, Sort, Tree, depth, Row, Encodes}
 use Rattle.amf0.specs.Standard.UTF-8.{short}
 use Rattle.amf0.specs.Standard.UTF-8-long.{long}
-use Rattle.amf0.specs.Written.{Right, unplaced, Alike}
+use Rattle.amf0.specs.Shown.{Right}
+use Rattle.amf0.specs.Written.{unplaced, Alike}
 use Rattle.amf0.proofs.Rows.{mark}
 use Rattle.amf0_theorems.proofs.Complete.{marks, lay, lay-append, complete}
-use Rattle.amf0_theorems.proofs.Spelling.{marks-right}
+use Rattle.amf0_theorems.proofs.Spelling.{read-right}
 use Rattle.amf0_theorems.proofs.Telling.{recordsOf, bytes-laid}
 
 -- the record of an item, and those of a tree and then more, but for places
@@ -48,28 +49,31 @@ mark-alike : {i : Item} {x : List ℕ} (row : Row i x) (at : ℕ) → unplaced (
 unfolding mark
 mark-alike (Row.number n h) at = refl
 mark-alike Row.boolean-false at = refl
-mark-alike (Row.boolean-true b) at = refl
+mark-alike Row.boolean-true at = refl
+mark-alike (Row.boolean-above b h l) at = refl
 mark-alike (Row.string (short t h u)) at = refl
 mark-alike Row.object at = refl
 mark-alike Row.null at = refl
 mark-alike Row.undefined at = refl
-mark-alike (Row.reference n h) at = refl
-mark-alike (Row.ecma-array n h) at = refl
+mark-alike (Row.departure-any-index n h) at = refl
+mark-alike (Row.departure-any-count n h) at = refl
 mark-alike (Row.strict-array n h) at = refl
-mark-alike (Row.date n z h l) at = refl
-mark-alike (Row.long-string (long t h u)) at = refl
+mark-alike (Row.date n h) at = refl
+mark-alike (Row.departure-any-zone n z h k l) at = refl
+mark-alike (Row.long-string (long t h u) l) at = refl
+mark-alike (Row.departure-long-string (long t h u) l) at = refl
 mark-alike Row.unsupported at = refl
 mark-alike (Row.xml-document (long t h u)) at = refl
 mark-alike (Row.typed-object (short t h u)) at = refl
 mark-alike Row.departure-avmplus at = refl
-mark-alike (Row.departure-unknown m h) at = refl
+mark-alike (Row.departure-unknown m h l) at = refl
 
 marks-alike : {k : Sort} {t : Tree k} {x : List ℕ} (e : Encodes k t x) (at : ℕ) (d : Due)
     → map unplaced (recordsOf (lay (marks e at) d)) ≡ ofTree t (map unplaced (recordsOf d))
 unfolding marks
 marks-alike (Encodes.node {x} row e) at d = rw (mark-alike row at, marks-alike e (at + length x) d)
 marks-alike Encodes.end at d = refl
-marks-alike (Encodes.departure-named-end (short k h u)) at d = refl
+marks-alike (Encodes.departure-named-end (short k h u) l) at d = refl
 marks-alike (Encodes.property {v} {y} (short k h u) e f) at d =
     let q : ℕ = at + 2 + length k in
     rw (← lay-append (marks e q) (marks f (q + length y)) d, marks-alike e q (lay (marks f (q + length y)) d), marks-alike f (q + length y) d)
@@ -86,22 +90,22 @@ pub read : {t : Tree Sort.value} (s x z : List ℕ) (at : ℕ) → Encodes Sort.
 read s x z at e h d l =
     let c = complete e s z at (at + length x) limit.levels (length x) h refl d (omega arith) in
     record {
-      right = rw c (marks-right e s z at (end (at + length x)) l h tt);
+      right = read-right s z at e h d l;
       same = ap (λ g. map unplaced (recordsOf g)) c ∙ marks-alike e at (end (at + length x));
     }
 
-pub read-alike : {s x z b y w : List ℕ} {t : Tree Sort.value} → Encodes Sort.value t x → Here s 0 x z → Encodes Sort.value t y → Here b 0 y w
+pub read-alike : {s x z b y w : List ℕ} {at to : ℕ} {t : Tree Sort.value} → Encodes Sort.value t x → Here s at x z → Encodes Sort.value t y → Here b to y w
     → depth t ≤ limit.levels → length s ≤ limit.bytes → length b ≤ limit.bytes
-    → Alike s b (bytes (value limit.levels s 0)) (bytes (value limit.levels b 0))
-read-alike {s} {x} {z} {b} {y} {w} e h f i d l k =
-    let m = read s x z 0 e h d l in
-    let n = read b y w 0 f i d k in
+    → Alike s b (bytes (value limit.levels s at)) (bytes (value limit.levels b to))
+read-alike {s} {x} {z} {b} {y} {w} {at} {to} e h f i d l k =
+    let m = read s x z at e h d l in
+    let n = read b y w to f i d k in
     record {
-      first = recordsOf (value limit.levels s 0);
-      second = recordsOf (value limit.levels b 0);
+      first = recordsOf (value limit.levels s at);
+      second = recordsOf (value limit.levels b to);
       right = m .right;
       right-too = n .right;
-      lies = bytes-laid (value limit.levels s 0);
-      lies-too = bytes-laid (value limit.levels b 0);
+      lies = bytes-laid (value limit.levels s at);
+      lies-too = bytes-laid (value limit.levels b to);
       same = m .same ∙ sym (n .same);
     }

@@ -21,15 +21,15 @@ use Rattle.amf0.specs.declared.read.Fields.the-variants.{Got, Stop}
 use Rattle.amf0.specs.Marker.{markerOf}
 use Rattle.amf0.specs.Fields.{fieldsAt, gives, gotFields}
 use Rattle.amf0.specs.Reading.{items, pair, pairs, follow, value}
-use Rattle.amf0.specs.Standard.{Item, Sort, Tree, depth, follows, Encodes}
+use Rattle.amf0.specs.Standard.{Item, Sort, many, Tree, depth, follows, Encodes}
 use Rattle.amf0.specs.Standard.UTF-8.{short}
-use Rattle.amf0.proofs.Rows.{itemAt, mark, next, many, Begins, row-begins, item-at}
+use Rattle.amf0.proofs.Rows.{itemAt, mark, next, Begins, row-begins, item-at}
 
 -- the records of a row of bytes that stands at a place, each with the place that a refusal for room would name
 unfoldable pub marks : {k : Sort} {t : Tree k} {x : List ℕ} → Encodes k t x → ℕ → List (Record × ℕ)
 marks (Encodes.node {x} row e) at = (mark row at, at) ∷ marks e (at + length x)
 marks Encodes.end at = (ObjectEnd, at + 2 + 0) ∷ []
-marks (Encodes.departure-named-end (short k h u)) at = (ObjectEnd, at + 2 + length k) ∷ []
+marks (Encodes.departure-named-end (short k h u) l) at = (ObjectEnd, at + 2 + length k) ∷ []
 marks (Encodes.property {y} (short k h u) e f) at = (Key (at + 2) (length k), at) ∷ (marks e (at + 2 + length k) ++ marks f (at + 2 + length k + length y))
 marks Encodes.nil at = []
 marks (Encodes.cons {x} e f) at = marks e at ++ marks f (at + length x)
@@ -84,12 +84,12 @@ value-item left s at = go (u8At s at)
     go (U8.Got m c) = refl
     go (U8.Stop a p) = refl
 
-value-at : (s : List ℕ) (at left : ℕ) {r : Record} {f : Follow} {q : ℕ} → itemAt s at ≡ gives r f q → 1 ≤ left
+pub value-at : (s : List ℕ) (at left : ℕ) {r : Record} {f : Follow} {q : ℕ} → itemAt s at ≡ gives r f q → 1 ≤ left
     → value left s at ≡ due r at (follow (value (pred left) s) s f q)
 value-at s at zero e l = absurd (omega arith)
 value-at s at (suc left) e l = value-item left s at ∙ rw e
 
-pairs-at : {s a b : List ℕ} {at m : ℕ} (inner : ℕ → Due) (fuel : ℕ) (k : List ℕ) → 1 ≤ fuel → length k < 256 ^ 2 → utf8 k ≡ true
+pub pairs-at : {s a b : List ℕ} {at m : ℕ} (inner : ℕ → Due) (fuel : ℕ) (k : List ℕ) → 1 ≤ fuel → length k < 256 ^ 2 → utf8 k ≡ true
     → Here s at (digits 2 (length k) ++ k) a → Here s (at + 2 + length k) (m ∷ []) b
     → pairs inner s fuel at
     ≡ pick (eqb m 9) (due ObjectEnd (at + 2 + length k) (end (at + 2 + length k + 1)))
@@ -114,10 +114,10 @@ begun (Encodes.node {x} {y} row e) =
     record { first = b .first; rest = b .rest ++ y; same = ap (λ z. z ++ y) (b .same); other = b .other }
 
 -- values that follow one another have a byte each
-held : {k : Sort} {t : Tree k} {x : List ℕ} → Encodes k t x → many k ≤ length x
+pub held : {k : Sort} {t : Tree k} {x : List ℕ} → Encodes k t x → many k ≤ length x
 held (Encodes.node row e) = omega arith
 held Encodes.end = omega arith
-held (Encodes.departure-named-end u) = omega arith
+held (Encodes.departure-named-end u l) = omega arith
 held (Encodes.property u e f) = omega arith
 held Encodes.nil = omega arith
 held (Encodes.cons {x} {y} e f) = omega (arith, held f, ap length (begun e .same), length-append x y)
@@ -137,7 +137,7 @@ complete (Encodes.node {i} {x} {y} row e) s r at n left fuel h l d f =
     ∙ ap (due (mark row at) at)
     (follow-next (value (pred left) s) s i q ∙ complete e s r q n (pred left) (length s) z (omega arith) (omega arith) (within z))
 complete Encodes.end s r at n left fuel h l d f = closes (value left s) [] s r at n fuel (lit< tt) refl h (omega arith) (omega arith)
-complete (Encodes.departure-named-end (short k h u)) s r at n left fuel g l d f =
+complete (Encodes.departure-named-end (short k h u) o) s r at n left fuel g l d f =
     closes (value left s) k s r at n fuel h u g (omega (arith, length-append k (9 ∷ []))) (omega arith)
 complete (Encodes.property {y} {z} (short k h u) e g) s r at n left fuel a l d f =
     let x : List ℕ = digits 2 (length k) ++ k in

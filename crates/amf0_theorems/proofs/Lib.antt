@@ -1,10 +1,16 @@
--- `Theorems` has what is proved of the reading, and `WriteTheorems` what is proved of the writing and of the round trip. The files below each are what it
--- is proved by.
+-- `Theorems` has what is proved of the reading, `Refusals` what is proved of readings that are refused, `WriteTheorems` what is proved of the writing and of the
+-- round trip, and `Room` the round trip in every room. The files below each are what it is proved by.
 pub mod Theorems
 pub mod Complete
 pub mod Sound
 pub mod Telling
 pub mod Shifting
+pub mod Refusals
+pub mod Refused
+pub mod Stopped
+pub mod Refusing
+pub mod Leading
+pub mod Bytes
 pub mod WriteTheorems
 pub mod Says
 pub mod Puts
@@ -12,5 +18,11 @@ pub mod Shortest
 pub mod Spelling
 pub mod Alike
 pub mod WriteOutcome
+pub mod Seen
 pub mod WriteSound
+pub mod WriteRefusal
+pub mod WriteRefusing
 pub mod WriteReasons
+pub mod Room
+pub mod More
+pub mod Settled

@@ -17,9 +17,9 @@ use Rattle.image.specs.Out.{Out, end, stop, put, _>>=_, row}
 use Rattle.image.proofs.Laws.{size-bytes, size-some}
 use Rattle.image.proofs.Found.{found-here}
 use Rattle.amf0.specs.Standard.{Item, Sort, Tree, depth, follows}
-use Rattle.amf0.specs.Shown.{Word, look, laid}
+use Rattle.amf0.specs.Shown.{Word, look, laid, Right}
 use Rattle.amf0.specs.Writing.{kinds, among, valueAt, items, pairs, dense, rest, value}
-use Rattle.amf0.specs.Written.{write, writeItem, Right, Lead, lead, Spells}
+use Rattle.amf0.specs.Written.{write, writeItem, Lead, lead, Spells}
 use Rattle.amf0.specs.Written.Lead.{keyed, keyless}
 use Rattle.amf0_theorems.proofs.Complete.{within}
 use Rattle.amf0_theorems.proofs.Says.{restOf, says, Itemed, Keyed, Closed}
@@ -65,7 +65,7 @@ right-both s (r ∷ rs) qs g h = (g .0, g .1, right-both s rs qs (g .2) h)
 pub one : {s : List ℕ} {v : Tree Sort.value} {rs : List Record} → Spells s keyed Sort.value v rs → 1 ≤ length (laid rs)
 one (Spells.node {r} {rs} e c) = omega (arith, size-some r, laid-size r rs)
 
-pub some : {s : List ℕ} {l : Lead} {ps : Tree Sort.properties} {rs : List Record} → Spells s l Sort.properties ps rs → 1 ≤ length (laid rs)
+some : {s : List ℕ} {l : Lead} {ps : Tree Sort.properties} {rs : List Record} → Spells s l Sort.properties ps rs → 1 ≤ length (laid rs)
 some (Spells.none {r} e) = omega (arith, size-some r, laid-size r [])
 some (Spells.property {r} {rs} {qs} e c d) = omega (arith, size-some r, laid-size r (rs ++ qs))
 some (Spells.dense {rs} {qs} c d) = omega (arith, some d, laid-length rs qs)
@@ -83,7 +83,7 @@ module _ (s image : List ℕ) where
   part v fuel (keyless k) Sort.properties at = dense v image s (suc fuel) k at
   part v fuel (keyless k) (Sort.values n) at = items v image s n at
 
-  rest-part : (v : ℕ → Out) (i : Item) (q : ℕ) → rest v image s (restOf i) q ≡ part v (length image) (lead i) (follows i) q
+  pub rest-part : (v : ℕ → Out) (i : Item) (q : ℕ) → rest v image s (restOf i) q ≡ part v (length image) (lead i) (follows i) q
   unfolding rest items
   rest-part v (Item.number n) q = refl
   rest-part v (Item.boolean b) q = refl
@@ -106,7 +106,7 @@ module _ (s image : List ℕ) where
     pub others : Here image (at + size r) (laid rs) z
     others = rw (← size-bytes r) (skip (bytesOf r) (laid rs) h)
 
-    kind-at : valueAt image at ≡ among kinds (layoutOf r .kind)
+    pub kind-at : valueAt image at ≡ among kinds (layoutOf r .kind)
     unfolding valueAt bytesOf
     kind-at = rw (byte-at (layoutOf r .kind) (cut (layoutOf r .kind ∷ []) _ h))
 

@@ -1,12 +1,12 @@
 -- What a record says is what it is put out as, and that is a row of the standard's.
-use Prim.Native.Nat.{ℕ, _+_, _^_, _<_}
+use Prim.Native.Nat.{ℕ, zero, suc, _+_, _^_, _<_}
 use mathlib.Core.Path.{_≡_, refl, ap, _∙_}
 use mathlib.Core.List.{List, [], _∷_, _++_, append-nil}
 use mathlib.Core.Bool.{Bool, true, false}
 use native.Mathlib.Omega.{arith}
 use lib.ListN.{length}
 use lib.Dec.{leb}
-use borrow.Author.Tests.{le-leb, leb-true}
+use borrow.Author.Tests.{le-leb, leb-true, leb-false}
 use Rattle.wire.specs.Number.{digits}
 use Rattle.wire.specs.Utf8.{ends}
 use Rattle.wire.specs.Field.{bytesAt}
@@ -21,13 +21,13 @@ use Rattle.image.specs.Out.{namedOf, rowBytes}
 use Rattle.amf0.specs.declared.write.Rest.{Rest}
 use Rattle.amf0.specs.declared.write.Rest.the-variants.{Nothing, Pairs, Dense, Values}
 use Rattle.amf0.specs.Shape as S
-use Rattle.amf0.specs.Standard.{Item, Row, UTF-8}
+use Rattle.amf0.specs.Standard.{Item, short-most, Row, UTF-8}
 use Rattle.amf0.specs.Standard.UTF-8.{short}
 use Rattle.amf0.specs.Standard.UTF-8-long.{long}
-use Rattle.amf0.specs.Shown.{Word, look}
+use Rattle.amf0.specs.Shown.{Word, look, Stands, Named}
 use Rattle.amf0.specs.Shown.Word.{item, name, close, other}
 use Rattle.amf0.specs.Writing.{plain, texted, shapeOf, kinds, among}
-use Rattle.amf0.specs.Written.{writeItem, Stands, Named}
+use Rattle.amf0.specs.Written.{writeItem}
 
 -- what follows the bytes of an item
 abbrev pub restOf : Item → Rest
@@ -71,6 +71,12 @@ pub record Closed (s : List ℕ) (r : Record) : Type 0 where
   pub puts : rowBytes s row ≡ 0 ∷ 0 ∷ 0x09 ∷ []
   pub kind : among kinds (layoutOf r .kind) ≡ false
 
+-- a text that stands is a short one
+pub short-text : {s k : List ℕ} {p n : ℕ} → bytesAt n s p ≡ k → Stands s p n → n < 256 ^ 2 → UTF-8 k (digits 2 (length k) ++ k)
+short-text {s} {k} {p} {n} e h b =
+    let same : length k ≡ n = rw e at (length-bytes n s p (h .inside)) in
+    short k (omega arith) (rw e at (h .right))
+
 abbrev pub Says : List ℕ → Record → Word → Type 0
 Says s r (item i) = Itemed s r i
 Says s r (name k) = Keyed s r k
@@ -106,20 +112,22 @@ module _ (s : List ℕ) where
     texts m w e f g k =
         record { row = texted (1 bytes m) w p n; shape = e; named = text-named (1 bytes m) w; puts = text-bytes (1 bytes m) w ∙ f; grammar = g; kind = k }
 
-    short-text : n < 256 ^ 2 → UTF-8 (bytesAt n s p) (digits 2 (length (bytesAt n s p)) ++ bytesAt n s p)
-    short-text b = short (bytesAt n s p) (rw text-long b) (h .right)
-
-    string : n < 256 ^ 3 → (t : Bool) → leb n 65535 ≡ t → Itemed s (R.Text p n) (Item.string (bytesAt n s p))
+    string : n < 256 ^ 3 → (t : Bool) → leb n short-most ≡ t → Itemed s (R.Text p n) (Item.string (bytesAt n s p))
     string b true e =
-        let f : leb (length (bytesAt n s p)) 65535 ≡ true = rw text-long e in
-        texts 0x02 2 (rw e) (rw f) (rw f (Row.string (short-text (omega (arith, leb-true n 65535 e))))) refl
+        let f : leb (length (bytesAt n s p)) short-most ≡ true = rw text-long e in
+        texts 0x02 2 (rw e) (rw f) (rw f (Row.string (short-text refl h (omega (arith, leb-true n short-most e))))) refl
     string b false e =
-        let f : leb (length (bytesAt n s p)) 65535 ≡ false = rw text-long e in
-        texts 0x0C 4 (rw e) (rw f) (rw f (Row.long-string (long (bytesAt n s p) (omega (arith, text-long)) (h .right)))) refl
+        let f : leb (length (bytesAt n s p)) short-most ≡ false = rw text-long e in
+        texts 0x0C 4 (rw e) (rw f) (rw f (Row.long-string (long (bytesAt n s p) (omega (arith, text-long)) (h .right)) (leb-false _ _ f))) refl
 
   boolean : (b : Bool) → Itemed s (R.Boolean b) (Item.boolean b)
-  boolean true = plained 0x01 _ _ refl refl (Row.boolean-true 0) refl
+  boolean true = plained 0x01 _ _ refl refl Row.boolean-true refl
   boolean false = plained 0x01 _ _ refl refl Row.boolean-false refl
+
+  -- a date is put out with its zone, or with 0 where it has none
+  dated : (n : ℕ) (present : Bool) (z : ℕ) → n < 256 ^ 8 → z < 256 ^ 2 → Itemed s (R.Date n present z) (Item.date n z)
+  dated n present zero a c = plained 0x0B _ _ refl refl (Row.date n a) refl
+  dated n present (suc z) a c = plained 0x0B _ _ refl refl (Row.departure-any-zone n (suc z) a (omega arith) c) refl
 
   pub says : (r : Record) → Fits r → Named s r → Says s r (look s r)
   says (R.Number n) f h = plained 0x00 _ _ refl refl (Row.number n (f .a)) refl
@@ -128,17 +136,17 @@ module _ (s : List ℕ) where
   says R.Object f h = plained 0x03 _ _ refl refl Row.object refl
   says R.Null f h = plained 0x05 _ _ refl refl Row.null refl
   says R.Undefined f h = plained 0x06 _ _ refl refl Row.undefined refl
-  says (R.Reference n) f h = plained 0x07 _ _ refl refl (Row.reference n (f .a)) refl
-  says (R.EcmaArray n) f h = plained 0x08 _ _ refl refl (Row.ecma-array n (f .a)) refl
+  says (R.Reference n) f h = plained 0x07 _ _ refl refl (Row.departure-any-index n (f .a)) refl
+  says (R.EcmaArray n) f h = plained 0x08 _ _ refl refl (Row.departure-any-count n (f .a)) refl
   says R.ObjectEnd f h = record { row = _; shape = refl; named = empty-named (3 bytes 9) none none; puts = empty-bytes (3 bytes 9) none none; kind = refl }
   says (R.StrictArray n) f h = plained 0x0A _ _ refl refl (Row.strict-array n (f .a)) refl
-  says (R.Date n present z) f h = plained 0x0B _ _ refl refl (Row.date n z (f .a) (f .c)) refl
+  says (R.Date n present z) f h = dated n present z (f .a) (f .c)
   says R.Unsupported f h = plained 0x0D _ _ refl refl Row.unsupported refl
   says (R.Xml p n) f h =
       texts p n h 0x0F 4 refl refl (Row.xml-document (long (bytesAt n s p) (omega (arith, text-long p n h, f .b)) (h .right))) refl
-  says (R.TypedObject p n) f h = texts p n h 0x10 2 refl refl (Row.typed-object (short-text p n h (f .b))) refl
+  says (R.TypedObject p n) f h = texts p n h 0x10 2 refl refl (Row.typed-object (short-text refl h (f .b))) refl
   says (R.Key p n) f h =
-      record { row = _; shape = refl; named = text-named p n h none 2; puts = text-bytes p n h none 2; grammar = short-text p n h (f .b); kind = refl }
+      record { row = _; shape = refl; named = text-named p n h none 2; puts = text-bytes p n h none 2; grammar = short-text refl h (f .b); kind = refl }
   says (R.Packet k m) f h = tt
   says (R.Header p n b) f h = tt
   says (R.Message p n q m) f h = tt

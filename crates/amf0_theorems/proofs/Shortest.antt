@@ -14,11 +14,11 @@ use Rattle.wire.specs.Utf8.{utf8, ends}
 use Rattle.wire.specs.Limit as limit
 use Rattle.wire.proofs.Laws.{picked}
 use Rattle.image.specs.declared.record.Record.{Record}
-use Rattle.amf0.specs.Standard.{Item, Sort, Tree, Row, UTF-8, Encodes}
+use Rattle.amf0.specs.Standard.{Item, Sort, Tree, short-most, Row, UTF-8, Encodes}
 use Rattle.amf0.specs.Standard.UTF-8.{short}
 use Rattle.amf0.specs.Standard.UTF-8-long.{long}
-use Rattle.amf0.specs.Shown.{laid}
-use Rattle.amf0.specs.Written.{writeString, writeItem, write, Right, Lead, lead, Spells}
+use Rattle.amf0.specs.Shown.{laid, Right}
+use Rattle.amf0.specs.Written.{writeString, writeItem, write, Lead, lead, Spells}
 use Rattle.amf0.specs.Written.Lead.{keyed, keyless}
 use Rattle.amf0_theorems.proofs.Says.{says, Itemed, Keyed}
 use Rattle.amf0_theorems.proofs.Puts.{laid-length, laid-size, right-left, right-right, one}
@@ -99,34 +99,37 @@ encoded (Spells.pairs c) g h = encoded c g (omega arith)
 -- ---- none is shorter
 
 string-short : (t : List ℕ) → length t < 256 ^ 2 → length (writeString t) ≤ suc (suc (suc (length t)))
-string-short t h = picked (λ y. length y ≤ suc (suc (suc (length t)))) (leb (length t) 65535) _ _ (λ e. omega arith) (λ e. omega (arith, leb-false (length t) 65535 e))
+string-short t h = picked (λ y. length y ≤ suc (suc (suc (length t)))) (leb (length t) short-most) _ _ (λ e. omega arith) (λ e. omega (arith, leb-false (length t) short-most e))
 
 string-long : (t : List ℕ) → length (writeString t) ≤ suc (suc (suc (suc (suc (length t)))))
-string-long t = picked (λ y. length y ≤ suc (suc (suc (suc (suc (length t)))))) (leb (length t) 65535) _ _ (λ e. omega arith) (λ e. omega arith)
+string-long t = picked (λ y. length y ≤ suc (suc (suc (suc (suc (length t)))))) (leb (length t) short-most) _ _ (λ e. omega arith) (λ e. omega arith)
 
 item-least : {i : Item} {x : List ℕ} → Row i x → length (writeItem i) ≤ length x
 item-least (Row.number n h) = le-refl _
 item-least Row.boolean-false = le-refl _
-item-least (Row.boolean-true b) = le-refl _
+item-least Row.boolean-true = le-refl _
+item-least (Row.boolean-above b h l) = le-refl _
 item-least (Row.string (short t h u)) = string-short t h
 item-least Row.object = le-refl _
 item-least Row.null = le-refl _
 item-least Row.undefined = le-refl _
-item-least (Row.reference n h) = le-refl _
-item-least (Row.ecma-array n h) = le-refl _
+item-least (Row.departure-any-index n h) = le-refl _
+item-least (Row.departure-any-count n h) = le-refl _
 item-least (Row.strict-array n h) = le-refl _
-item-least (Row.date n z h l) = le-refl _
-item-least (Row.long-string (long t h u)) = string-long t
+item-least (Row.date n h) = le-refl _
+item-least (Row.departure-any-zone n z h k l) = le-refl _
+item-least (Row.long-string (long t h u) l) = string-long t
+item-least (Row.departure-long-string (long t h u) l) = string-long t
 item-least Row.unsupported = le-refl _
 item-least (Row.xml-document (long t h u)) = le-refl _
 item-least (Row.typed-object (short t h u)) = le-refl _
 item-least Row.departure-avmplus = le-refl _
-item-least (Row.departure-unknown m h) = le-refl _
+item-least (Row.departure-unknown m h l) = le-refl _
 
 pub least : {k : Sort} {t : Tree k} {x : List ℕ} → Encodes k t x → length (write t) ≤ length x
 least (Encodes.node {i} {t} {x} {y} row e) = omega (arith, item-least row, least e, length-append (writeItem i) (write t), length-append x y)
 least Encodes.end = le-refl _
-least (Encodes.departure-named-end (short k h u)) = omega (arith, length-append k (9 ∷ []))
+least (Encodes.departure-named-end (short k h u) l) = omega (arith, length-append k (9 ∷ []))
 least (Encodes.property {v} {ps} {y} {z} (short k h u) e f) =
     omega (arith, least e, least f, length-append k (write v ++ write ps), length-append (write v) (write ps), length-append k (y ++ z), length-append y z)
 least Encodes.nil = le-refl _

@@ -19,7 +19,8 @@ use Rattle.amf0.specs.Standard.UTF-8.{short}
 use Rattle.amf0.proofs.Rows.{itemAt, next, IsRead, item-ends}
 use Rattle.amf0_theorems.proofs.Complete.{part, follow-next, value-item}
 
-bind-ends : {P : Type 0} (d : Due) (k : ℕ → Due) (n : ℕ) → Ends (d >>= k) n → ((m : ℕ) → Ends d m → Ends (k m) n → P) → P
+-- one reading and then another ends where the first ends somewhere and the second ends from there
+pub bind-ends : {P : Type 0} (d : Due) (k : ℕ → Due) (n : ℕ) → Ends (d >>= k) n → ((m : ℕ) → Ends d m → Ends (k m) n → P) → P
 bind-ends (end m) k n h go = go m refl h
 bind-ends (stop a p) k n h go = absurd h
 bind-ends (due r p d) k n h go = bind-ends d k n h go
@@ -37,9 +38,16 @@ pub record Found (k : Sort) (left : ℕ) (s : List ℕ) (at n : ℕ) : Type 0 wh
 found : {k : Sort} {t : Tree k} {s x r : List ℕ} {at n left : ℕ} → Encodes k t x → Here s at x r → n ≡ at + length x → depth t ≤ left → Found k left s at n
 found {t} {x} {r} e h l d = record { tree = t; row = x; rest = r; encodes = e; here = h; next = l; deep = d }
 
-keyed : {s r y z : List ℕ} {at : ℕ} (k : List ℕ) → Here s at (digits 2 (length k) ++ k) r → Here s (at + 2 + length k) y z
+-- what stands behind a name stands behind its length and letters
+pub keyed : {s r y z : List ℕ} {at : ℕ} (k : List ℕ) → Here s at (digits 2 (length k) ++ k) r → Here s (at + 2 + length k) y z
     → Here s at ((digits 2 (length k) ++ k) ++ y) z
 keyed {at} k h g = let e : at + 2 + length k ≡ at + length (digits 2 (length k) ++ k) = omega arith in join h refl (rw e at g)
+
+-- the end of properties, with a name before the end marker or none
+closed : {s r : List ℕ} {at n left : ℕ} (k : List ℕ) → UTF-8 k (digits 2 (length k) ++ k) → Here s at ((digits 2 (length k) ++ k) ++ (9 ∷ [])) r
+    → n ≡ at + length ((digits 2 (length k) ++ k) ++ (9 ∷ [])) → Found Sort.properties left s at n
+closed [] key h l = found Encodes.end h l (omega arith)
+closed (b ∷ k) key h l = found (Encodes.departure-named-end key (omega arith)) h l (omega arith)
 
 module _ (s : List ℕ) (bs : Bytes s) (left : ℕ) (inner : ℕ → Due) (good : (at n : ℕ) → Ends (inner at) n → Found Sort.value left s at n) where
   items-sound : (c at n : ℕ) → Ends (items inner c at) n → Found (Sort.values c) left s at n
@@ -61,7 +69,7 @@ module _ (s : List ℕ) (bs : Bytes s) (left : ℕ) (inner : ℕ → Due) (good 
       let P : Due → Type 0 = λ x. Ends x n → Found Sort.properties left s at n in
       end8 P stop (λ a p e. absurd e) s bs q _ λ m g.
       picked P (eqb m 9) _ _
-      (λ t e. found (Encodes.departure-named-end key) (keyed k h (rw (eqb-true m 9 t) at g)) (omega (arith, length-append k (9 ∷ []))) (omega arith))
+      (λ t e. closed k key (keyed k h (rw (eqb-true m 9 t) at g)) (omega (arith, length-append k (9 ∷ []))))
       (λ t e. bind-ends (inner q) more n e λ j f g. one (good q j f) (ih j g))
     where
       one : {j : ℕ} → Found Sort.value left s (at + 2 + length k) j → Found Sort.properties left s j n → Found Sort.properties left s at n

@@ -14,18 +14,20 @@ use Rattle.image.specs.declared.record.Record.{Record}
 use Rattle.image.specs.declared.record.Record.the-variants as R
 use Rattle.image.specs.Record.{layoutOf}
 use Rattle.image.specs.Taking.{Small, Fits}
-use Rattle.image.specs.Due.{Due}
-use Rattle.amf0.specs.Standard.{Item, Sort, Tree, follows, Row, Encodes}
+use Rattle.image.specs.Due.{Due, end}
+use Rattle.image.specs.Whole.{bytes}
+use Rattle.amf0.specs.Reading.{value}
+use Rattle.amf0.specs.Standard.{Item, Sort, Tree, depth, follows, Row, Encodes}
 use Rattle.amf0.specs.Standard.UTF-8.{short}
 use Rattle.amf0.specs.Standard.UTF-8-long.{long}
 use Rattle.amf0.specs.Standard.Tree.{node, none, property, nil, cons}
-use Rattle.amf0.specs.Shown.{Word, told, look, words, Shows}
+use Rattle.amf0.specs.Shown.{Word, told, look, words, Stands, Named, Right, Shows}
 use Rattle.amf0.specs.Shown.Word.{item, name}
-use Rattle.amf0.specs.Written.{Stands, Named, Right, lead, Spells, Images}
+use Rattle.amf0.specs.Written.{lead, Spells, Images}
 use Rattle.amf0.specs.Written.Lead.{keyed}
 use Rattle.amf0.proofs.Rows.{mark}
-use Rattle.amf0_theorems.proofs.Complete.{marks, lay, lay-append, past}
-use Rattle.amf0_theorems.proofs.Telling.{recordsOf, text-there}
+use Rattle.amf0_theorems.proofs.Complete.{marks, lay, lay-append, past, complete}
+use Rattle.amf0_theorems.proofs.Telling.{recordsOf, bytes-laid, text-there, reads}
 
 -- ---- from words to records
 
@@ -108,8 +110,8 @@ spelled s t rs e =
     let f : rs ≡ p .first = p .same ∙ (ap (λ x. p .first ++ x) (no-words s (p .rest) (p .tells)) ∙ append-nil (p .first)) in
     rw f (p .spells)
 
-pub images : {s : List ℕ} {t : Tree Sort.value} {image : List ℕ} (w : Shows s t image) → Right s (w .records) → Images s t image
-images {s} {t} w h = record { records = w .records; right = h; spells = spelled s t (w .records) (w .tells); lies = w .lies }
+pub images : {s : List ℕ} {t : Tree Sort.value} {image : List ℕ} → Shows s t image → Images s t image
+images {s} {t} w = record { records = w .records; right = w .right; spells = spelled s t (w .records) (w .tells); lies = w .lies }
 
 -- ---- the records that a reading makes
 
@@ -128,24 +130,30 @@ module _ (s : List ℕ) (l : length s ≤ limit.bytes) (r : List ℕ) (at : ℕ)
         right = rw (text-there m w t d h) u;
       }
 
+  -- a string's record, behind a length of two bytes or of four
+  string-right : (m w : ℕ) (t : List ℕ) → length (digits w (length t)) ≡ w → utf8 t ≡ true → Here s at (m ∷ digits w (length t) ++ t) r
+      → Fits (R.Text (at + 1 + w) (length t)) × Stands s (at + 1 + w) (length t)
+  string-right m w t d u h =
+      let g = text-right m w t d u h in
+      (fits (R.Text (at + 1 + w) (length t)) (omega arith) (omega arith) zero zero (λ n z e. cc), g)
+
   mark-right : {i : Item} {x : List ℕ} (row : Row i x) → Here s at x r → Fits (mark row at) × Named s (mark row at)
   unfolding mark
   mark-right (Row.number n b) h = (fits (R.Number n) b zero zero zero (λ n z e. cc), tt)
   mark-right Row.boolean-false h = (fits (R.Boolean false) (lit< tt) zero zero zero (λ n z e. cc), tt)
-  mark-right (Row.boolean-true b) h = (fits (R.Boolean true) (lit< tt) zero zero zero (λ n z e. cc), tt)
-  mark-right (Row.string (short t b u)) h =
-      let w = text-right 2 2 t refl u h in
-      (fits (R.Text (at + 1 + 2) (length t)) (omega arith) (omega arith) zero zero (λ n z e. cc), w)
+  mark-right Row.boolean-true h = (fits (R.Boolean true) (lit< tt) zero zero zero (λ n z e. cc), tt)
+  mark-right (Row.boolean-above b k d) h = (fits (R.Boolean true) (lit< tt) zero zero zero (λ n z e. cc), tt)
+  mark-right (Row.string (short t b u)) h = string-right 2 2 t refl u h
   mark-right Row.object h = (fits R.Object zero zero zero zero (λ n z e. cc), tt)
   mark-right Row.null h = (fits R.Null zero zero zero zero (λ n z e. cc), tt)
   mark-right Row.undefined h = (fits R.Undefined zero zero zero zero (λ n z e. cc), tt)
-  mark-right (Row.reference n b) h = (fits (R.Reference n) b zero zero zero (λ n z e. cc), tt)
-  mark-right (Row.ecma-array n b) h = (fits (R.EcmaArray n) b zero zero zero (λ n z e. cc), tt)
+  mark-right (Row.departure-any-index n b) h = (fits (R.Reference n) b zero zero zero (λ n z e. cc), tt)
+  mark-right (Row.departure-any-count n b) h = (fits (R.EcmaArray n) b zero zero zero (λ n z e. cc), tt)
   mark-right (Row.strict-array n b) h = (fits (R.StrictArray n) b zero zero zero (λ n z e. cc), tt)
-  mark-right (Row.date n z b d) h = (fits (R.Date n true z) b (lit< tt) d zero (λ n z e. cc), tt)
-  mark-right (Row.long-string (long t b u)) h =
-      let w = text-right 12 4 t refl u h in
-      (fits (R.Text (at + 1 + 4) (length t)) (omega arith) (omega arith) zero zero (λ n z e. cc), w)
+  mark-right (Row.date n b) h = (fits (R.Date n true 0) b (lit< tt) (lit< tt) zero (λ n z e. cc), tt)
+  mark-right (Row.departure-any-zone n z b k d) h = (fits (R.Date n true z) b (lit< tt) d zero (λ n z e. cc), tt)
+  mark-right (Row.long-string (long t b u) k) h = string-right 12 4 t refl u h
+  mark-right (Row.departure-long-string (long t b u) k) h = string-right 12 4 t refl u h
   mark-right Row.unsupported h = (fits R.Unsupported zero zero zero zero (λ n z e. cc), tt)
   mark-right (Row.xml-document (long t b u)) h =
       let w = text-right 15 4 t refl u h in
@@ -154,15 +162,15 @@ module _ (s : List ℕ) (l : length s ≤ limit.bytes) (r : List ℕ) (at : ℕ)
       let w = text-right 16 2 t refl u h in
       (fits (R.TypedObject (at + 1 + 2) (length t)) (omega arith) b zero zero (λ n z e. cc), w)
   mark-right Row.departure-avmplus h = (fits R.Unsupported zero zero zero zero (λ n z e. cc), tt)
-  mark-right (Row.departure-unknown m b) h = (fits R.Unsupported zero zero zero zero (λ n z e. cc), tt)
+  mark-right (Row.departure-unknown m b k) h = (fits R.Unsupported zero zero zero zero (λ n z e. cc), tt)
 
-pub marks-right : {k : Sort} {t : Tree k} {x : List ℕ} (e : Encodes k t x) (s r : List ℕ) (at : ℕ) (d : Due) → length s ≤ limit.bytes → Here s at x r
+marks-right : {k : Sort} {t : Tree k} {x : List ℕ} (e : Encodes k t x) (s r : List ℕ) (at : ℕ) (d : Due) → length s ≤ limit.bytes → Here s at x r
     → Right s (recordsOf d) → Right s (recordsOf (lay (marks e at) d))
 unfolding marks
 marks-right (Encodes.node {x} {y} row e) s r at d l h g =
     let m = mark-right s l (y ++ r) at row (cut x y h) in (m .0, m .1, marks-right e s r (at + length x) d l (skip x y h) g)
 marks-right Encodes.end s r at d l h g = (fits R.ObjectEnd zero zero zero zero (λ n z e. cc), tt, g)
-marks-right (Encodes.departure-named-end (short k b u)) s r at d l h g = (fits R.ObjectEnd zero zero zero zero (λ n z e. cc), tt, g)
+marks-right (Encodes.departure-named-end (short k b u) o) s r at d l h g = (fits R.ObjectEnd zero zero zero zero (λ n z e. cc), tt, g)
 marks-right (Encodes.property {y} {z} (short k b u) e f) s r at d l h g =
     let q : ℕ = at + 2 + length k in
     let c = past k (y ++ z) h in
@@ -176,3 +184,16 @@ marks-right Encodes.nil s r at d l h g = g
 marks-right (Encodes.cons {x} {y} e f) s r at d l h g =
     rw (← lay-append (marks e at) (marks f (at + length x)) d)
     (marks-right e s (y ++ r) at (lay (marks f (at + length x)) d) l (cut x y h) (marks-right f s r (at + length x) d l (skip x y h) g))
+
+-- what is read of an encoding that stands at a place can stand in an image
+pub read-right : {t : Tree Sort.value} {x : List ℕ} (s r : List ℕ) (at : ℕ) → Encodes Sort.value t x → Here s at x r → depth t ≤ limit.levels
+    → length s ≤ limit.bytes → Right s (recordsOf (value limit.levels s at))
+read-right {x} s r at e h d l =
+    rw (complete e s r at (at + length x) limit.levels (length x) h refl d (omega arith)) (marks-right e s r at (end (at + length x)) l h tt)
+
+-- and shows its tree
+pub shown : {t : Tree Sort.value} {x : List ℕ} (s r : List ℕ) (at : ℕ) → Encodes Sort.value t x → Here s at x r → depth t ≤ limit.levels
+    → length s ≤ limit.bytes → Shows s t (bytes (value limit.levels s at))
+shown s r at e h d l =
+    let u : Due = value limit.levels s at in
+    record { records = recordsOf u; right = read-right s r at e h d l; tells = reads limit.levels s r at e h d .tells; lies = bytes-laid u }

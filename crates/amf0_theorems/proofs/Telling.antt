@@ -6,7 +6,6 @@ use native.Mathlib.Omega.{arith}
 use lib.ListN.{length}
 use Rattle.wire.specs.Number.{digits}
 use Rattle.wire.specs.Field.{bytesAt}
-use Rattle.wire.specs.Limit as limit
 use Rattle.wire.proofs.Stands.{Here, cut, behind, cut, skip, there}
 use Rattle.image.specs.declared.record.Record.{Record}
 use Rattle.image.specs.Due.{Due, end, stop, due, Ends}
@@ -16,7 +15,7 @@ use Rattle.amf0.specs.Standard.{Item, Sort, Tree, depth, follows, Row, Encodes}
 use Rattle.amf0.specs.Standard.UTF-8.{short}
 use Rattle.amf0.specs.Standard.UTF-8-long.{long}
 use Rattle.amf0.specs.Standard.Tree.{node, none, property, nil, cons}
-use Rattle.amf0.specs.Shown.{Word, told, look, words, laid, Shows}
+use Rattle.amf0.specs.Shown.{Word, told, look, words, laid}
 use Rattle.amf0.specs.Shown.Word.{item, name, close, other}
 use Rattle.amf0.proofs.Rows.{mark}
 use Rattle.amf0_theorems.proofs.Complete.{marks, lay, lay-append, past, complete}
@@ -109,28 +108,31 @@ item-tells : {i : Item} {x : List ℕ} (row : Row i x) (s r : List ℕ) (at : �
 unfolding mark
 item-tells (Row.number n l) s r at h = refl
 item-tells Row.boolean-false s r at h = refl
-item-tells (Row.boolean-true b) s r at h = refl
+item-tells Row.boolean-true s r at h = refl
+item-tells (Row.boolean-above b k l) s r at h = refl
 item-tells (Row.string (short t l u)) s r at h = ap (λ y. item (Item.string y)) (text-there 2 2 t refl h)
 item-tells Row.object s r at h = refl
 item-tells Row.null s r at h = refl
 item-tells Row.undefined s r at h = refl
-item-tells (Row.reference n l) s r at h = refl
-item-tells (Row.ecma-array n l) s r at h = refl
+item-tells (Row.departure-any-index n l) s r at h = refl
+item-tells (Row.departure-any-count n l) s r at h = refl
 item-tells (Row.strict-array n l) s r at h = refl
-item-tells (Row.date n z l m) s r at h = refl
-item-tells (Row.long-string (long t l u)) s r at h = ap (λ y. item (Item.string y)) (text-there 12 4 t refl h)
+item-tells (Row.date n l) s r at h = refl
+item-tells (Row.departure-any-zone n z l k m) s r at h = refl
+item-tells (Row.long-string (long t l u) k) s r at h = ap (λ y. item (Item.string y)) (text-there 12 4 t refl h)
+item-tells (Row.departure-long-string (long t l u) k) s r at h = ap (λ y. item (Item.string y)) (text-there 12 4 t refl h)
 item-tells Row.unsupported s r at h = refl
 item-tells (Row.xml-document (long t l u)) s r at h = ap (λ y. item (Item.xml-document y)) (text-there 15 4 t refl h)
 item-tells (Row.typed-object (short t l u)) s r at h = ap (λ y. item (Item.typed-object y)) (text-there 16 2 t refl h)
 item-tells Row.departure-avmplus s r at h = refl
-item-tells (Row.departure-unknown m l) s r at h = refl
+item-tells (Row.departure-unknown m l k) s r at h = refl
 
-pub tells : {k : Sort} {t : Tree k} {x : List ℕ} (e : Encodes k t x) (s r : List ℕ) (at : ℕ) (d : Due) → Here s at x r
+tells : {k : Sort} {t : Tree k} {x : List ℕ} (e : Encodes k t x) (s r : List ℕ) (at : ℕ) (d : Due) → Here s at x r
     → words s (recordsOf (lay (marks e at) d)) ≡ told t (words s (recordsOf d))
 unfolding marks
 tells (Encodes.node {x} {y} row e) s r at d h = ap₂ _∷_ (item-tells row s (y ++ r) at (cut x y h)) (tells e s r (at + length x) d (skip x y h))
 tells Encodes.end s r at d h = refl
-tells (Encodes.departure-named-end (short k l u)) s r at d h = refl
+tells (Encodes.departure-named-end (short k l u) o) s r at d h = refl
 tells (Encodes.property {v} {y} {z} (short k l u) e f) s r at d h =
     let q : ℕ = at + 2 + length k in
     let c = past k (y ++ z) h in
@@ -156,9 +158,6 @@ pub reads : {t : Tree Sort.value} {x : List ℕ} (left : ℕ) (s r : List ℕ) (
 reads {x} left s r at e h d =
     let c = complete e s r at (at + length x) left (length x) h refl d (omega arith) in
     record { ends = rw c (ends (marks e at) (at + length x)); tells = ap (λ g. words s (recordsOf g)) c ∙ tells e s r at (end (at + length x)) h }
-
-pub shown : {s : List ℕ} {n : ℕ} {t : Tree Sort.value} → Reads limit.levels s 0 n t → Shows s t (bytes (value limit.levels s 0))
-shown {s} r = record { records = recordsOf (value limit.levels s 0); tells = r .tells; lies = bytes-laid (value limit.levels s 0) }
 
 -- a reading ends at one place
 pub one-end : (d : Due) {m n : ℕ} → Ends d m → Ends d n → m ≡ n

@@ -3,39 +3,28 @@ use Prim.Native.Nat.{ℕ, _+_, _*_, _≤_, _<_, max}
 use mathlib.Core.Path.{_≡_, refl, sym, ap, ap₂, _∙_}
 use mathlib.Core.Logic.{_≢_, _↔_}
 use mathlib.Core.List.{List, [], _++_, append-nil}
-use native.Mathlib.Nat.{sub-zero}
 use native.Mathlib.Omega.{arith}
-use lib.ListN.{length, take, drop, length-append, take-append-drop, replicate}
+use lib.ListN.{length, take, drop, length-append, take-append-drop}
 use lib.Seq.{length-take-le, take-append-seam}
+use lib.Dec.{leb}
 use Rattle.wire.specs.Number.{Bytes}
 use Rattle.wire.specs.Limit as limit
-use Rattle.wire.proofs.Laws.{pick-no}
 use Rattle.wire.proofs.Stands.{here-front}
-use Rattle.image.specs.declared.reading.Reading.{Reading}
 use Rattle.image.specs.Due.{Due, end, _>>=_, based, shifted, Ends}
-use Rattle.image.specs.Whole.{Whole, bytes, accepted, refused, ended, settled, padded}
+use Rattle.image.specs.Whole.{Whole, bytes, accepted, refused, ended, settled}
 use Rattle.amf0.specs.Reading.{value, readOf}
 use Rattle.amf0.specs.Standard.{Sort, Tree, depth, Encodes}
 use Rattle.amf0.specs.Shown.{Shows}
-use Rattle.amf0.specs.Why.{Reasoned, Comes}
+use Rattle.amf0_theorems.proofs.More.{settled-more, pick-more}
 use Rattle.amf0_theorems.proofs.Complete as completeness
 use Rattle.amf0_theorems.proofs.Sound as soundness
 use Rattle.amf0_theorems.proofs.Sound.{Found}
-use Rattle.amf0_theorems.proofs.Telling.{same-tree, Reads, reads, shown, one-end}
-use Rattle.amf0.proofs.Reasons.{kept, forward, because}
+use Rattle.amf0_theorems.proofs.Telling.{same-tree, Reads, reads, one-end}
+use Rattle.amf0_theorems.proofs.Spelling.{shown}
+use Rattle.amf0.proofs.Reasons.{kept, forward}
 use Rattle.amf0_theorems.proofs.Shifting as shifting
-use Rattle.amf0.proofs.Outcome.{ended-at, comes, within, named, roomy, thrice}
-
--- ---- one outcome
-
--- an outcome of the public call that its contract permits: what it returns, and the image that it leaves
-pub record Permits (s image : List ℕ) (r : Reading) (left : List ℕ) : Type 0 where
-  pub returns : r ≡ readOf s (length image) .reading
-  pub leaves : left ≡ padded (readOf s (length image) .bytes) (length image)
-
--- Any two outcomes that the contract permits for an input and an image are the same.
-pub determined : (s image : List ℕ) (r q : Reading) (i j : List ℕ) → Permits s image r i → Permits s image q j → (r ≡ q) × (i ≡ j)
-determined s image r q i j a b = (a .returns ∙ sym (b .returns), a .leaves ∙ sym (b .leaves))
+use Rattle.amf0_theorems.proofs.Bytes.{encoding}
+use Rattle.amf0.proofs.Outcome.{ended-at, Comes, comes, within, roomy, thrice}
 
 -- ---- the reading and the standard
 
@@ -48,14 +37,14 @@ pub record Means (s : List ℕ) (w : Whole) : Type 0 where
   pub made : w .reading .made ≡ length (w .bytes)
   pub used : w .reading .used ≤ length s
 
-found-means : (s : List ℕ) (n : ℕ) → Found Sort.value limit.levels s 0 n → n ≤ length s → Means s (accepted n (bytes (value limit.levels s 0)))
-found-means s n f l =
+found-means : (s : List ℕ) (n : ℕ) → length s ≤ limit.bytes → Found Sort.value limit.levels s 0 n → n ≤ length s → Means s (accepted n (bytes (value limit.levels s 0)))
+found-means s n b f l =
     let e : n ≡ length (f .row) = omega arith in
     record {
       tree = f .tree;
       encodes = rw (e, f .here .same, take-append-seam (f .row) (f .rest)) (f .encodes);
       deep = f .deep;
-      shows = shown (reads limit.levels s (f .rest) 0 (f .encodes) (f .here) (f .deep));
+      shows = shown s (f .rest) 0 (f .encodes) (f .here) (f .deep) b;
       made = refl;
       used = l;
     }
@@ -67,9 +56,9 @@ sound s room bs = go (readOf s room) (comes s room)
     go : (w : Whole) → Comes s room w → w .reading .answer ≡ 0 → Means s w
     go w (Comes.over-limit h) e = absurd (omega arith)
     go w (Comes.no-room h i) e = absurd (omega arith)
-    go w (Comes.not-read h i t y) e = let a = named y in absurd (omega arith)
+    go w (Comes.not-read p h i t y) e = absurd (omega arith)
     go w (Comes.read {n} h i f) e =
-        found-means s n (soundness.sound limit.levels s 0 n bs f) (forward s 0 n (value limit.levels s 0) (kept limit.levels s 0 (omega arith)) f .1)
+        found-means s n h (soundness.sound limit.levels s 0 n bs f) (forward s 0 n (value limit.levels s 0) (kept limit.levels s 0 (omega arith)) f .1)
 
 -- an acceptance of n bytes, with an image that tells the tree t
 pub record Accepts (s : List ℕ) (t : Tree Sort.value) (n : ℕ) (w : Whole) : Type 0 where
@@ -85,7 +74,7 @@ complete t x r room e l h i =
     let y = reads limit.levels (x ++ r) r 0 e (record { same = refl }) l in
     let d : Due = value limit.levels (x ++ r) 0 in
     rw (roomy (x ++ r) room h (omega (arith, thrice (x ++ r))), ended-at d (bytes d) (0 + length x) (y .ends))
-    (record { answer = refl; used = omega arith; shows = shown y })
+    (record { answer = refl; used = omega arith; shows = shown (x ++ r) r 0 e (record { same = refl }) l h })
 
 -- Within the limit, and where the room is three times the input, a call accepts exactly where the input begins with a value of the standard's.
 pub exactly : (s : List ℕ) (room : ℕ) → Bytes s → length s ≤ limit.bytes → 3 * length s ≤ room
@@ -110,6 +99,10 @@ unique t u x y r q e f same =
       sym (take-append-seam x r) ∙ (ap₂ take long same ∙ take-append-seam y q),
     )
 
+-- Every encoding is a row of bytes.
+pub encodes-bytes : (k : Sort) (t : Tree k) (x : List ℕ) → Encodes k t x → Bytes x
+encodes-bytes k t x e = encoding e
+
 -- ---- the room
 
 -- In a room of three bytes for each byte of the input, no reading is refused for room.
@@ -119,7 +112,7 @@ room-enough s room h = go (readOf s room) (comes s room)
     go : (w : Whole) → Comes s room w → w .reading .answer ≢ 4
     go w (Comes.over-limit i) e = omega arith
     go w (Comes.no-room i j) e = omega (arith, thrice s)
-    go w (Comes.not-read i j t y) e = named y .other e
+    go w (Comes.not-read p i j t y) e = y .other e
     go w (Comes.read i j f) e = omega arith
 
 -- Within the limit, the answer is 4 exactly where the records that the reading finds have more bytes than the room.
@@ -129,18 +122,12 @@ room-exact s room h = go (readOf s room) (comes s room)
     go : (w : Whole) → Comes s room w → w .reading .answer ≡ 4 ↔ room < length (bytes (value limit.levels s 0))
     go w (Comes.over-limit i) = absurd (omega arith)
     go w (Comes.no-room i j) = (λ e. j, λ e. refl)
-    go w (Comes.not-read i j t y) = (λ e. absurd (named y .other e), λ e. absurd (omega arith))
+    go w (Comes.not-read p i j t y) = (λ e. absurd (y .other e), λ e. absurd (omega arith))
     go w (Comes.read i j f) = (λ e. absurd (omega arith), λ e. absurd (omega arith))
 
 -- Where a room does, every larger room gives the same.
 pub room-more : (s : List ℕ) (room more : ℕ) → room ≤ more → readOf s room .reading .answer ≢ 4 → readOf s more ≡ readOf s room
-room-more s room more h = go (readOf s room) (comes s room) refl
-  where
-    go : (w : Whole) → Comes s room w → readOf s room ≡ w → w .reading .answer ≢ 4 → readOf s more ≡ readOf s room
-    go w (Comes.over-limit i) e ne = pick-no (length s) limit.bytes _ _ i ∙ sym e
-    go w (Comes.no-room i j) e ne = absurd (ne refl)
-    go w (Comes.not-read i j t y) e ne = roomy s more i (omega arith) ∙ sym (roomy s room i j)
-    go w (Comes.read i j f) e ne = roomy s more i (omega arith) ∙ sym (roomy s room i j)
+room-more s = pick-more (leb (length s) limit.bytes) (refused 1) (settled-more (value limit.levels s 0))
 
 -- ---- the answers
 
@@ -151,7 +138,7 @@ answers s room = go (readOf s room) (comes s room)
     go : (w : Whole) → Comes s room w → w .reading .answer ≤ 5
     go w (Comes.over-limit i) = omega arith
     go w (Comes.no-room i j) = omega arith
-    go w (Comes.not-read i j t y) = named y .high
+    go w (Comes.not-read p i j t y) = y .high
     go w (Comes.read i j f) = omega arith
 
 -- The answer is 1 exactly where the input is over the limit.
@@ -161,16 +148,8 @@ over-limit s room = go (readOf s room) (comes s room)
     go : (w : Whole) → Comes s room w → w .reading .answer ≡ 1 ↔ limit.bytes < length s
     go w (Comes.over-limit i) = (λ e. i, λ e. refl)
     go w (Comes.no-room i j) = (λ e. absurd (omega arith), λ e. absurd (omega arith))
-    go w (Comes.not-read i j t y) = let a = named y in (λ e. absurd (omega arith), λ e. absurd (omega arith))
+    go w (Comes.not-read p i j t y) = (λ e. absurd (omega arith), λ e. absurd (omega arith))
     go w (Comes.read i j f) = (λ e. absurd (omega arith), λ e. absurd (omega arith))
-
--- A call is refused for the limit, for the room or for a reason that stands in the input, and is else accepted.
-pub reasons : (s : List ℕ) (room : ℕ) → Comes s room (readOf s room)
-reasons = comes
-
--- The same of a value at any place and level: its refusal has a reason there.
-pub reasoned : (left : ℕ) (s : List ℕ) (at : ℕ) → at ≤ length s → Reasoned s (value left s at)
-reasoned left s at h = because s (3 * at) (value left s at) (kept left s at h)
 
 -- A refusal uses no byte of the input and makes none of the image.
 pub refused-empty : (s : List ℕ) (room : ℕ) → readOf s room .reading .answer ≢ 0 → readOf s room ≡ refused (readOf s room .reading .answer)
@@ -179,14 +158,8 @@ refused-empty s room = go (readOf s room) (comes s room)
     go : (w : Whole) → Comes s room w → w .reading .answer ≢ 0 → w ≡ refused (w .reading .answer)
     go w (Comes.over-limit i) ne = refl
     go w (Comes.no-room i j) ne = refl
-    go w (Comes.not-read i j t y) ne = refl
+    go w (Comes.not-read p i j t y) ne = refl
     go w (Comes.read i j f) ne = absurd (ne refl)
-
--- So it leaves an image of zeros.
-pub refused-zeros : (s image : List ℕ) (r : Reading) (left : List ℕ) → Permits s image r left → r .answer ≢ 0 → left ≡ replicate (length image) 0
-refused-zeros s image r left p ne =
-    let same : r .answer ≡ readOf s (length image) .reading .answer = ap (λ (q : Reading). q .answer) (p .returns) in
-    p .leaves ∙ rw (refused-empty s (length image) λ e. ne (same ∙ e)) (ap (λ k. replicate k 0) (sub-zero (length image)))
 
 -- ---- places
 
@@ -220,7 +193,7 @@ local-call x r q room bs h = go (readOf (x ++ r) room) (comes (x ++ r) room) ref
         → readOf (x ++ q) room ≡ readOf (x ++ r) room
     go w (Comes.over-limit i) e a u = absurd (omega arith)
     go w (Comes.no-room i j) e a u = absurd (omega arith)
-    go w (Comes.not-read i j t y) e a u = let b = named y in absurd (omega arith)
+    go w (Comes.not-read p i j t y) e a u = absurd (omega arith)
     go w (Comes.read {n} i j f) e a u =
         let same = local limit.levels x r q 0 n bs f u in
         roomy (x ++ q) room h (rw same j) ∙ (ap (λ d. ended d (bytes d)) same ∙ sym (roomy (x ++ r) room i j))

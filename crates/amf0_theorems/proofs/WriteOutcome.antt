@@ -1,5 +1,5 @@
 -- What the public write comes to on the image of a tree, and that a reading makes such an image.
-use Prim.Native.Nat.{ℕ, _+_, _*_, _≤_, _<_}
+use Prim.Native.Nat.{ℕ, _*_, _≤_, _<_}
 use mathlib.Core.Path.{_≡_, refl, sym, ap, _∙_}
 use mathlib.Core.List.{List, [], _++_, append-nil}
 use native.Mathlib.Nat.{zero-add}
@@ -11,7 +11,7 @@ use Rattle.wire.specs.Choice.{pick}
 use Rattle.wire.specs.Limit as limit
 use Rattle.wire.proofs.Laws.{pick-yes, picked}
 use Rattle.wire.proofs.Stands.{Here}
-use Rattle.image.specs.Due.{Due, end}
+use Rattle.image.specs.Due.{Due}
 use Rattle.image.specs.Whole.{Whole, accepted}
 use Rattle.image.specs.Whole as read
 use Rattle.image.specs.Out.{Out, end, stop, bytes, ended, settled, Written, written, sized}
@@ -19,13 +19,11 @@ use Rattle.amf0.specs.Standard.{Sort, Tree, depth, Encodes}
 use Rattle.amf0.specs.Reading as reading
 use Rattle.amf0.specs.Reading.{readOf}
 use Rattle.amf0.specs.Writing.{value, whole, writeOf}
-use Rattle.amf0.specs.Why.{Comes}
 use Rattle.amf0.specs.Written.{write, Images}
-use Rattle.amf0_theorems.proofs.Complete.{complete}
-use Rattle.amf0_theorems.proofs.Telling.{recordsOf, bytes-laid, reads}
-use Rattle.amf0.proofs.Outcome.{ended-at, comes, named, roomy, thrice}
+use Rattle.amf0_theorems.proofs.Telling.{reads}
+use Rattle.amf0.proofs.Outcome.{ended-at, Comes, comes, roomy, thrice}
 use Rattle.amf0_theorems.proofs.Puts.{Puts, then, puts}
-use Rattle.amf0_theorems.proofs.Spelling.{images, marks-right}
+use Rattle.amf0_theorems.proofs.Spelling.{images, shown}
 
 -- ---- a writing that is not refused
 
@@ -68,28 +66,25 @@ image-written {image} {s} room m d h i =
 
 -- ---- the image that a reading makes
 
-pub read-image : {s x r : List ℕ} {t : Tree Sort.value} → Encodes Sort.value t x → Here s 0 x r → depth t ≤ limit.levels → length s ≤ limit.bytes
-    → Images s t (read.bytes (reading.value limit.levels s 0))
-read-image {s} {x} {r} e h d l =
-    let c = complete e s r 0 (0 + length x) limit.levels (length x) h refl d (omega arith) in
-    let g : Due = reading.value limit.levels s 0 in
-    images (record { records = recordsOf g; tells = reads limit.levels s r 0 e h d .tells; lies = bytes-laid g })
-    (rw c (marks-right e s r 0 (end (0 + length x)) l h tt))
+pub read-image : {s x r : List ℕ} {at : ℕ} {t : Tree Sort.value} → Encodes Sort.value t x → Here s at x r → depth t ≤ limit.levels → length s ≤ limit.bytes
+    → Images s t (read.bytes (reading.value limit.levels s at))
+read-image {s} {r} {at} e h d l = images (shown s r at e h d l)
 
--- an accepted call makes the records of its reading, which are within the limit
-pub record Read (s : List ℕ) (w : Whole) : Type 0 where
+-- an accepted call makes the records of its reading, which are within the limit and the room
+pub record Read (s : List ℕ) (room : ℕ) (w : Whole) : Type 0 where
   pub text-size : length s ≤ limit.bytes
   pub made : w .bytes ≡ read.bytes (reading.value limit.levels s 0)
   pub image-size : length (w .bytes) ≤ limit.image
+  pub fits : length (w .bytes) ≤ room
 
-pub accepted-read : (s : List ℕ) (room : ℕ) → readOf s room .reading .answer ≡ 0 → Read s (readOf s room)
+pub accepted-read : (s : List ℕ) (room : ℕ) → readOf s room .reading .answer ≡ 0 → Read s room (readOf s room)
 accepted-read s room = go (readOf s room) (comes s room)
   where
-    go : (w : Whole) → Comes s room w → w .reading .answer ≡ 0 → Read s w
+    go : (w : Whole) → Comes s room w → w .reading .answer ≡ 0 → Read s room w
     go w (Comes.over-limit h) e = absurd (omega arith)
     go w (Comes.no-room h i) e = absurd (omega arith)
-    go w (Comes.not-read h i t y) e = let a = named y in absurd (omega arith)
-    go w (Comes.read h i f) e = record { text-size = h; made = refl; image-size = omega (arith, thrice s) }
+    go w (Comes.not-read p h i t y) e = absurd (omega arith)
+    go w (Comes.read h i f) e = record { text-size = h; made = refl; image-size = omega (arith, thrice s); fits = i }
 
 -- an encoding is read to its end
 pub read-all : {b : List ℕ} {t : Tree Sort.value} (room : ℕ) → Encodes Sort.value t b → depth t ≤ limit.levels → length b ≤ limit.bytes → 3 * length b ≤ room

@@ -1,15 +1,16 @@
 -- What the public write comes to: a refusal is 5 or 6, or for a size or the room.
 use Prim.Native.Nat.{ℕ, zero, suc, _+_, _≤_, _<_}
-use mathlib.Core.Path.{_≡_, refl, sym}
-use mathlib.Core.Logic.{_⊎_, inl, inr}
+use mathlib.Core.Path.{_≡_, refl, sym, ap, _∙_}
+use mathlib.Core.Logic.{_↔_, _⊎_, inl, inr}
 use mathlib.Core.List.{List}
 use native.Mathlib.Omega.{arith}
 use lib.ListN.{length}
 use lib.Dec.{leb}
 use borrow.Author.Tests.{leb-true, leb-false}
+use Rattle.wire.specs.Choice.{pick}
 use Rattle.wire.specs.Number.{Bytes}
 use Rattle.wire.specs.Limit as limit
-use Rattle.wire.proofs.Laws.{picked}
+use Rattle.wire.proofs.Laws.{pick-yes, picked}
 use Rattle.image.specs.declared.record.Record.{Record}
 use Rattle.image.specs.declared.taking.Taken.{Taken}
 use Rattle.image.specs.declared.taking.Taken.the-variants.{Found, Bad}
@@ -22,10 +23,13 @@ use Rattle.amf0.specs.Shape.{Shape}
 use Rattle.amf0.specs.Shape as S
 use Rattle.amf0.specs.Standard.{Sort, Tree, depth}
 use Rattle.amf0.specs.Writing.{shapeOf, valueAt, taken, valued, paired, items, pairs, dense, rest, value, whole, writeOf}
-use Rattle.amf0.specs.Written.{write, Images, Writable, Outcome}
+use Rattle.amf0.specs.Written.{write, Images, Writable}
+use Rattle.amf0_theorems.specs.Unwritten.{Stops, Refused, Outcome, OutcomeOf}
 use Rattle.amf0_theorems.proofs.Puts.{Puts}
 use Rattle.amf0_theorems.proofs.WriteOutcome.{puts-bytes, image-puts}
 use Rattle.amf0_theorems.proofs.WriteSound.{Ends, image-of}
+use Rattle.amf0_theorems.proofs.WriteRefusal.{refused-by}
+use Rattle.amf0_theorems.proofs.WriteRefusing.{refuses-by}
 
 -- ---- a refusal's answer
 
@@ -101,32 +105,77 @@ module _ (s image : List ℕ) where
       taken-refuses at (recordAt image at) _ λ r q. valued-refuses at (shapeOf r) _ λ w f.
       row-refuses w at _ (rest-refuses (value left image s) (value-refuses left) f q)
 
-  whole-refuses : (left : ℕ) → Refuses (whole image (value left image s 0))
+  pub whole-refuses : (left : ℕ) → Refuses (whole image (value left image s 0))
   whole-refuses left =
       bind-refuses (value left image s 0) _ (value-refuses left 0) λ n.
       picked Refuses (leb (length image) n) (end n) (stop 6 n) (λ e. tt) (λ e. six)
 
 -- ---- how a writing ends
 
--- the writing is refused with a
-abbrev pub Stops : Out → ℕ → Type 0
-Stops (end n) a = ⊥
-Stops (stop b p) a = a ≡ b
-Stops (put b d) a = Stops d a
-
 pub ended-either : (P : Written → Type 0) (d : Out) (b : List ℕ) (room : ℕ) → Refuses d → ((n : ℕ) → Ends d n → P (sized b room))
-    → (Stops d 5 → P (unwritten 5)) → (Stops d 6 → P (unwritten 6)) → P (ended d b room)
+    → ((p : ℕ) → Stops d 5 p → P (unwritten 5)) → ((p : ℕ) → Stops d 6 p → P (unwritten 6)) → P (ended d b room)
 unfolding ended
 ended-either P (end n) b room h f g i = f n refl
-ended-either P (stop a p) b room (inl e) f g i = rw e (g (sym e))
-ended-either P (stop a p) b room (inr e) f g i = rw e (i (sym e))
+ended-either P (stop a p) b room (inl e) f g i = rw e (g p (sym e, refl))
+ended-either P (stop a p) b room (inr e) f g i = rw e (i p (sym e, refl))
 ended-either P (put x d) b room h f g i = ended-either P d b room h f g i
 
+-- bytes that are not refused come neither to 5 nor to 6
+sized-unwritten : (b : List ℕ) (room a : ℕ) → Either a → sized b room ≡ unwritten a → ⊥
+sized-unwritten b room a o e =
+    let f = ap (λ (w : Written). w .writing .answer) e in
+    picked (λ (w : Written). w .writing .answer ≡ a → ⊥) (leb (length b) limit.bytes) _ _
+    (λ h. picked (λ (w : Written). w .writing .answer ≡ a → ⊥) (leb (length b) room) _ _ (λ i. own 0 (omega arith) o) (λ i. own 4 (omega arith) o))
+    (λ h. own 1 (omega arith) o) f
+  where
+    own : (n : ℕ) → n ≤ 4 → Either a → n ≡ a → ⊥
+    own n l (inl e) f = omega arith
+    own n l (inr e) f = omega arith
+
+-- a writing comes to 5, or to 6, exactly where it is refused so, at a place
+settled-refusals : (d : Out) (room a : ℕ) → Refuses d → Either a → settled d room ≡ unwritten a ↔ (p : ℕ) × Stops d a p
+unfolding settled ended
+settled-refusals d room a h o = (go d (bytes d) h, λ x. back d (bytes d) (x .0) (x .1))
+  where
+    go : (d : Out) (b : List ℕ) → Refuses d → ended d b room ≡ unwritten a → (p : ℕ) × Stops d a p
+    go (end n) b h e = absurd (sized-unwritten b room a o e)
+    go (stop c p) b h e = (p, (sym (ap (λ (w : Written). w .writing .answer) e), refl))
+    go (put x d) b h e = go d b h e
+
+    back : (d : Out) (b : List ℕ) (p : ℕ) → Stops d a p → ended d b room ≡ unwritten a
+    back (end n) b p e = absurd e
+    back (stop c q) b p e = rw (e .0)
+    back (put x d) b p e = back d b p e
+
+-- and so does a call within the limits
+pub call-refusals : (image text : List ℕ) (d : Out) (room a : ℕ) (At : ℕ → Type 0) → Refuses d → length text ≤ limit.bytes → length image ≤ limit.image → Either a
+    → ((p : ℕ) → Stops d a p ↔ At p)
+    → pick (leb (length text) limit.bytes) (pick (leb (length image) limit.image) (settled d room) (unwritten 1)) (unwritten 1) ≡ unwritten a ↔ (p : ℕ) × At p
+call-refusals image text d room a At r h i o each =
+    let y = settled-refusals d room a r o in
+    rw (
+      pick-yes (length text) limit.bytes (pick (leb (length image) limit.image) (settled d room) (unwritten 1)) (unwritten 1) h,
+      pick-yes (length image) limit.image (settled d room) (unwritten 1) i,
+    )
+    (λ e. let x = y .0 e in (x .0, each (x .0) .0 (x .1)), λ x. y .1 (x .0, each (x .0) .1 (x .1)))
+
+-- a writing is refused with one answer, at one place
+pub stops-once : (d : Out) (a b p q : ℕ) → Stops d a p → Stops d b q → (a ≡ b) × (p ≡ q)
+stops-once (end n) a b p q e f = absurd e
+stops-once (stop c o) a b p q e f = (e .0 ∙ sym (f .0), e .1 ∙ sym (f .1))
+stops-once (put x d) a b p q e f = stops-once d a b p q e f
+
 -- the image of a tree is refused with 5 at most
-pub stops-deep : {D : Type 0} {d : Out} {x : List ℕ} {n : ℕ} → Puts D d x n → (a : ℕ) → Stops d a → (a ≡ 5) × D
-stops-deep Puts.done a e = absurd e
-stops-deep (Puts.more p) a e = stops-deep p a e
-stops-deep (Puts.shut h) a e = (e, h)
+pub stops-deep : {D : Type 0} {d : Out} {x : List ℕ} {n : ℕ} → Puts D d x n → (a p : ℕ) → Stops d a p → (a ≡ 5) × D
+stops-deep Puts.done a p e = absurd e
+stops-deep (Puts.more q) a p e = stops-deep q a p e
+stops-deep (Puts.shut h) a p e = (e .0, h)
+
+-- and so it is by what stands at a place
+pub refused-image : (image s : List ℕ) (a p : ℕ) (t : Tree Sort.value) → Bytes image → Refused image s a p → Images s t image → (a ≡ 5) × (limit.levels < depth t)
+refused-image image s a p t bs x m = stops-deep (image-puts {D = limit.levels < depth t} limit.levels m (λ l. l)) a p (refuses-by s image bs a p x)
+
+-- ---- the call
 
 module _ (image s : List ℕ) (room : ℕ) where
   pub sized-either : (P : Written → Type 0) (b : List ℕ) → (limit.bytes < length b → P (unwritten 1))
@@ -145,27 +194,27 @@ module _ (image s : List ℕ) (room : ℕ) where
       picked P (leb (length s) limit.bytes) _ _
       (λ h. picked P (leb (length image) limit.image) _ _
       (λ i. ended-either P d (bytes d) room (whole-refuses s image limit.levels)
-      (λ n e. sized-either P (bytes d) (λ j. one) (λ j k. four) (λ j k. done (bytes d) k)) (λ e. five) (λ e. six))
+      (λ n e. sized-either P (bytes d) (λ j. one) (λ j k. four) (λ j k. done (bytes d) k)) (λ p e. five) (λ p e. six))
       (λ i. one))
       (λ h. one)
 
-  pub outcome : Bytes image → Outcome image s room (writeOf image s room)
+  pub reasons : Bytes image → Outcome image s room (writeOf image s room)
   unfolding settled
-  outcome bs =
+  reasons bs =
       let d : Out = whole image (value limit.levels image s 0) in
       let P : Written → Type 0 = Outcome image s room in
       picked P (leb (length s) limit.bytes) _ _
       (λ h. picked P (leb (length image) limit.image) _ _
       (λ i. ended-either P d (bytes d) room (whole-refuses s image limit.levels)
       (λ n e. tree (leb-true _ _ h) (leb-true _ _ i) (image-of s image bs limit.levels n e))
-      (λ e. Outcome.too-deep (leb-true _ _ h) (leb-true _ _ i) λ t m. stops-deep (image-puts {D = limit.levels < depth t} limit.levels m (λ l. l)) 5 e .1)
-      (λ e. Outcome.no-tree (leb-true _ _ h) (leb-true _ _ i) λ t m. let f = stops-deep (image-puts {D = Unit {0}} limit.levels m (λ l. tt)) 6 e in omega arith))
-      (λ i. Outcome.image-over (leb-false _ _ i)))
-      (λ h. Outcome.text-over (leb-false _ _ h))
+      (λ p e. OutcomeOf.too-deep (leb-true _ _ h) (leb-true _ _ i) (refused-by s image bs 5 p e))
+      (λ p e. OutcomeOf.wrong (leb-true _ _ h) (leb-true _ _ i) (refused-by s image bs 6 p e)))
+      (λ i. OutcomeOf.image-over (leb-false _ _ i)))
+      (λ h. OutcomeOf.text-over (leb-false _ _ h))
     where
       tree : length s ≤ limit.bytes → length image ≤ limit.image → (t : Tree Sort.value) × Images s t image × (depth t ≤ limit.levels)
           → Outcome image s room (sized (bytes (whole image (value limit.levels image s 0))) room)
       tree h i x =
           let w : Writable image s (x .0) = record { text-size = h; image-size = i; images = x .1; deep = x .2 } in
           rw (puts-bytes (image-puts limit.levels (x .1) λ l. omega (arith, x .2)))
-          (sized-either (Outcome image s room) (write (x .0)) (Outcome.output-over w) (Outcome.no-room w) (Outcome.put-out w))
+          (sized-either (Outcome image s room) (write (x .0)) (OutcomeOf.output-over w) (OutcomeOf.no-room w) (OutcomeOf.put-out w))

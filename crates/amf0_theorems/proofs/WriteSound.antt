@@ -2,7 +2,7 @@
 use Prim.Native.Nat.{ℕ, zero, suc, _+_, _≤_}
 use mathlib.Core.Path.{_≡_, refl, ap, _∙_}
 use mathlib.Core.List.{List, [], _∷_, _++_, append-nil}
-use mathlib.Core.Bool.{Bool, true, false}
+use mathlib.Core.Bool.{true}
 use native.Mathlib.Omega.{arith}
 use lib.ListN.{length, drop, length-append}
 use lib.Dec.{leb}
@@ -10,32 +10,21 @@ use borrow.Author.Tests.{leb-true}
 use Rattle.wire.specs.Choice.{pick}
 use Rattle.wire.specs.Number.{Bytes}
 use Rattle.wire.specs.Bytes.{decimal}
-use Rattle.wire.specs.Utf8.{utf8}
-use Rattle.wire.specs.Field.{bytesAt}
-use Rattle.wire.proofs.Laws.{picked, false-true}
-use Rattle.wire.proofs.Stands.{Here, join, stood}
-use Rattle.image.specs.declared.record.Field.{Field}
+use Rattle.wire.proofs.Laws.{picked}
+use Rattle.wire.proofs.Stands.{Here, join}
 use Rattle.image.specs.declared.record.Record.{Record}
-use Rattle.image.specs.declared.record.Record.the-variants as R
-use Rattle.image.specs.declared.taking.Taken.{Taken}
-use Rattle.image.specs.declared.taking.Taken.the-variants.{Found, Bad}
 use Rattle.image.specs.declared.writing.Row.{Row}
-use Rattle.image.specs.Record.{_bytes_, bytesOf, size}
-use Rattle.image.specs.Taking.{recordAt, Fits}
+use Rattle.image.specs.Record.{bytesOf}
 use Rattle.image.specs.Out.{Out, end, stop, put, _>>=_, row, rowBytes, namedOf}
-use Rattle.image.proofs.Laws.{size-bytes}
-use Rattle.image.proofs.Found.{found-stood}
 use Rattle.amf0.specs.declared.write.Rest.{Rest}
-use Rattle.amf0.specs.Shape.{Shape}
-use Rattle.amf0.specs.Shape as S
 use Rattle.amf0.specs.Standard.{Item, Sort, Tree, depth, follows}
-use Rattle.amf0.specs.Shown.{look, laid}
-use Rattle.amf0.specs.Shown.Word.{item, name, close}
-use Rattle.amf0.specs.Writing.{texted, shapeOf, valueAt, taken, valued, paired, items, pairs, dense, rest, value, whole}
-use Rattle.amf0.specs.Written.{Stands, Named, Right, Lead, lead, Spells, Images}
+use Rattle.amf0.specs.Shown.{laid, Right}
+use Rattle.amf0.specs.Writing.{valueAt, items, pairs, dense, rest, value, whole}
+use Rattle.amf0.specs.Written.{Lead, lead, Spells, Images}
 use Rattle.amf0.specs.Written.Lead.{keyed, keyless}
 use Rattle.amf0_theorems.proofs.Says.{restOf}
 use Rattle.amf0_theorems.proofs.Puts.{laid-append, laid-length, right-both}
+use Rattle.amf0_theorems.proofs.Seen.{nothing, Took, Value, Pair, Last, SeenValue, see-value, SeenPair, see-pair}
 
 -- the writing is not refused, and ends at n
 abbrev pub Ends : Out → ℕ → Type 0
@@ -47,65 +36,6 @@ pub bind-ends : {P : Type 0} (d : Out) (k : ℕ → Out) (n : ℕ) → Ends (d >
 bind-ends (end m) k n h go = go m refl h
 bind-ends (stop a p) k n h go = absurd h
 bind-ends (put b d) k n h go = bind-ends d k n h go
-
--- ---- what a record is put out as is what it says
-
-module _ (s : List ℕ) where
-  pub named-stands : (m : Field) (w p n : ℕ) → namedOf s (texted m w p n) ≡ true → Stands s p n
-  named-stands m w p n = go (leb (p + n) (length s)) refl
-    where
-      go : (t : Bool) → leb (p + n) (length s) ≡ t → pick t (utf8 (pick t (bytesAt n s p) [])) false ≡ true → Stands s p n
-      go true h e = record { inside = leb-true (p + n) (length s) h; right = e }
-      go false h e = absurd (false-true e)
-
-  record Value (r : Record) (f : Rest) : Type 0 where
-    named : Named s r
-    what : Item
-    looks : look s r ≡ item what
-    follows : f ≡ restOf what
-
-  record Pair (r : Record) : Type 0 where
-    named : Named s r
-    key : List ℕ
-    looks : look s r ≡ name key
-
-  record Last (r : Record) : Type 0 where
-    named : Named s r
-    looks : look s r ≡ close
-
-  Looks : Record → Shape → Type 0
-  Looks r (S.Value w f) = namedOf s w ≡ true → Value r f
-  Looks r (S.Key w) = namedOf s w ≡ true → Pair r
-  Looks r (S.End w) = Last r
-  Looks r S.Other = Unit {0}
-
-  bare : {r : Record} (i : Item) → Named s r → look s r ≡ item i → Value r (restOf i)
-  bare i h e = record { named = h; what = i; looks = e; follows = refl }
-
-  looks : (r : Record) → Looks r (shapeOf r)
-  unfolding Looks
-  looks (R.Number n) = λ u. bare (Item.number n) tt refl
-  looks (R.Boolean b) = λ u. bare (Item.boolean b) tt refl
-  looks (R.Text p n) =
-      picked (Looks (R.Text p n)) (leb n 65535) _ _
-      (λ h u. bare (Item.string (bytesAt n s p)) (named-stands (1 bytes 0x02) 2 p n u) refl)
-      (λ h u. bare (Item.string (bytesAt n s p)) (named-stands (1 bytes 0x0C) 4 p n u) refl)
-  looks R.Object = λ u. bare Item.object tt refl
-  looks R.Null = λ u. bare Item.null tt refl
-  looks R.Undefined = λ u. bare Item.undefined tt refl
-  looks (R.Reference n) = λ u. bare (Item.reference n) tt refl
-  looks (R.EcmaArray n) = λ u. bare (Item.ecma-array n) tt refl
-  looks R.ObjectEnd = record { named = tt; looks = refl }
-  looks (R.StrictArray n) = λ u. bare (Item.strict-array n) tt refl
-  looks (R.Date n present z) = λ u. bare (Item.date n z) tt refl
-  looks R.Unsupported = λ u. bare Item.unsupported tt refl
-  looks (R.Xml p n) = λ u. bare (Item.xml-document (bytesAt n s p)) (named-stands (1 bytes 0x0F) 4 p n u) refl
-  looks (R.TypedObject p n) = λ u. bare (Item.typed-object (bytesAt n s p)) (named-stands (1 bytes 0x10) 2 p n u) refl
-  looks (R.Key p n) = λ u. record { named = named-stands (0 bytes 0) 2 p n u; key = bytesAt n s p; looks = refl }
-  looks (R.Packet k m) = tt
-  looks (R.Header p n b) = tt
-  looks (R.Message p n q m) = tt
-  looks (R.Lso l p n) = tt
 
 -- ---- what is written stood in the image
 
@@ -127,32 +57,8 @@ module _ (s image : List ℕ) (bs : Bytes image) where
   row-ends w at n d =
       picked (λ (x : Out). Ends x n → (namedOf s w ≡ true) × Ends d n) (namedOf s w) (put (rowBytes s w) d) (stop 6 at) (λ h e. (h, e)) (λ h e. absurd e)
 
-  -- a record that is taken stood there
-  pub record Took (at : ℕ) (r : Record) (q : ℕ) : Type 0 where
-    pub fits : Fits r
-    pub rest : List ℕ
-    pub here : Here image at (bytesOf r) rest
-    pub next : q ≡ at + length (bytesOf r)
-
-  pub took : (at n : ℕ) {P : Type 0} (k : Record → ℕ → Out) → Ends (taken at (recordAt image at) k) n
-      → ((r : Record) (q : ℕ) → Took at r q → Ends (k r q) n → P) → P
-  took at n {P} k e go = cases (recordAt image at) refl e
-    where
-      cases : (t : Taken) → recordAt image at ≡ t → Ends (taken at t k) n → P
-      cases (Found r c) h e =
-          let o = found-stood image bs at r c h in
-          go r (c .at)
-          (record {
-            fits = o .fits;
-            rest = drop (at + size r) image;
-            here = rw (o .same) at (stood (size r) image at);
-            next = rw (size-bytes r) (o .next);
-          })
-          e
-      cases Bad h e = absurd e
-
   -- one record more
-  pub before : {at q n : ℕ} {r : Record} {z : List ℕ} (rs : List Record) → Took at r q → Here image q (laid rs) z → n ≡ q + length (laid rs)
+  pub before : {at q n : ℕ} {r : Record} {z : List ℕ} (rs : List Record) → Took s image bs at r q → Here image q (laid rs) z → n ≡ q + length (laid rs)
       → Here image at (laid (r ∷ rs)) z × (n ≡ at + length (laid (r ∷ rs)))
   before {r} rs t h e = (join (t .here) refl (rw (t .next) at h), omega (arith, t .next, length-append (bytesOf r) (laid rs)))
 
@@ -197,7 +103,7 @@ module _ (s image : List ℕ) (bs : Bytes image) where
     items-sound zero q n e = nil-sound q n e
     items-sound (suc c) q n e = bind-ends (v q) (items v image s c) n e λ m f g. cons-sound (good q m f) (items-sound c m n g)
 
-    end-sound : {at q n : ℕ} {r : Record} → Took at r q → Last s r → n ≡ q → Stood keyed Sort.properties left at n
+    end-sound : {at q n : ℕ} {r : Record} → Took s image bs at r q → Last s r → n ≡ q → Stood keyed Sort.properties left at n
     end-sound {at} {q} {n} {r} t y e =
         let b = before {n = n} {z = drop q image} [] t (record { same = refl }) (omega arith) in
         record {
@@ -211,7 +117,7 @@ module _ (s image : List ℕ) (bs : Bytes image) where
           deep = omega arith;
         }
 
-    pair-sound : {at q m n : ℕ} {r : Record} → Took at r q → Pair s r → Stood keyed Sort.value left q m → Stood keyed Sort.properties left m n
+    pair-sound : {at q m n : ℕ} {r : Record} → Took s image bs at r q → Pair s r → Stood keyed Sort.value left q m → Stood keyed Sort.properties left m n
         → Stood keyed Sort.properties left at n
     pair-sound {r} t k x y =
         let c = both x y in
@@ -228,21 +134,15 @@ module _ (s image : List ℕ) (bs : Bytes image) where
         }
 
     pairs-sound : (fuel q n : ℕ) → Ends (pairs v image s fuel q) n → Stood keyed Sort.properties left q n
-    unfolding pairs Looks
+    unfolding pairs
     pairs-sound zero q n e = absurd e
-    pairs-sound (suc fuel) at n e =
-        took at n (λ r q. paired at (shapeOf r) (λ w. row s w at (v q >>= pairs v image s fuel)) (λ w. row s w at (end q))) e λ r q t e.
-        by r q t (pairs v image s fuel) (pairs-sound fuel) (shapeOf r) (looks s r) e
+    pairs-sound (suc fuel) at n e = by (pairs v image s fuel) (pairs-sound fuel) (see-pair s image bs at (λ q. v q >>= pairs v image s fuel) end) e
       where
-        by : (r : Record) (q : ℕ) → Took at r q → (more : ℕ → Out) → ((q n : ℕ) → Ends (more q) n → Stood keyed Sort.properties left q n)
-            → (h : Shape) → Looks s r h → Ends (paired at h (λ w. row s w at (v q >>= more)) (λ w. row s w at (end q))) n
-            → Stood keyed Sort.properties left at n
-        by r q t more ih (S.Value w f) l e = absurd e
-        by r q t more ih (S.Key w) l e =
-            let o = row-ends w at n (v q >>= more) e in
-            bind-ends (v q) more n (o .1) λ m f g. pair-sound t (l (o .0)) (good q m f) (ih m n g)
-        by r q t more ih (S.End w) l e = end-sound t l (row-ends w at n (end q) e .1)
-        by r q t more ih S.Other l e = absurd e
+        by : {d : Out} (more : ℕ → Out) → ((q n : ℕ) → Ends (more q) n → Stood keyed Sort.properties left q n)
+            → SeenPair s image bs at (λ q. v q >>= more) end d → Ends d n → Stood keyed Sort.properties left at n
+        by more ih (SeenPair.key {q} t k) e = bind-ends (v q) more n e λ m f g. pair-sound t k (good q m f) (ih m n g)
+        by more ih (SeenPair.last t k) e = end-sound t k e
+        by more ih (SeenPair.neither x) e = absurd e
 
     first-sound : {k at m n : ℕ} → Stood keyed Sort.value left at m → Stood (keyless (k + 1)) Sort.properties left m n
         → Stood (keyless k) Sort.properties left at n
@@ -296,7 +196,7 @@ module _ (s image : List ℕ) (bs : Bytes image) where
     rest-sound (Item.xml-document t) q n e = nil-sound q n e
     rest-sound (Item.typed-object t) q n e = pairs-sound (length image) q n e
 
-    node-sound : {at q n : ℕ} {r : Record} {f : Rest} → Took at r q → Value s r f → Ends (rest v image s f q) n → Stood keyed Sort.value (suc left) at n
+    node-sound : {at q n : ℕ} {r : Record} {f : Rest} → Took s image bs at r q → Value s r f → Ends (rest v image s f q) n → Stood keyed Sort.value (suc left) at n
     node-sound {at} {q} {n} {r} t y e = go (rest-sound (y .what) q n (rw (y .follows) at e))
       where
         go : Stood (lead (y .what)) (follows (y .what)) left q n → Stood keyed Sort.value (suc left) at n
@@ -314,18 +214,16 @@ module _ (s image : List ℕ) (bs : Bytes image) where
             }
 
   pub sound : (left at n : ℕ) → Ends (value left image s at) n → Stood keyed Sort.value left at n
-  unfolding value Looks
+  unfolding value
   sound zero at n e = absurd e
   sound (suc left) at n e =
-      took at n (λ r q. valued at (shapeOf r) λ w f. row s w at (rest (value left image s) image s f q)) e λ r q t e.
-      by r (λ f. rest (value left image s) image s f q) (λ f y e. node-sound left (value left image s) (sound left) t y e) (shapeOf r) (looks s r) e
+      by (see-value s image bs at (rest (value left image s) image s)) (λ q r f. node-sound left (value left image s) (sound left)) e
     where
-      by : (r : Record) (out : Rest → Out) → ((f : Rest) → Value s r f → Ends (out f) n → Stood keyed Sort.value (suc left) at n)
-          → (h : Shape) → Looks s r h → Ends (valued at h λ w f. row s w at (out f)) n → Stood keyed Sort.value (suc left) at n
-      by r out go (S.Value w f) l e = let o = row-ends w at n (out f) e in go f (l (o .0)) (o .1)
-      by r out go (S.Key w) l e = absurd e
-      by r out go (S.End w) l e = absurd e
-      by r out go S.Other l e = absurd e
+      by : {d : Out} {k : Rest → ℕ → Out} → SeenValue s image bs at k d
+          → ((q : ℕ) (r : Record) (f : Rest) → Took s image bs at r q → Value s r f → Ends (k f q) n → Stood keyed Sort.value (suc left) at n)
+          → Ends d n → Stood keyed Sort.value (suc left) at n
+      by (SeenValue.seen {r} {q} {f} t y) go e = go q r f t y e
+      by (SeenValue.unseen x) go e = absurd e
 
   -- an image of a tree and no bytes past it
   pub image-of : (left n : ℕ) → Ends (whole image (value left image s 0)) n → (t : Tree Sort.value) × Images s t image × (depth t ≤ left)
@@ -334,10 +232,6 @@ module _ (s image : List ℕ) (bs : Bytes image) where
       go m (sound left 0 m f)
       (picked (λ (x : Out). Ends x n → length image ≤ m) (leb (length image) m) (end m) (stop 6 m) (λ h e. leb-true _ _ h) (λ h e. absurd e) g)
     where
-      nothing : (x : List ℕ) → length x ≡ 0 → x ≡ []
-      nothing [] e = refl
-      nothing (b ∷ x) e = absurd (omega arith)
-
       go : (m : ℕ) → Stood keyed Sort.value left 0 m → length image ≤ m → (t : Tree Sort.value) × Images s t image × (depth t ≤ left)
       go m x h =
           let l = ap length (x .here .same) in

@@ -1,11 +1,11 @@
 -- The theorems on the writer of values, over what its public call comes to.
 use Prim.Native.Nat.{ℕ, _+_, _*_, _≤_, _<_, max}
 use mathlib.Core.Path.{_≡_, refl, sym, ap, _∙_}
-use mathlib.Core.Logic.{_≢_, _↔_, _⊎_, inl, inr}
+use mathlib.Core.Logic.{_↔_, _⊎_, inl, inr, ⊎-elim}
 use mathlib.Core.List.{List, [], _∷_, _++_, append-nil, append-assoc}
 use native.Mathlib.Omega.{arith}
-use lib.ListN.{length, take, drop, length-append, length-drop, take-append-drop}
-use lib.Seq.{length-take-le, drop-append-seam}
+use lib.ListN.{length, take, take-append-drop}
+use lib.Seq.{length-take-le}
 use lib.Dec.{leb}
 use Rattle.wire.specs.Number.{Bytes}
 use Rattle.wire.specs.Limit as limit
@@ -13,34 +13,29 @@ use Rattle.wire.proofs.Laws.{pick-no, picked}
 use Rattle.wire.proofs.Stands.{Here}
 use Rattle.image.specs.declared.record.Record.{Record}
 use Rattle.image.specs.declared.record.Record.the-variants as R
-use Rattle.image.specs.declared.writing.Writing.{Writing}
-use Rattle.image.specs.Out.{Written, written, unwritten, sized, onto}
-use Rattle.image.specs.Whole.{Whole}
+use Rattle.image.specs.Out.{Written, written, unwritten, sized}
+use Rattle.image.specs.Whole.{Whole, bytes}
 use Rattle.amf0.specs.Standard.{Item, Sort, Tree, depth, Encodes}
-use Rattle.amf0.specs.Shown.{laid, Shows}
+use Rattle.amf0.specs.Shown.{laid, Right, Shows}
+use Rattle.amf0.specs.Reading as reading
 use Rattle.amf0.specs.Reading.{readOf}
-use Rattle.amf0.specs.Writing.{writeOf}
-use Rattle.amf0.specs.Written.{write, Shortest, Right, Spells, Images, Writable, Over, Outcome, numbered, Alike, rewriteOf}
+use Rattle.amf0.specs.Writing.{value, whole, writeOf}
+use Rattle.amf0.specs.Written.{write, Shortest, Spells, Images, Writable, Over, numbered, Alike, rewriteOf}
 use Rattle.amf0.specs.Written.Lead.{keyed, keyless}
+use Rattle.amf0_theorems.specs.Unwritten.{Stops, Slot, Begins, Opens, Refuses, Refused, Outcome, OutcomeOf}
 use Rattle.amf0.proofs.Outcome.{thrice}
 use Rattle.amf0_theorems.proofs.Alike.{read-alike}
 use Rattle.amf0_theorems.proofs.Shortest.{encoded, least}
 use Rattle.amf0_theorems.proofs.Spelling as spelling
 use Rattle.amf0_theorems.proofs.WriteOutcome.{puts-bytes, image-puts, image-written, read-image, accepted-read, read-all, sized-written, written-sized}
-use Rattle.amf0_theorems.proofs.WriteReasons.{answered, outcome}
+use Rattle.amf0_theorems.proofs.WriteReasons as because
+use Rattle.amf0_theorems.proofs.WriteReasons.{call-refusals, whole-refuses, stops-once, answered, reasons}
+use Rattle.amf0_theorems.proofs.WriteSound.{image-of}
+use Rattle.amf0_theorems.proofs.WriteRefusal.{ends-or-stops, no-front, refused-by}
+use Rattle.amf0_theorems.proofs.WriteRefusing.{refuses-by}
+use Rattle.amf0_theorems.proofs.Settled.{Settled}
+use Rattle.amf0_theorems.proofs.Settled.Settled.{refused, put-out}
 use Rattle.amf0_theorems.proofs.Theorems.{Means, sound, unique}
-
--- ---- one outcome
-
--- an outcome of the public call that its contract permits: what it returns, and the output that it leaves
-pub record PermitsWrite (image text out : List ℕ) (r : Writing) (left : List ℕ) : Type 0 where
-  pub returns : r ≡ writeOf image text (length out) .writing
-  pub leaves : left ≡ onto (writeOf image text (length out) .bytes) out
-
--- Any two outcomes that the contract permits for an image, a text and an output are the same.
-pub determined-write : (image text out : List ℕ) (r q : Writing) (i j : List ℕ) → PermitsWrite image text out r i → PermitsWrite image text out q j
-    → (r ≡ q) × (i ≡ j)
-determined-write image text out r q i j a b = (a .returns ∙ sym (b .returns), a .leaves ∙ sym (b .leaves))
 
 -- ---- the writing and the standard
 
@@ -56,8 +51,8 @@ written-tree image text t room w = (
   shortest image text t (w .images) (w .image-size),
 )
 
--- Records that tell a tree, as those of a reading do, are the image of that tree, where their fields and texts are right.
-pub shown-images : (s image : List ℕ) (t : Tree Sort.value) (w : Shows s t image) → Right s (w .records) → Images s t image
+-- What shows a tree, as the image of a reading does, is an image of that tree.
+pub shown-images : (s image : List ℕ) (t : Tree Sort.value) → Shows s t image → Images s t image
 shown-images s image t = spelling.images
 
 -- No image is that of two trees.
@@ -142,6 +137,27 @@ written-again image text b t out more once w f h i =
     let r = written-back image text b t out more w f h in
     written-tree (readOf b more .bytes) b t once (r .writable) .0 ∙ (ap (λ x. sized x once) (sym (g .same)) ∙ sized-written b once (r .writable .text-size) i)
 
+-- b, all of which w reads back as the tree t, is no longer than x, which encodes t too, and the images of both, over s and over b, differ in the places of
+-- texts alone
+pub record Trip (s x b : List ℕ) (t : Tree Sort.value) (image : List ℕ) (w : Whole) : Type 0 where
+  pub back : ReadsBack b t w
+  pub fewer : length b ≤ length x
+  pub alike : Alike s b image (w .bytes)
+
+-- The image that a reading makes of a tree which stands anywhere in s, written in full, reads back, given room, as the same tree.
+pub trip : {image s x r : List ℕ} {at : ℕ} {t : Tree Sort.value} (b : List ℕ) (out more : ℕ) → image ≡ bytes (reading.value limit.levels s at) → Encodes Sort.value t x
+    → Here s at x r → Writable image s t → writeOf image s out ≡ written b → 3 * length b ≤ more → Trip s x b t image (readOf b more)
+trip {image} {s} {t} b out more made e h w f i =
+    let g = written-sized (write t) out b (sym (written-tree image s t out w .0) ∙ f) in
+    let r = written-back image s b t out more w f i in
+    record {
+      back = r;
+      fewer = rw (g .same) (least e);
+      alike =
+          rw (made, accepted-read b more (r .answer) .made)
+          (read-alike e h (r .encodes) (record { same = sym (append-nil b) }) (w .deep) (w .text-size) (r .writable .text-size));
+    }
+
 -- w, a reading of b, and v, one of s, mean the same tree, b is no longer than the bytes of s used, and the images differ in the places of texts alone
 pub record RoundTrip (s b : List ℕ) (v w : Whole) : Type 0 where
   pub tree : Tree Sort.value
@@ -157,18 +173,15 @@ pub round-trip : (s b : List ℕ) (room out more : ℕ) → Bytes s → readOf s
 round-trip s b room out more bs e f h =
     let m = sound s room bs e in
     let w = read-writable s room e m in
-    let g = written-sized (write (m .tree)) out b (sym (written-tree (readOf s room .bytes) s (m .tree) out w .0) ∙ f) in
-    let r = written-back (readOf s room .bytes) s b (m .tree) out more w f h in
+    let n : ℕ = readOf s room .reading .used in
+    let t = trip b out more (accepted-read s room e .made) (m .encodes) (record { same = sym (take-append-drop n s) }) w f h in
     record {
       tree = m .tree;
       before = m .encodes;
       image = w .images;
-      back = r;
-      fewer = rw (g .same) (fewer s room m);
-      alike =
-          rw (accepted-read s room e .made, accepted-read b more (r .answer) .made)
-          (read-alike (m .encodes) (record { same = sym (take-append-drop (readOf s room .reading .used) s) }) (r .encodes) (record { same = sym (append-nil b) })
-          (m .deep) (w .text-size) (r .writable .text-size));
+      back = t .back;
+      fewer = omega (arith, t .fewer, length-take-le n s (m .used));
+      alike = t .alike;
     }
 
 -- To read that and write it once more changes nothing more.
@@ -187,22 +200,67 @@ write-answers image text room =
     answered image text room (λ w. let a = w .writing .answer in (a ≡ 0) ⊎ ((a ≡ 1) ⊎ ((a ≡ 4) ⊎ ((a ≡ 5) ⊎ (a ≡ 6)))))
     (inr (inl refl)) (inr (inr (inl refl))) (inr (inr (inr (inl refl)))) (inr (inr (inr (inr refl)))) (λ b h. inl refl)
 
--- A call is refused for a size, because the image is that of no tree or of one too deep, or for the room; else it puts out what the tree is written as.
+-- The writing is refused with an answer at a place exactly where the records before it begin a tree, and what stands there is not what is due and gives
+-- that answer.
+pub refusal : (image text : List ℕ) (a p : ℕ) → Bytes image → Stops (whole image (value limit.levels image text 0)) a p ↔ Refused image text a p
+refusal image text a p bs = (refused-by text image bs a p, refuses-by text image bs a p)
+
+-- An image is refused with one answer, at one place.
+pub one-refusal : (image text : List ℕ) (a b p q : ℕ) → Bytes image → Refused image text a p → Refused image text b q → (a ≡ b) × (p ≡ q)
+one-refusal image text a b p q bs x y = stops-once (whole image (value limit.levels image text 0)) a b p q (refuses-by text image bs a p x) (refuses-by text image bs b q y)
+
+-- The empty image, which is that of no tree, is refused with 6 at its start, and with nothing else.
+pub empty-image : (text : List ℕ) (a p : ℕ) → Refused [] text a p ↔ (a ≡ 6) × (p ≡ 0)
+empty-image text a p = (λ x. one-refusal [] text a 6 p 0 tt x none, λ e. rw (e .0, e .1) none)
+  where
+    none : Refused [] text 6 0
+    none =
+        record {
+          records = [];
+          rest = [];
+          slot = Slot.value limit.levels;
+          lies = refl;
+          stands = refl;
+          right = tt;
+          opens = Opens.inside Begins.value;
+          refuses = Refuses.value (record { none = λ r i f e. no-front f });
+        }
+
+-- The image of a tree is refused with 5 only, and only where the tree is too deep.
+pub refused-image : (image text : List ℕ) (a p : ℕ) (t : Tree Sort.value) → Bytes image → Refused image text a p → Images text t image
+    → (a ≡ 5) × (limit.levels < depth t)
+refused-image = because.refused-image
+
+-- An image is that of a tree that is not too deep, or it is refused at a place.
+pub tree-or-refusal : (image text : List ℕ) → Bytes image
+    → ((t : Tree Sort.value) × Images text t image × (depth t ≤ limit.levels)) ⊎ ((a : ℕ) × (p : ℕ) × Refused image text a p)
+tree-or-refusal image text bs =
+    ⊎-elim (λ e. inl (image-of text image bs limit.levels (e .0) (e .1))) (λ e. inr (e .0, e .1, refused-by text image bs (e .0) (e .1) (e .2)))
+    (ends-or-stops (whole image (value limit.levels image text 0)))
+
+-- A call is refused for a size, by what stands at a place of the image, or for the room; else it puts out what the tree is written as.
 pub write-reasons : (image text : List ℕ) (room : ℕ) → Bytes image → Outcome image text room (writeOf image text room)
-write-reasons = outcome
+write-reasons = reasons
+
+-- Within the limits, a call is refused with 5, or with 6, exactly where the image is so refused by what stands at a place.
+pub write-refusals : (image text : List ℕ) (room a : ℕ) → Bytes image → length text ≤ limit.bytes → length image ≤ limit.image → (a ≡ 5) ⊎ (a ≡ 6)
+    → writeOf image text room ≡ unwritten a ↔ (p : ℕ) × Refused image text a p
+write-refusals image text room a bs h i o =
+    call-refusals image text (whole image (value limit.levels image text 0)) room a (Refused image text a) (whole-refuses text image limit.levels) h i o λ p.
+    refusal image text a p bs
 
 -- The answer is 1 exactly where the text or the image is over its limit, or the image is that of a tree whose bytes are.
 pub write-over : (image text : List ℕ) (room : ℕ) → Bytes image → writeOf image text room .writing .answer ≡ 1 ↔ Over image text
-write-over image text room bs = (go (writeOf image text room) (outcome image text room bs), back)
+write-over image text room bs = (go (writeOf image text room) (reasons image text room bs), back)
   where
     go : (w : Written) → Outcome image text room w → w .writing .answer ≡ 1 → Over image text
-    go w (Outcome.text-over h) e = Over.text-over h
-    go w (Outcome.image-over h) e = Over.image-over h
-    go w (Outcome.no-tree h i f) e = absurd (omega arith)
-    go w (Outcome.too-deep h i f) e = absurd (omega arith)
-    go w (Outcome.output-over m h) e = Over.output-over m h
-    go w (Outcome.no-room m h i) e = absurd (omega arith)
-    go w (Outcome.put-out m h i) e = absurd (omega arith)
+    go w (OutcomeOf.text-over h) e = Over.text-over h
+    go w (OutcomeOf.image-over h) e = Over.image-over h
+    go w (OutcomeOf.wrong h i f) e = absurd (omega arith)
+    go w (OutcomeOf.too-deep h i f) e = absurd (omega arith)
+    go w (OutcomeOf.output-over m h) e = Over.output-over m h
+    go w (OutcomeOf.no-room m h i) e = absurd (omega arith)
+    go w (OutcomeOf.put-out m h i) e = absurd (omega arith)
 
     back : Over image text → writeOf image text room .writing .answer ≡ 1
     back (Over.text-over h) = rw (pick-no (length text) limit.bytes _ _ h) refl
@@ -216,60 +274,38 @@ write-over image text room bs = (go (writeOf image text room) (outcome image tex
 pub write-accepted : (image text : List ℕ) (room : ℕ) → Bytes image → writeOf image text room .writing .answer ≡ 0
     ↔ (t : Tree Sort.value) × Writable image text t × (length (write t) ≤ limit.bytes) × (length (write t) ≤ room)
 write-accepted image text room bs = (
-  go (writeOf image text room) (outcome image text room bs),
+  go (writeOf image text room) (reasons image text room bs),
   λ x. ap (λ (w : Written). w .writing .answer) (written-tree image text (x .0) room (x .1) .0 ∙ sized-written (write (x .0)) room (x .2) (x .3)),
 )
   where
     go : (w : Written) → Outcome image text room w → w .writing .answer ≡ 0
         → (t : Tree Sort.value) × Writable image text t × (length (write t) ≤ limit.bytes) × (length (write t) ≤ room)
-    go w (Outcome.text-over h) e = absurd (omega arith)
-    go w (Outcome.image-over h) e = absurd (omega arith)
-    go w (Outcome.no-tree h i f) e = absurd (omega arith)
-    go w (Outcome.too-deep h i f) e = absurd (omega arith)
-    go w (Outcome.output-over m h) e = absurd (omega arith)
-    go w (Outcome.no-room m h i) e = absurd (omega arith)
-    go w (Outcome.put-out {t} m h i) e = (t, m, h, i)
+    go w (OutcomeOf.text-over h) e = absurd (omega arith)
+    go w (OutcomeOf.image-over h) e = absurd (omega arith)
+    go w (OutcomeOf.wrong h i f) e = absurd (omega arith)
+    go w (OutcomeOf.too-deep h i f) e = absurd (omega arith)
+    go w (OutcomeOf.output-over m h) e = absurd (omega arith)
+    go w (OutcomeOf.no-room m h i) e = absurd (omega arith)
+    go w (OutcomeOf.put-out {x = t} m h i) e = (t, m, h, i)
 
 -- Within the limits, the image of a tree that is too deep is refused with 5.
 pub write-deep : (image text : List ℕ) (t : Tree Sort.value) (room : ℕ) → Bytes image → length text ≤ limit.bytes → length image ≤ limit.image
     → Images text t image → limit.levels < depth t → writeOf image text room ≡ unwritten 5
-write-deep image text t room bs h i m d = go (writeOf image text room) (outcome image text room bs)
+write-deep image text t room bs h i m d = go (writeOf image text room) (reasons image text room bs)
   where
     other : (u : Tree Sort.value) → Writable image text u → ⊥
     other u w = let e = ap depth (one-tree image text t u i m (w .images)) in omega (arith, w .deep)
 
     go : (w : Written) → Outcome image text room w → w ≡ unwritten 5
-    go w (Outcome.text-over j) = absurd (omega arith)
-    go w (Outcome.image-over j) = absurd (omega arith)
-    go w (Outcome.no-tree j k f) = absurd (f t m)
-    go w (Outcome.too-deep j k f) = refl
-    go w (Outcome.output-over {t = u} n j) = absurd (other u n)
-    go w (Outcome.no-room {t = u} n j k) = absurd (other u n)
-    go w (Outcome.put-out {t = u} n j k) = absurd (other u n)
+    go w (OutcomeOf.text-over j) = absurd (omega arith)
+    go w (OutcomeOf.image-over j) = absurd (omega arith)
+    go w (OutcomeOf.wrong j k f) = let e = refused-image image text 6 _ t bs f m in absurd (omega (arith, e .0))
+    go w (OutcomeOf.too-deep j k f) = refl
+    go w (OutcomeOf.output-over {x = u} n j) = absurd (other u n)
+    go w (OutcomeOf.no-room {x = u} n j k) = absurd (other u n)
+    go w (OutcomeOf.put-out {x = u} n j k) = absurd (other u n)
 
--- A refused write counts 0 and leaves the output as it was.
-pub write-refused : (image text out : List ℕ) (r : Writing) (left : List ℕ) → PermitsWrite image text out r left → r .answer ≢ 0 → (r .count ≡ 0) × (left ≡ out)
-write-refused image text out r left p =
-    answered image text (length out) (λ w. r ≡ w .writing → left ≡ onto (w .bytes) out → r .answer ≢ 0 → (r .count ≡ 0) × (left ≡ out))
-    (none 1) (none 4) (none 5) (none 6) (λ b h e f ne. absurd (ne (ap (λ (q : Writing). q .answer) e))) (p .returns) (p .leaves)
-  where
-    none : (a : ℕ) → r ≡ unwritten a .writing → left ≡ out → r .answer ≢ 0 → (r .count ≡ 0) × (left ≡ out)
-    none a e f ne = (ap (λ (q : Writing). q .count) e, f)
-
--- An accepted write changes as many bytes as it counts, at the front of the output, and no other.
-pub write-kept : (image text out : List ℕ) (r : Writing) (left : List ℕ) → PermitsWrite image text out r left → r .answer ≡ 0
-    → (r .count ≤ length out) × (length left ≡ length out) × (drop (r .count) left ≡ drop (r .count) out)
-write-kept image text out r left p =
-    answered image text (length out) (λ w. r ≡ w .writing → left ≡ onto (w .bytes) out → r .answer ≡ 0 → Kept)
-    (none 1 λ e. omega arith) (none 4 λ e. omega arith) (none 5 λ e. omega arith) (none 6 λ e. omega arith)
-    (λ b h e f z. rw (e, f) (
-      h,
-      omega (arith, length-append b (drop (length b) out), length-drop (length b) out),
-      drop-append-seam b (drop (length b) out),
-    )) (p .returns) (p .leaves)
-  where
-    Kept : Type 0
-    Kept = (r .count ≤ length out) × (length left ≡ length out) × (drop (r .count) left ≡ drop (r .count) out)
-
-    none : (a : ℕ) → a ≢ 0 → r ≡ unwritten a .writing → left ≡ out → r .answer ≡ 0 → Kept
-    none a ne e f z = absurd (ne (sym (ap (λ (q : Writing). q .answer) e) ∙ z))
+-- A refused write counts 0 and has no byte of an output; an accepted one counts the bytes that it has of it, and they have room.
+pub write-settled : (image text : List ℕ) (room : ℕ) → Settled room (writeOf image text room)
+write-settled image text room =
+    answered image text room (Settled room) (refused 1 λ e. omega arith) (refused 4 λ e. omega arith) (refused 5 λ e. omega arith) (refused 6 λ e. omega arith) put-out
