@@ -1,11 +1,13 @@
 -- What is a file is read as that file, up to where no further element can be read.
-use Prim.Native.Nat.{ℕ, zero, suc, _+_, _≤_, _<_}
+use Prim.Native.Nat.{ℕ, zero, suc, _+_, _^_, _≤_, _<_}
 use mathlib.Core.Path.{_≡_, refl, sym, ap, ap₂, _∙_}
 use mathlib.Core.List.{List, [], _∷_, _++_, map, append-assoc, append-nil}
+use mathlib.Core.Bool.{true}
 use native.Mathlib.Omega.{arith}
 use lib.ListN.{length, length-append}
 use lib.Dec.{lit<}
 use Rattle.wire.specs.Number.{digits}
+use Rattle.wire.specs.Utf8.{utf8}
 use Rattle.wire.specs.Field.{to}
 use Rattle.wire.specs.Limit as limit
 use Rattle.wire.specs.declared.cursor.Tag.the-variants as Tag
@@ -13,6 +15,7 @@ use Rattle.wire.proofs.Stands.{Here, cut, skip, inside, there, u32-at, text-at,
 use Rattle.image.specs.declared.record.Record.{Record}
 use Rattle.image.specs.declared.record.Record.the-variants as Record
 use Rattle.image.specs.Record.{bytesOf}
+use Rattle.image.specs.Taking.{Fits}
 use Rattle.image.specs.Due.{Due, end, stop, due, _>>=_, Ends}
 use Rattle.image.specs.Whole.{bytes}
 use Rattle.amf0.specs.Reading.{value}
@@ -172,7 +175,8 @@ pub record Reads (s : List ℕ) (f : Lso) (n : ℕ) : Type 0 where
   pub header : ℕ
   pub ended : endOf (headerAt s) ≡ ends header
   pub body : bodyAt s (length s) header .at ≡ n
-  pub shows : Shows s f (bytes (headerAt s) ++ bodyAt s (length s) header .taken)
+  pub tried : bodyAt s (length s) header .tried ≡ elementAt s n
+  pub shows : length s ≤ limit.bytes → Shows s f (bytes (headerAt s) ++ bodyAt s (length s) header .taken)
   pub images : length s ≤ limit.bytes → Images s f (bytes (headerAt s) ++ bodyAt s (length s) header .taken)
   pub alike : (l : length s ≤ limit.bytes) → map unplaced (images l .records) ≡ ofBody (f .body)
 
@@ -187,9 +191,26 @@ zeros-at s r at h =
     rw (tag-at z (cut z (0 ∷ 0 ∷ 0 ∷ []) h) (omega arith), tag-at z (cut z (0 ∷ 0 ∷ []) a) (omega arith), tag-at z (cut z (0 ∷ []) b) (omega arith), tag-at z c (omega arith))
     (ap (λ q. Tag.Past (to q)) four)
 
+pub header-reads : (stored : ℕ) (t z s r : List ℕ) → stored < 256 ^ 4 → length t < 256 ^ 2 → utf8 t ≡ true
+    → Here s 0 (version ++ (digits 4 stored ++ (signature ++ ((digits 2 (length t) ++ t) ++ (padding ++ z))))) r
+    → headerAt s ≡ due (Record.Lso stored 18 (length t)) 0 (end (18 + length t + 4))
+unfolding headerAt
+header-reads stored t z s r l h u g =
+    let x : List ℕ = digits 2 (length t) ++ t in
+    let g₁ = skip version (digits 4 stored ++ (signature ++ (x ++ (padding ++ z)))) g in
+    let g₂ = skip (digits 4 stored) (signature ++ (x ++ (padding ++ z))) g₁ in
+    let g₃ = skip signature (x ++ (padding ++ z)) g₂ in
+    rw (
+      tag-at version (cut version (digits 4 stored ++ (signature ++ (x ++ (padding ++ z)))) g) (omega arith),
+      u32-at stored (cut (digits 4 stored) (signature ++ (x ++ (padding ++ z))) g₁) l,
+      tag-at signature (cut signature (x ++ (padding ++ z)) g₂) (omega arith),
+      text-at 2 t (cut x (padding ++ z) g₃) h u (omega arith),
+      zeros-at s (z ++ r) (18 + length t) (cut padding z (past t (padding ++ z) g₃)),
+    )
+
 pub file-reads : {f : Lso} {x : List ℕ} → File f x → (s r : List ℕ) (a n : ℕ) → deepest (f .body) ≤ limit.levels → Here s 0 x r → n ≡ length x
     → endOf (elementAt s n) ≡ stops a → Reads s f n
-unfolding headerAt bytes
+unfolding bytes
 file-reads (File.file {stored} {b} {z} l (short t h u) els) s r a n d g i e =
     let x : List ℕ = digits 2 (length t) ++ t in
     let p : ℕ = 18 + length t + 4 in
@@ -198,14 +219,7 @@ file-reads (File.file {stored} {b} {z} l (short t h u) els) s r a n d g i e =
     let g₃ = skip signature (x ++ (padding ++ z)) g₂ in
     let g₄ = past t (padding ++ z) g₃ in
     let record₀ : Record = Record.Lso stored 18 (length t) in
-    let f : headerAt s ≡ due record₀ 0 (end p) =
-    rw (
-      tag-at version (cut version (digits 4 stored ++ (signature ++ (x ++ (padding ++ z)))) g) (omega arith),
-      u32-at stored (cut (digits 4 stored) (signature ++ (x ++ (padding ++ z))) g₁) l,
-      tag-at signature (cut signature (x ++ (padding ++ z)) g₂) (omega arith),
-      text-at 2 t (cut x (padding ++ z) g₃) h u (omega arith),
-      zeros-at s (z ++ r) (18 + length t) (cut padding z g₄),
-    ) in
+    let f = header-reads stored t z s r l h u g in
     let m = body-reads els s r (length s) p n d (omega arith) (skip padding z g₄) (omega (arith, length-append t (padding ++ z))) in
     let o = stopped a m e in
     let lies : bytes (headerAt s) ++ bodyAt s (length s) p .taken ≡ laid (record₀ ∷ m .records) =
@@ -217,16 +231,28 @@ file-reads (File.file {stored} {b} {z} l (short t h u) els) s r a n d g i e =
       right = u;
       small = h;
     } in
+    let fits : Fits record₀ = record { a = l; b = lit< tt; c = h; d = lit< tt; zone = λ n z e. cc } in
     record {
       header = p;
       ended = ap endOf f;
       body = ap (λ (y : Body). y .at) o;
-      shows = record { place = 18; records = m .records; names = name₀ .same; tells = m .tells; lies = lies };
+      tried = ap (λ (y : Body). y .tried) o;
+      shows = λ i.
+          record {
+            place = 18;
+            records = m .records;
+            fits = fits;
+            stands = stands name₀;
+            right = m .images i .right;
+            names = name₀ .same;
+            tells = m .tells;
+            lies = lies;
+          };
       images = λ i.
           record {
             place = 18;
             records = m .records;
-            fits = record { a = l; b = lit< tt; c = h; d = lit< tt; zone = λ n z e. cc };
+            fits = fits;
             stands = stands name₀;
             names = name₀ .same;
             right = m .images i .right;

@@ -19,9 +19,8 @@ use Rattle.image.specs.Record.{_bytes_, none, fieldBytes, size}
 use Rattle.image.specs.Out.{Out, end, _>>=_, row, bytes as putOut, namedOf, sized}
 use Rattle.image.proofs.Laws.{size-some}
 use Rattle.amf0.specs.Standard.{Sort, Tree, depth}
-use Rattle.amf0.specs.Shown.{laid}
+use Rattle.amf0.specs.Shown.{laid, Stands, Right}
 use Rattle.amf0.specs.Written as amf0
-use Rattle.amf0.specs.Written.{Stands, Right}
 use Rattle.amf0.specs.Written.Lead.{keyed}
 use Rattle.amf0_theorems.proofs.Puts.{Puts, then, first, others, puts, laid-append, laid-length, laid-size, right-left, right-right}
 use Rattle.amf0_theorems.proofs.WriteOutcome.{puts-bytes, puts-settled}
@@ -32,11 +31,11 @@ use Rattle.lso.specs.Written.{short, writeBody, write, Spells, Images, Writable
 -- ---- rows
 
 module _ (s : List ℕ) where
-  empty : Stands s 0 0
+  pub empty : Stands s 0 0
   unfolding ends
   empty = record { inside = omega arith; right = refl }
 
-  named : {p n : ℕ} (m a b : Field) → Stands s p n → namedOf s (rowOf m a b p n) ≡ true
+  pub named : {p n : ℕ} (m a b : Field) → Stands s p n → namedOf s (rowOf m a b p n) ≡ true
   named {p} {n} m a b h = rw (le-leb (p + n) (length s) (h .inside)) (h .right)
 
   row-puts : {D : Type 0} {p n e : ℕ} {x : List ℕ} {d : Out} (at : ℕ) (m a b : Field) → Stands s p n → Puts D d x e
@@ -47,7 +46,7 @@ module _ (s : List ℕ) where
   -- ---- elements
 
   module _ (image : List ℕ) where
-    element-puts : {D : Type 0} {p n : ℕ} {k z : List ℕ} {v : Tree Sort.value} {rs : List Record} (qs : List Record) (at : ℕ) → bytesAt n s p ≡ k
+    pub element-puts : {D : Type 0} {p n : ℕ} {k z : List ℕ} {v : Tree Sort.value} {rs : List Record} (qs : List Record) (at : ℕ) → bytesAt n s p ≡ k
         → amf0.Spells s keyed Sort.value v rs → Right s (R.Key p n ∷ (rs ++ qs)) → Here image at (laid (R.Key p n ∷ (rs ++ qs))) z → (limit.levels < depth v → D)
         → Puts D (element image s at) (short k ++ (amf0.write v ++ (0 ∷ []))) (at + size (R.Key p n) + length (laid rs))
     unfolding element

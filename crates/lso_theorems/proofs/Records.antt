@@ -1,7 +1,7 @@
 -- The records of a file's elements: they can stand in an image, spell the elements, and are known but for places.
 use Prim.Native.Nat.{ℕ, _+_, _≤_, _<_, _^_}
 use mathlib.Core.Path.{_≡_, refl, ap, _∙_}
-use mathlib.Core.List.{List, [], _∷_, _++_, map}
+use mathlib.Core.List.{List, [], _∷_, _++_, map, map-append}
 use mathlib.Core.Bool.{true}
 use native.Mathlib.Omega.{arith}
 use lib.ListN.{length}
@@ -13,8 +13,8 @@ use Rattle.image.specs.declared.record.Record.{Record}
 use Rattle.image.specs.declared.record.Record.the-variants as R
 use Rattle.amf0.specs.Reading.{value}
 use Rattle.amf0.specs.Standard.{Sort, Tree}
-use Rattle.amf0.specs.Shown.{words, told}
-use Rattle.amf0.specs.Written.{Right, Stands, unplaced}
+use Rattle.amf0.specs.Shown.{told, words, Stands, Right}
+use Rattle.amf0.specs.Written.{unplaced}
 use Rattle.amf0_theorems.proofs.Telling.{recordsOf}
 use Rattle.amf0_theorems.proofs.Puts.{right-both}
 use Rattle.amf0_theorems.proofs.Spelling.{spelled}
@@ -34,10 +34,6 @@ pub record Imaged (s : List ℕ) (b : Body) (rs : List Record) : Type 0 where
 
 pub imaged-none : {s : List ℕ} → Imaged s Body.none []
 imaged-none = record { right = tt; spells = Spells.none; alike = refl }
-
-map-append : (f : Record → Record) (a b : List Record) → map f (a ++ b) ≡ map f a ++ map f b
-map-append f [] b = refl
-map-append f (r ∷ a) b = ap (λ x. f r ∷ x) (map-append f a b)
 
 -- a text within the limit that stands at a place
 pub record Placed (s : List ℕ) (p : ℕ) (k : List ℕ) : Type 0 where

@@ -1,31 +1,22 @@
 -- What a file is written as is that file, but for the length that it says, and no row of bytes that is the file is shorter.
-use Prim.Native.Nat.{ℕ, _+_, _^_, _≤_, _<_, _-_}
+use Prim.Native.Nat.{ℕ, _+_, _≤_, _-_}
 use mathlib.Core.Path.{_≡_, ap}
 use mathlib.Core.List.{List, _∷_, _++_}
 use native.Mathlib.Nat.{le-refl}
 use native.Mathlib.Omega.{arith}
 use lib.ListN.{length, length-append}
-use Rattle.wire.specs.Field.{bytesAt}
 use Rattle.wire.specs.Limit as limit
-use Rattle.wire.proofs.Stands.{length-bytes}
 use Rattle.image.specs.declared.record.Record.{Record}
 use Rattle.image.specs.declared.record.Record.the-variants as R
-use Rattle.amf0.specs.Standard.{UTF-8}
 use Rattle.amf0.specs.Standard.UTF-8.{short as text}
-use Rattle.amf0.specs.Shown.{laid}
+use Rattle.amf0.specs.Shown.{laid, Right}
 use Rattle.amf0.specs.Written as amf0
-use Rattle.amf0.specs.Written.{Stands, Right}
 use Rattle.amf0_theorems.proofs.Puts.{laid-length, laid-size, right-left, right-right}
+use Rattle.amf0_theorems.proofs.Says.{short-text}
 use Rattle.amf0_theorems.proofs.Shortest.{encoded, least}
 use Rattle.lso.specs.File.{Body, Lso, Elements, File, padding}
 use Rattle.lso.specs.Writing.{lengthOf}
-use Rattle.lso.specs.Written.{short, writeBody, write, saying, Spells, Images}
-
--- a text that stands is a short one
-short-text : {s k : List ℕ} {p n : ℕ} → bytesAt n s p ≡ k → Stands s p n → n < 256 ^ 2 → UTF-8 k (short k)
-short-text {s} {k} {p} {n} e h b =
-    let same : length k ≡ n = rw e at (length-bytes n s p (h .inside)) in
-    text k (omega arith) (rw e at (h .right))
+use Rattle.lso.specs.Written.{writeBody, write, saying, Spells, Images}
 
 elements : {s : List ℕ} {b : Body} {rs : List Record} → Spells s b rs → Right s rs → length (laid rs) ≤ limit.image → Elements b (writeBody b)
 elements Spells.none g h = Elements.none

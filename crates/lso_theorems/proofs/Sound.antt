@@ -11,11 +11,12 @@ use Rattle.wire.specs.declared.cursor.Tag.{Tag}
 use Rattle.wire.specs.declared.cursor.Tag.the-variants as Tag
 use Rattle.wire.proofs.Laws.{tag-next, length-digits}
 use Rattle.wire.proofs.Stands.{Here, join, inside, tag-ends, end32, endText}
-use Rattle.image.specs.Due.{Due, end, stop, due, _>>=_, Ends}
+use Rattle.image.specs.Due.{Due, end, stop, due, Ends}
 use Rattle.amf0.specs.Reading.{value}
 use Rattle.amf0.specs.Standard.{Sort, Tree, depth, UTF-8, Encodes}
 use Rattle.amf0.specs.Standard.UTF-8.{short}
 use Rattle.amf0_theorems.proofs.Sound as amf0
+use Rattle.amf0_theorems.proofs.Sound.{bind-ends, keyed}
 use Rattle.lso.specs.File as file
 use Rattle.lso.specs.File.{Lso, Elements, File, deepest, version, signature, padding}
 use Rattle.lso.specs.Reading.{End, endOf, headerAt, elementAt, Body, step, bodyAt}
@@ -23,19 +24,10 @@ use Rattle.lso.specs.Reading.End.{ends, stops}
 use Rattle.lso.proofs.Laws.{closing}
 use Rattle.lso.proofs.Stands.{goTag, goZeros}
 
-end-of : (d : Due) (n : ℕ) → endOf d ≡ ends n → Ends d n
+pub end-of : (d : Due) (n : ℕ) → endOf d ≡ ends n → Ends d n
 end-of (end m) n e = cc
 end-of (stop a p) n e = let z : _≡_ {A = ℕ} 0 1 = cc in absurd (omega arith)
 end-of (due r p d) n e = end-of d n e
-
-bind-ends : {P : Type 0} (d : Due) (k : ℕ → Due) (n : ℕ) → Ends (d >>= k) n → ((m : ℕ) → Ends d m → Ends (k m) n → P) → P
-bind-ends (end m) k n h go = go m refl h
-bind-ends (stop a p) k n h go = absurd h
-bind-ends (due r p d) k n h go = bind-ends d k n h go
-
-keyed : {s r y z : List ℕ} {at : ℕ} (k : List ℕ) → Here s at (digits 2 (length k) ++ k) r → Here s (at + 2 + length k) y z
-    → Here s at ((digits 2 (length k) ++ k) ++ y) z
-keyed {at} k h g = let e : at + 2 + length k ≡ at + length (digits 2 (length k) ++ k) = omega arith in join h refl (rw e at g)
 
 -- ---- an element
 
@@ -90,14 +82,18 @@ module _ (s : List ℕ) (bs : Bytes s) where
 -- ---- the body
 
 -- from the place `at` of s to n stand elements
-pub record FoundBody (s : List ℕ) (at n : ℕ) : Type 0 where
-  pub body : file.Body
-  pub row : List ℕ
-  pub rest : List ℕ
-  pub elements : Elements body row
-  pub here : Here s at row rest
-  pub next : n ≡ at + length row
-  pub deep : deepest body ≤ limit.levels
+record FoundBody (s : List ℕ) (at n : ℕ) : Type 0 where
+  body : file.Body
+  row : List ℕ
+  rest : List ℕ
+  elements : Elements body row
+  here : Here s at row rest
+  next : n ≡ at + length row
+  deep : deepest body ≤ limit.levels
+
+-- an element, and what stands behind it
+pub element-more : (x y z : List ℕ) → (x ++ (y ++ (0 ∷ []))) ++ z ≡ x ++ (y ++ (0 ∷ z))
+element-more x y z = append-assoc x (y ++ (0 ∷ [])) z ∙ ap (λ w. x ++ w) (append-assoc y (0 ∷ []) z)
 
 found-more : {s : List ℕ} {at m n : ℕ} → FoundElement s at m → FoundBody s m n → FoundBody s at n
 found-more {s} {at} {m} {n} e b =
@@ -106,7 +102,7 @@ found-more {s} {at} {m} {n} e b =
     let z : List ℕ = b .row in
     let one : List ℕ = x ++ (y ++ (0 ∷ [])) in
     let h : Here s at (one ++ z) (b .rest) = join (e .here) refl (rw (e .next) at (b .here)) in
-    let same : one ++ z ≡ x ++ (y ++ (0 ∷ z)) = append-assoc x (y ++ (0 ∷ [])) z ∙ ap (λ w. x ++ w) (append-assoc y (0 ∷ []) z) in
+    let same = element-more x y z in
     record {
       body = file.Body.element (e .key) (e .tree) (b .body);
       row = x ++ (y ++ (0 ∷ z));
@@ -117,7 +113,7 @@ found-more {s} {at} {m} {n} e b =
       deep = omega (arith, e .deep, b .deep);
     }
 
-pub body-sound : (s : List ℕ) → Bytes s → (fuel at : ℕ) → FoundBody s at (bodyAt s fuel at .at)
+body-sound : (s : List ℕ) → Bytes s → (fuel at : ℕ) → FoundBody s at (bodyAt s fuel at .at)
 unfolding bodyAt
 body-sound s bs zero at =
     record { body = file.Body.none; row = []; rest = drop at s; elements = Elements.none; here = record { same = refl }; next = omega arith; deep = omega arith }
@@ -131,16 +127,16 @@ body-sound s bs (suc fuel) at = go (body-sound s bs fuel) (endOf (elementAt s at
 -- ---- the file
 
 -- up to the place p of s stands a header
-record FoundHeader (s : List ℕ) (p : ℕ) : Type 0 where
-  stored : ℕ
-  name : List ℕ
-  rest : List ℕ
-  bound : stored < 256 ^ 4
-  text : UTF-8 name (digits 2 (length name) ++ name)
-  here : Here s 0 (version ++ (digits 4 stored ++ (signature ++ ((digits 2 (length name) ++ name) ++ padding)))) rest
-  next : p ≡ 22 + length name
+pub record FoundHeader (s : List ℕ) (p : ℕ) : Type 0 where
+  pub stored : ℕ
+  pub name : List ℕ
+  pub rest : List ℕ
+  pub bound : stored < 256 ^ 4
+  pub text : UTF-8 name (digits 2 (length name) ++ name)
+  pub here : Here s 0 (version ++ (digits 4 stored ++ (signature ++ ((digits 2 (length name) ++ name) ++ padding)))) rest
+  pub next : p ≡ 22 + length name
 
-header-sound : (s : List ℕ) → Bytes s → (p : ℕ) → Ends (headerAt s) p → FoundHeader s p
+pub header-sound : (s : List ℕ) → Bytes s → (p : ℕ) → Ends (headerAt s) p → FoundHeader s p
 unfolding headerAt
 header-sound s bs p =
     let P : Due → Type 0 = λ d. Ends d p → FoundHeader s p in
@@ -163,6 +159,10 @@ header-sound s bs p =
       next = omega arith;
     })
     (λ a q w. halts a q)) (λ a q w. halts a q)) (λ a q w. halts a q)
+
+-- a header, and what stands behind it
+pub header-more : (d x z : List ℕ) → (version ++ (d ++ (signature ++ (x ++ padding)))) ++ z ≡ version ++ (d ++ (signature ++ (x ++ (padding ++ z))))
+header-more d x z = simp append-assoc
 
 -- from the front of s to n stands a file
 pub record Found (s : List ℕ) (n : ℕ) : Type 0 where
@@ -187,7 +187,7 @@ file-sound s bs p e = go (header-sound s bs p (end-of (headerAt s) p e)) (body-s
         let o : 0 + p ≡ p = omega arith in
         let w : Here s (0 + p) z (b .rest) = rw o (b .here) in
         let g : Here s 0 (head ++ z) (b .rest) = join (h .here) l w in
-        let same : head ++ z ≡ version ++ (d ++ (signature ++ (x ++ (padding ++ z)))) = simp append-assoc in
+        let same = header-more d x z in
         record {
           lso = record { stored = h .stored; name = h .name; body = b .body };
           row = version ++ (d ++ (signature ++ (x ++ (padding ++ z))));

@@ -1,6 +1,6 @@
 -- A reading that is accepted makes an image that can be written.
 use Prim.Native.Nat.{ℕ, _+_, _≤_}
-use mathlib.Core.Path.{_≡_, refl, sym, ap}
+use mathlib.Core.Path.{_≡_, refl, sym, ap, _∙_}
 use mathlib.Core.List.{List, _++_, map, append-nil}
 use native.Mathlib.Omega.{arith}
 use lib.ListN.{length, take, length-append, take-append-drop}
@@ -11,42 +11,40 @@ use Rattle.wire.proofs.Stands.{Here}
 use Rattle.image.specs.Whole.{Whole, bytes}
 use Rattle.amf0.specs.Written.{unplaced}
 use Rattle.lso.specs.File.{Lso, File, deepest}
-use Rattle.lso.specs.Reading.{Body, endOf, headerAt, elementAt, bodyAt, incompleteOf, wholeOf}
+use Rattle.lso.specs.Reading.{Body, endOf, headerAt, elementAt, bodyAt, everDue, incompleteOf, wholeOf}
 use Rattle.lso.specs.Reading.End.{ends, stops}
 use Rattle.lso.specs.Written.{Writable}
 use Rattle.lso.proofs.Laws.{element-out}
 use Rattle.lso.proofs.Outcome.{Comes, comes, thrice, whole-cases, field-named}
 use Rattle.lso_theorems.proofs.Records.{ofBody}
 use Rattle.lso_theorems.proofs.Complete.{file-reads}
-use Rattle.lso_theorems.proofs.Theorems.{sound-incomplete}
+use Rattle.lso_theorems.proofs.Stopping.{ended}
 
--- what was made behind a header that ends at p
-record Made (s : List ℕ) (p : ℕ) (w : Whole) : Type 0 where
-  text-size : length s ≤ limit.bytes
-  same : w .bytes ≡ bytes (headerAt s) ++ bodyAt s (length s) p .taken
-  image-size : length (w .bytes) ≤ limit.image
+-- what an accepted call made: within the limit, and what ever falls due is within the room
+pub record Made (s : List ℕ) (room : ℕ) (w : Whole) : Type 0 where
+  pub header : ℕ
+  pub ended : endOf (headerAt s) ≡ ends header
+  pub text-size : length s ≤ limit.bytes
+  pub same : w .bytes ≡ bytes (headerAt s) ++ bodyAt s (length s) header .taken
+  pub due : length (everDue s header) ≤ room
 
-module _ (s : List ℕ) (room p : ℕ) (e : endOf (headerAt s) ≡ ends p) where
-  made : incompleteOf s room .reading .answer ≡ 0 → Made s p (incompleteOf s room)
-  made = go (incompleteOf s room) (comes s room)
-    where
-      one : (q : ℕ) → endOf (headerAt s) ≡ ends q → q ≡ p
-      one q g = cc
+-- the image is a part of what falls due
+pub due-image : (s : List ℕ) (p : ℕ) → length (bytes (headerAt s) ++ bodyAt s (length s) p .taken) + length (bytes (bodyAt s (length s) p .tried)) ≡ length (everDue s p)
+due-image s p =
+    let x : List ℕ = bytes (headerAt s) in
+    let b : Body = bodyAt s (length s) p in
+    omega (arith, length-append x (b .taken), length-append x (b .taken ++ bytes (b .tried)), length-append (b .taken) (bytes (b .tried)))
 
-      go : (w : Whole) → Comes s room w → w .reading .answer ≡ 0 → Made s p w
-      go w (Comes.over-limit h) a = absurd (omega arith)
-      go w (Comes.no-header h f n) a = absurd (omega (arith, field-named n .low))
-      go w (Comes.no-room h f i) a = absurd (omega arith)
-      go w (Comes.not-read h f i g) a = absurd (omega arith)
-      go w (Comes.read {p = q} h f i u g) a =
-          let b : Body = bodyAt s (length s) q in
-          let x : List ℕ = bytes (headerAt s) in
-          let y : List ℕ = bytes (b .tried) in
-          record {
-            text-size = h;
-            same = rw (one q f);
-            image-size = omega (arith, thrice s q f, length-append x (b .taken), length-append x (b .taken ++ y), length-append (b .taken) y);
-          }
+-- an accepted call made what it read
+pub made : (s : List ℕ) (room : ℕ) → incompleteOf s room .reading .answer ≡ 0 → Made s room (incompleteOf s room)
+made s room = go (incompleteOf s room) (comes s room)
+  where
+    go : (w : Whole) → Comes s room w → w .reading .answer ≡ 0 → Made s room w
+    go w (Comes.over-limit h) a = absurd (omega arith)
+    go w (Comes.no-header h f n) a = absurd (omega (arith, field-named n .low))
+    go w (Comes.no-room h f i) a = absurd (omega arith)
+    go w (Comes.not-read h f i g) a = absurd (omega arith)
+    go w (Comes.read {p} h f i u g) a = record { header = p; ended = f; text-size = h; same = refl; due = i }
 
 -- the image of a file that was read
 pub record ReadImage (s : List ℕ) (f : Lso) (w : Whole) : Type 0 where
@@ -57,15 +55,18 @@ read-image : {s x r : List ℕ} {f : Lso} (room a : ℕ) → File f x → deepes
     → incompleteOf s room .reading .answer ≡ 0 → ReadImage s f (incompleteOf s room)
 read-image {s} {x} {r} room a g d h e z =
     let y = file-reads g s r a (length x) d h refl e in
-    let m = made s room (y .header) (y .ended) z in
-    rw (m .same)
+    let m = made s room z in
+    let l = m .text-size in
+    let one : m .header ≡ y .header = cc (sym (m .ended) ∙ y .ended) in
+    let same : incompleteOf s room .bytes ≡ bytes (headerAt s) ++ bodyAt s (length s) (y .header) .taken = rw one at (m .same) in
+    rw same
     (record {
-      writable = record { text-size = m .text-size; image-size = rw (m .same) at (m .image-size); images = y .images (m .text-size); deep = d };
-      alike = y .alike (m .text-size);
+      writable = record { text-size = l; image-size = omega (arith, due-image s (y .header), thrice s (y .header) (y .ended)); images = y .images l; deep = d };
+      alike = y .alike l;
     })
 
 -- where the whole reading accepts it is the incomplete one
-whole-same : (s : List ℕ) (room : ℕ) → wholeOf s room .reading .answer ≡ 0 → wholeOf s room ≡ incompleteOf s room
+pub whole-same : (s : List ℕ) (room : ℕ) → wholeOf s room .reading .answer ≡ 0 → wholeOf s room ≡ incompleteOf s room
 whole-same s room =
     whole-cases s room (λ w. w .reading .answer ≡ 0 → w ≡ incompleteOf s room) (λ n a. refl) (λ a l z. absurd (omega arith)) (λ a l z. refl)
 
@@ -87,15 +88,14 @@ pub record WasRead (s : List ℕ) (w : Whole) : Type 0 where
 
 pub read-incomplete : (s : List ℕ) (room : ℕ) → Bytes s → incompleteOf s room .reading .answer ≡ 0 → WasRead s (incompleteOf s room)
 read-incomplete s room bs a =
-    let x = sound-incomplete s room bs a in
-    let m = x .means in
+    let x = ended s room bs a in
     let n : ℕ = incompleteOf s room .reading .used in
-    let l : length (take n s) ≡ n = length-take-le n s (m .used) in
+    let l : length (take n s) ≡ n = length-take-le n s (x .begins .within) in
     record {
-      lso = m .lso;
-      file = m .file;
-      used = m .used;
-      image = read-image room (x .halts .answer) (m .file) (m .deep) (record { same = sym (take-append-drop n s) }) (rw l (x .halts .stopped)) a;
+      lso = x .lso;
+      file = x .begins .file;
+      used = x .begins .within;
+      image = read-image room (x .answer) (x .begins .file) (x .begins .deep) (record { same = sym (take-append-drop n s) }) (rw l (x .stopped)) a;
     }
 
 pub read-whole : (s : List ℕ) (room : ℕ) → Bytes s → wholeOf s room .reading .answer ≡ 0 → WasRead s (wholeOf s room)

@@ -17,49 +17,16 @@ use Rattle.image.specs.Record.{_bytes_, none}
 use Rattle.image.specs.Out.{Out, end, _>>=_, row, bytes as putOut}
 use Rattle.image.proofs.Laws.{size-bytes, size-some}
 use Rattle.amf0.specs.Standard.{Sort}
-use Rattle.amf0.specs.Shown.{laid}
+use Rattle.amf0.specs.Shown.{laid, Stands, Right}
 use Rattle.amf0.specs.Writing.{value}
-use Rattle.amf0.specs.Written.{Stands, Right}
 use Rattle.amf0.specs.Written.Lead.{keyed}
 use Rattle.amf0_theorems.proofs.Puts.{laid-append, laid-length, right-both}
-use Rattle.amf0_theorems.proofs.WriteSound.{Ends, bind-ends, named-stands, row-ends, Took, took, before, Stood, sound}
-use Rattle.lso.specs.declared.write.Part.{Part}
-use Rattle.lso.specs.declared.write.Part.the-variants as P
+use Rattle.amf0_theorems.proofs.Seen.{nothing, Took}
+use Rattle.amf0_theorems.proofs.WriteSound.{Ends, bind-ends, row-ends, before, Stood, sound}
+use Rattle.lso_theorems.proofs.Seen.{SeenKey, see-key, SeenFile, see-file}
 use Rattle.lso.specs.File.{Body, Lso, deepest}
-use Rattle.lso.specs.Writing as writing
-use Rattle.lso.specs.Writing.{partOf, filed, rowOf, header, element, body, file, lengthOf}
+use Rattle.lso.specs.Writing.{rowOf, element, body, file, lengthOf}
 use Rattle.lso.specs.Written.{Spells, Images}
-
--- a part tells its record
-abbrev Is : Record → Part → Type 0
-Is r (P.File p n) = (stored : ℕ) × (r ≡ R.Lso stored p n)
-Is r (P.Key p n) = r ≡ R.Key p n
-Is r P.Other = Unit {0}
-
-part-is : (r : Record) → Is r (partOf r)
-part-is (R.Number n) = tt
-part-is (R.Boolean b) = tt
-part-is (R.Text p n) = tt
-part-is R.Object = tt
-part-is R.Null = tt
-part-is R.Undefined = tt
-part-is (R.Reference n) = tt
-part-is (R.EcmaArray n) = tt
-part-is R.ObjectEnd = tt
-part-is (R.StrictArray n) = tt
-part-is (R.Date n z t) = tt
-part-is R.Unsupported = tt
-part-is (R.Xml p n) = tt
-part-is (R.TypedObject p n) = tt
-part-is (R.Key p n) = refl
-part-is (R.Packet h m) = tt
-part-is (R.Header p n f) = tt
-part-is (R.Message p n q m) = tt
-part-is (R.Lso stored p n) = (stored, refl)
-
-nothing : (x : List ℕ) → length x ≡ 0 → x ≡ []
-nothing [] e = refl
-nothing (b ∷ x) e = absurd (omega arith)
 
 module _ (s image : List ℕ) (bs : Bytes image) where
   -- from the place `at` of the image to its end, which is n, stand the records of elements
@@ -107,23 +74,20 @@ module _ (s image : List ℕ) (bs : Bytes image) where
         all = y .all;
       }
 
-  element-sound : (at m : ℕ) {A : Type 0} → Ends (element image s at) m
+  pub element-sound : (at m : ℕ) {A : Type 0} → Ends (element image s at) m
       → ((p n q : ℕ) → Took s image bs at (R.Key p n) q → Stands s p n → Stood s image bs keyed Sort.value limit.levels q m → A) → A
   unfolding element
-  element-sound at m {A} e go = took s image bs at m _ e λ r q t e. by r q t (partOf r) (part-is r) e
+  element-sound at m {A} e go = by (see-key s image bs at (λ q. value limit.levels image s q >>= zeroed)) e
     where
       zeroed : ℕ → Out
       zeroed x = row s (rowOf (1 bytes 0) none none 0 0) at (end x)
 
-      by : (r : Record) (q : ℕ) → Took s image bs at r q → (t : Part) → Is r t
-          → Ends (writing.keyed at t λ p n. row s (rowOf none (2 bytes n) none p n) at (value limit.levels image s q >>= zeroed)) m → A
-      by r q t (P.File p n) i e = absurd e
-      by r q t (P.Key p n) i e =
-          let o = row-ends s image bs (rowOf none (2 bytes n) none p n) at m (value limit.levels image s q >>= zeroed) e in
-          bind-ends (value limit.levels image s q) zeroed m (o .1) λ x f g.
+      by : {d : Out} → SeenKey s image bs at (λ q. value limit.levels image s q >>= zeroed) d → Ends d m → A
+      by (SeenKey.seen {p} {n} {q} t h) e =
+          bind-ends (value limit.levels image s q) zeroed m e λ x f g.
           let z = row-ends s image bs (rowOf (1 bytes 0) none none 0 0) at m (end x) g .1 in
-          go p n q (rw i at t) (named-stands s none 0 p n (o .0)) (rw z (sound s image bs limit.levels q x f))
-      by r q t P.Other i e = absurd e
+          go p n q t h (rw z (sound s image bs limit.levels q x f))
+      by (SeenKey.unseen x) e = absurd e
 
   body-sound : (fuel at n : ℕ) → length image ≤ fuel + at → Ends (body image s fuel at) n → StoodBody at n
   unfolding body
@@ -160,14 +124,9 @@ module _ (s image : List ℕ) (bs : Bytes image) where
   -- an image of a file and no bytes past it
   pub image-of : (e : ℕ) → Ends (file lengthOf image s) e → (f : Lso) × Images s f image × (deepest (f .body) ≤ limit.levels)
   unfolding file
-  image-of e h = took s image bs 0 e _ h λ r q t h. by r q t (partOf r) (part-is r) h
+  image-of e h = by (see-file s image bs (λ n q. lengthOf n (length (putOut (body image s (length image) q)))) (body image s (length image))) h
     where
-      by : (r : Record) (q : ℕ) → Took s image bs 0 r q → (t : Part) → Is r t → let d = body image s (length image) q in
-          Ends (filed 0 t λ p n. header (lengthOf n (length (putOut d))) s p n d) e → (f : Lso) × Images s f image × (deepest (f .body) ≤ limit.levels)
-      by r q t (P.File p n) i h =
-          let a = row-ends s image bs _ 0 e _ h in
-          let b = row-ends s image bs _ 0 e _ (a .1) in
-          let c = row-ends s image bs _ 0 e _ (b .1) in
-          file-of (rw (i .1) at t) (named-stands s none 0 p n (b .0)) (body-sound (length image) q e (omega arith) (c .1))
-      by r q t (P.Key p n) i h = absurd h
-      by r q t P.Other i h = absurd h
+      by : {d : Out} → SeenFile s image bs (body image s (length image)) d → Ends d e → (f : Lso) × Images s f image × (deepest (f .body) ≤ limit.levels)
+      by (SeenFile.seen {q} t h) f = file-of t h (body-sound (length image) q e (omega arith) f)
+      by (SeenFile.unseen x) f = absurd f
+      by (SeenFile.unnamed x) f = absurd f

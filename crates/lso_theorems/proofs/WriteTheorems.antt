@@ -1,39 +1,36 @@
 -- The theorems on the writer of files, over what its public call comes to.
-use Prim.Native.Nat.{ℕ, _-_, _*_, _≤_}
+use Prim.Native.Nat.{ℕ, _-_, _*_, _≤_, _<_}
 use mathlib.Core.Path.{_≡_, refl, sym, ap, _∙_}
-use mathlib.Core.Logic.{_≢_, _↔_, _⊎_, inl, inr}
+use mathlib.Core.Logic.{_↔_, _⊎_, inl, inr, ⊎-elim}
 use mathlib.Core.List.{List, map}
 use native.Mathlib.Omega.{arith}
-use lib.ListN.{length, take, drop, length-append, length-drop}
-use lib.Seq.{length-take-le, drop-append-seam}
+use lib.ListN.{length, take}
+use lib.Seq.{length-take-le}
 use Rattle.wire.specs.Number.{Bytes}
 use Rattle.wire.specs.Limit as limit
-use Rattle.image.specs.declared.writing.Writing.{Writing}
-use Rattle.image.specs.Out.{Written, written, unwritten, sized, onto}
+use Rattle.image.specs.Out.{Written, written, unwritten, sized}
 use Rattle.image.specs.Whole.{Whole}
 use Rattle.amf0.specs.Written.{unplaced}
+use Rattle.amf0_theorems.specs.Unwritten.{Stops, OutcomeOf}
 use Rattle.amf0_theorems.proofs.WriteOutcome.{sized-written, written-sized}
-use Rattle.lso.specs.File.{Lso, File}
+use Rattle.amf0_theorems.proofs.WriteRefusal.{ends-or-stops}
+use Rattle.amf0_theorems.proofs.WriteReasons.{call-refusals, stops-once}
+use Rattle.lso.specs.File.{Lso, File, deepest}
+use Rattle.amf0_theorems.proofs.Settled.{Settled}
+use Rattle.amf0_theorems.proofs.Settled.Settled.{refused, put-out}
 use Rattle.lso.specs.Reading.{incompleteOf, wholeOf}
-use Rattle.lso.specs.Writing.{writeOf}
-use Rattle.lso.specs.Written.{writeBody, write, saying, SaysLength, Images, Writable, Outcome, rewriteOf}
+use Rattle.lso.specs.Writing.{file, lengthOf, writeOf}
+use Rattle.lso.specs.Written.{writeBody, write, saying, SaysLength, Images, Writable, rewriteOf}
+use Rattle.lso_theorems.specs.Unwritten.{Refused, Outcome}
 use Rattle.lso_theorems.proofs.Puts.{file-written}
 use Rattle.lso_theorems.proofs.Shortest.{write-length, write-file, file-least}
 use Rattle.lso_theorems.proofs.WriteOutcome.{ReadImage, whole-image, WasRead, read-incomplete, read-whole}
-use Rattle.lso_theorems.proofs.WriteReasons.{answered, outcome}
+use Rattle.lso_theorems.proofs.WriteReasons as because
+use Rattle.lso_theorems.proofs.WriteReasons.{file-refuses, answered, reasons}
+use Rattle.lso_theorems.proofs.WriteSound.{image-of}
+use Rattle.lso_theorems.proofs.WriteRefusal.{refused-by}
+use Rattle.lso_theorems.proofs.WriteRefusing.{refuses-by}
 use Rattle.lso_theorems.proofs.Theorems.{complete-whole}
-
--- ---- one outcome
-
--- an outcome of the public call that its contract permits: what it returns, and the output that it leaves
-pub record PermitsWrite (image text out : List ℕ) (r : Writing) (left : List ℕ) : Type 0 where
-  pub returns : r ≡ writeOf image text (length out) .writing
-  pub leaves : left ≡ onto (writeOf image text (length out) .bytes) out
-
--- Any two outcomes that the contract permits for an image, a text and an output are the same.
-pub determined-write : (image text out : List ℕ) (r q : Writing) (i j : List ℕ) → PermitsWrite image text out r i → PermitsWrite image text out q j
-    → (r ≡ q) × (i ≡ j)
-determined-write image text out r q i j a b = (a .returns ∙ sym (b .returns), a .leaves ∙ sym (b .leaves))
 
 -- ---- the writing and the file
 
@@ -173,27 +170,55 @@ write-answers image text room =
     answered image text room (λ w. let a = w .writing .answer in (a ≡ 0) ⊎ ((a ≡ 1) ⊎ ((a ≡ 4) ⊎ ((a ≡ 5) ⊎ (a ≡ 6)))))
     (inr (inl refl)) (inr (inr (inl refl))) (inr (inr (inr (inl refl)))) (inr (inr (inr (inr refl)))) (λ b h. inl refl)
 
--- A call is refused for a size, because the image is that of no file or of one too deep, or for the room; else it puts out what the file is written as.
+-- The writing is refused with an answer at a place exactly where the records before it begin a file, and what stands there is not what is due and gives
+-- that answer.
+pub refusal : (image text : List ℕ) (a p : ℕ) → Bytes image → Stops (file lengthOf image text) a p ↔ Refused image text a p
+refusal image text a p bs = (refused-by text image bs lengthOf a p, refuses-by text image bs lengthOf a p)
+
+-- An image is refused with one answer, at one place.
+pub one-refusal : (image text : List ℕ) (a b p q : ℕ) → Bytes image → Refused image text a p → Refused image text b q → (a ≡ b) × (p ≡ q)
+one-refusal image text a b p q bs x y =
+    stops-once (file lengthOf image text) a b p q (refuses-by text image bs lengthOf a p x) (refuses-by text image bs lengthOf b q y)
+
+-- The image of a file is refused with 5 only, and only where a value of it is too deep.
+pub refused-image : (image text : List ℕ) (a p : ℕ) (f : Lso) → Bytes image → Refused image text a p → Images text f image
+    → (a ≡ 5) × (limit.levels < deepest (f .body))
+refused-image = because.refused-image
+
+-- An image is that of a file whose values are not too deep, or it is refused at a place.
+pub file-or-refusal : (image text : List ℕ) → Bytes image
+    → ((f : Lso) × Images text f image × (deepest (f .body) ≤ limit.levels)) ⊎ ((a : ℕ) × (p : ℕ) × Refused image text a p)
+file-or-refusal image text bs =
+    ⊎-elim (λ e. inl (image-of text image bs (e .0) (e .1))) (λ e. inr (e .0, e .1, refused-by text image bs lengthOf (e .0) (e .1) (e .2)))
+    (ends-or-stops (file lengthOf image text))
+
+-- A call is refused for a size, by what stands at a place of the image, or for the room; else it puts out what the file is written as.
 pub write-reasons : (image text : List ℕ) (room : ℕ) → Bytes image → Outcome image text room (writeOf image text room)
-write-reasons = outcome
+write-reasons = reasons
+
+-- Within the limits, a call is refused with 5, or with 6, exactly where the image is so refused by what stands at a place.
+pub write-refusals : (image text : List ℕ) (room a : ℕ) → Bytes image → length text ≤ limit.bytes → length image ≤ limit.image → (a ≡ 5) ⊎ (a ≡ 6)
+    → writeOf image text room ≡ unwritten a ↔ (p : ℕ) × Refused image text a p
+write-refusals image text room a bs h i o =
+    call-refusals image text (file lengthOf image text) room a (Refused image text a) (file-refuses text image lengthOf) h i o λ p. refusal image text a p bs
 
 -- A write is accepted exactly where the image is that of a file whose bytes are within the limit and the room.
 pub write-accepted : (image text : List ℕ) (room : ℕ) → Bytes image → writeOf image text room .writing .answer ≡ 0
     ↔ (f : Lso) × Writable image text f × (length (write f) ≤ limit.bytes) × (length (write f) ≤ room)
 write-accepted image text room bs = (
-  go (writeOf image text room) (outcome image text room bs),
+  go (writeOf image text room) (reasons image text room bs),
   λ x. ap (λ (w : Written). w .writing .answer) (file-written room (x .1) ∙ sized-written (write (x .0)) room (x .2) (x .3)),
 )
   where
     go : (w : Written) → Outcome image text room w → w .writing .answer ≡ 0
         → (f : Lso) × Writable image text f × (length (write f) ≤ limit.bytes) × (length (write f) ≤ room)
-    go w (Outcome.text-over h) e = absurd (omega arith)
-    go w (Outcome.image-over h) e = absurd (omega arith)
-    go w (Outcome.no-file h i f) e = absurd (omega arith)
-    go w (Outcome.too-deep h i f) e = absurd (omega arith)
-    go w (Outcome.output-over m h) e = absurd (omega arith)
-    go w (Outcome.no-room m h i) e = absurd (omega arith)
-    go w (Outcome.put-out {f} m h i) e = (f, m, h, i)
+    go w (OutcomeOf.text-over h) e = absurd (omega arith)
+    go w (OutcomeOf.image-over h) e = absurd (omega arith)
+    go w (OutcomeOf.wrong h i f) e = absurd (omega arith)
+    go w (OutcomeOf.too-deep h i f) e = absurd (omega arith)
+    go w (OutcomeOf.output-over m h) e = absurd (omega arith)
+    go w (OutcomeOf.no-room m h i) e = absurd (omega arith)
+    go w (OutcomeOf.put-out {x = f} m h i) e = (f, m, h, i)
 
 -- In whatever is written, the four bytes behind the first two are 16 plus the name's length plus the body's: as many bytes as stand behind them.
 pub written-length : (image text : List ℕ) (room : ℕ) → Bytes image → writeOf image text room .writing .answer ≡ 0
@@ -204,29 +229,7 @@ written-length image text room bs e =
     rw (file-written room (x .1) ∙ sized-written (write (x .0)) room (x .2) (x .3))
     (record { name = x .0 .name; body = writeBody (x .0 .body); same = refl; says = refl; behind = omega arith; small = omega (arith, x .2) })
 
--- A refused write counts 0 and leaves the output as it was.
-pub write-refused : (image text out : List ℕ) (r : Writing) (left : List ℕ) → PermitsWrite image text out r left → r .answer ≢ 0 → (r .count ≡ 0) × (left ≡ out)
-write-refused image text out r left p =
-    answered image text (length out) (λ w. r ≡ w .writing → left ≡ onto (w .bytes) out → r .answer ≢ 0 → (r .count ≡ 0) × (left ≡ out))
-    (none 1) (none 4) (none 5) (none 6) (λ b h e f ne. absurd (ne (ap (λ (q : Writing). q .answer) e))) (p .returns) (p .leaves)
-  where
-    none : (a : ℕ) → r ≡ unwritten a .writing → left ≡ out → r .answer ≢ 0 → (r .count ≡ 0) × (left ≡ out)
-    none a e f ne = (ap (λ (q : Writing). q .count) e, f)
-
--- An accepted write changes as many bytes as it counts, at the front of the output, and no other.
-pub write-kept : (image text out : List ℕ) (r : Writing) (left : List ℕ) → PermitsWrite image text out r left → r .answer ≡ 0
-    → (r .count ≤ length out) × (length left ≡ length out) × (drop (r .count) left ≡ drop (r .count) out)
-write-kept image text out r left p =
-    answered image text (length out) (λ w. r ≡ w .writing → left ≡ onto (w .bytes) out → r .answer ≡ 0 → Kept)
-    (none 1 λ e. omega arith) (none 4 λ e. omega arith) (none 5 λ e. omega arith) (none 6 λ e. omega arith)
-    (λ b h e f z. rw (e, f) (
-      h,
-      omega (arith, length-append b (drop (length b) out), length-drop (length b) out),
-      drop-append-seam b (drop (length b) out),
-    )) (p .returns) (p .leaves)
-  where
-    Kept : Type 0
-    Kept = (r .count ≤ length out) × (length left ≡ length out) × (drop (r .count) left ≡ drop (r .count) out)
-
-    none : (a : ℕ) → a ≢ 0 → r ≡ unwritten a .writing → left ≡ out → r .answer ≡ 0 → Kept
-    none a ne e f z = absurd (ne (sym (ap (λ (q : Writing). q .answer) e) ∙ z))
+-- A refused write counts 0 and has no byte of an output; an accepted one counts the bytes that it has of it, and they have room.
+pub write-settled : (image text : List ℕ) (room : ℕ) → Settled room (writeOf image text room)
+write-settled image text room =
+    answered image text room (Settled room) (refused 1 λ e. omega arith) (refused 4 λ e. omega arith) (refused 5 λ e. omega arith) (refused 6 λ e. omega arith) put-out
