@@ -22,6 +22,7 @@ use Rattle.amf0.specs.Reading.{value}
 use Rattle.amf0.proofs.Reasons.{kept, forward}
 use Rattle.amf0.proofs.Outcome.{ended-at}
 use Rattle.amf0_theorems.proofs.Theorems as amf0
+use Rattle.amf0_theorems.proofs.Sound.{bind-ends}
 use Rattle.packet.specs.declared.head.Entry.{Entry}
 use Rattle.packet.specs.declared.head.Head.{Head}
 use Rattle.packet.specs.declared.head.Head.the-variants as Head
@@ -45,11 +46,6 @@ pub ends-bind : (d : Due) (k : ℕ → Due) (n z : ℕ) → Ends d n → Ends (k
 ends-bind (end m) k n z e f = rw e at f
 ends-bind (stop a p) k n z e f = absurd e
 ends-bind (due r p d) k n z e f = ends-bind d k n z e f
-
-pub bind-ends : {P : Type 0} (d : Due) (k : ℕ → Due) (n : ℕ) → Ends (d >>= k) n → ((m : ℕ) → Ends d m → Ends (k m) n → P) → P
-bind-ends (end m) k n h go = go m refl h
-bind-ends (stop a p) k n h go = absurd h
-bind-ends (due r p d) k n h go = bind-ends d k n h go
 
 pub based-ends : (a : ℕ) (d : Due) (n : ℕ) → Ends (based a d) n → Ends d n
 based-ends a (end m) n e = e

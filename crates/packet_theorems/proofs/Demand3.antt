@@ -15,13 +15,15 @@ use Rattle.amf0.specs.Reading.{readOf}
 use Rattle.packet.specs.declared.head.Entry.{Entry}
 use Rattle.packet.specs.Reading.{wholeOf}
 use Rattle.packet.specs.Entry.{found, cutOf, noEntry, spanOf, readEntry}
-use Rattle.packet.specs.Change.{Changed, Judged, Keeps, Exact, Agrees}
+use Rattle.packet.specs.Change.{Changed, Judged, Keeps, Agrees}
+use Rattle.packet_theorems.specs.Cuts.{Exact}
 use Rattle.packet_theorems.proofs.Same.{Same, same-bytes}
 use Rattle.packet_theorems.proofs.Frame.{cut-read, lies-told, lies-apart, beside-at}
 use Rattle.packet_theorems.proofs.Judge.{judged}
 use Rattle.packet_theorems.proofs.Taken.{whole-taken}
 use Rattle.packet_theorems.proofs.Whole.{packet-told, packet-shallow}
 use Rattle.packet_theorems.proofs.Agree.{agree}
+use Rattle.packet_theorems.proofs.CutExactly.{exactly-declares}
 
 -- where two packets are as long, and the same from p on for m bytes
 same-row : (s t : List ℕ) (p m : ℕ) → length t ≡ length s → ((i : ℕ) → p ≤ i → i < p + m → getD t i 0 ≡ getD s i 0) → bytesAt m t p ≡ bytesAt m s p
@@ -82,8 +84,9 @@ neighbours s t es n j cut h change k room i other =
 pub agreement : (s : List ℕ) (room : ℕ) → Bytes s → Exact s → wholeOf s room .reading .answer ≡ 0 → Agrees s room
 agreement s room bs x e =
     let h : Here s 0 s [] = record { same = sym (append-nil s) } in
-    let deep = packet-shallow s [] (x .encoded) h bs (length s) (whole-taken s room e .ends) in
-    agree s room bs (packet-told s [] (x .encoded) h deep .exact (x .exact) refl) e
+    let d = exactly-declares s .0 x in
+    let deep = packet-shallow s [] (d .encoded) h bs (length s) (whole-taken s room e .ends) in
+    agree s room bs (packet-told s [] (d .encoded) h deep .exact (d .exact) refl) e
 
 -- Demand 3 as a whole.
 pub record Demand3 : Type 0 where

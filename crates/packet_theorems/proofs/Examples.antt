@@ -19,7 +19,8 @@ use Rattle.packet.specs.Head.{versionAt, entry, headerAt, messageAt}
 use Rattle.packet.specs.Packet as packet
 use Rattle.packet.specs.Reading.{entriesAt, packetAt, incompleteOf, wholeOf}
 use Rattle.packet.specs.Entry.{found, entryAt, walk, cutOf, readEntry}
-use Rattle.packet.specs.Change.{Changed, Exact, Agrees, Keeps}
+use Rattle.packet.specs.Change.{Changed, Agrees, Keeps}
+use Rattle.packet_theorems.specs.Cuts.{Slices, Cuts, Exact}
 use Rattle.packet_theorems.proofs.Demand3.{demand3}
 
 abbrev front : List ℕ
@@ -47,13 +48,13 @@ exact : Exact good
 unfolding ends
 exact =
     record {
-      packet = record { headers = []; messages = record { label = packet.Label.message (0x61 ∷ []) []; declared = 1; value = Tree.node Item.null Tree.nil } ∷ [] };
-      encoded =
-          packet.Encoded.packet {hs = []} {ms = record { label = packet.Label.message (0x61 ∷ []) []; declared = 1; value = Tree.node Item.null Tree.nil } ∷ []}
-          (omega arith) (omega arith) packet.Items.none
-          (packet.Items.more {d = 1} tt (packet.Head.message (short (0x61 ∷ []) (omega arith) refl) (short [] (omega arith) refl)) (omega arith)
-          (Encodes.node Row.null Encodes.nil) packet.Items.none);
-      exact = (tt, (refl, tt));
+      headers = [];
+      messages = record { label = packet.Label.message (0x61 ∷ []) []; value = 0x05 ∷ [] } ∷ [];
+      cuts =
+          Cuts.packet {hs = []} {ms = record { label = packet.Label.message (0x61 ∷ []) []; value = 0x05 ∷ [] } ∷ []} (omega arith) (omega arith) Slices.none
+          (Slices.more {y = 0x05 ∷ []} tt (packet.Head.message (short (0x61 ∷ []) (omega arith) refl) (short [] (omega arith) refl)) (omega arith) Slices.none);
+      header-values = tt;
+      message-values = ((Tree.node Item.null Tree.nil, Encodes.node Row.null Encodes.nil), tt);
     }
 
 -- so reading by entry agrees with it

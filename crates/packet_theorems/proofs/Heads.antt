@@ -1,22 +1,26 @@
 -- The head of an entry against the bytes that stand in the packet: what stands there is read, and what was read stood there.
-use Prim.Native.Nat.{ℕ, zero, suc, _+_, _^_, _<_}
-use mathlib.Core.Path.{_≡_, refl, ap, _∙_}
+use Prim.Native.Nat.{ℕ, zero, suc, _+_, _^_, _≤_, _<_}
+use mathlib.Core.Path.{_≡_, refl, sym, ap, ap₂, _∙_}
 use mathlib.Core.List.{List, [], _∷_, _++_, append-assoc}
 use mathlib.Core.Bool.{Bool, true, false}
 use native.Mathlib.Omega.{arith}
-use lib.ListN.{length, length-append, drop}
-use lib.Dec.{ltb, eqb}
+use lib.ListN.{length, length-append, take, drop}
+use lib.Seq.{take-length, take-append-seam}
+use lib.Dec.{ltb, eqb, lit<}
 use borrow.Author.Tests.{lt-ltb}
 use Rattle.wire.specs.Choice.{pick}
 use Rattle.wire.specs.Number.{digits, Bytes}
 use Rattle.wire.specs.Utf8.{utf8}
 use Rattle.wire.specs.Field.{to, textAt}
+use Rattle.wire.specs.Limit as limit
 use Rattle.wire.specs.declared.cursor.Text.the-variants as Text
 use Rattle.wire.specs.declared.cursor.Cursor.{Cursor}
-use Rattle.wire.proofs.Stands.{Here, cut, skip, join, inside, there, text-at, byte-at, u32-at, endText, end8, end32}
+use Rattle.wire.proofs.Stands.{Here, cut, skip, join, inside, there, bytes-here, text-at, byte-at, u32-at, endText, end8, end32}
 use Rattle.image.specs.Record.{bitOf as bit}
+use Rattle.image.specs.Taking.{Fits}
 use Rattle.amf0.specs.Standard.{UTF-8}
 use Rattle.amf0.specs.Standard.UTF-8.{short}
+use Rattle.amf0.specs.Shown as Shown
 use Rattle.packet.specs.declared.head.Entry.{Entry}
 use Rattle.packet.specs.declared.head.Head.{Head}
 use Rattle.packet.specs.declared.head.Head.the-variants as Head
@@ -24,8 +28,9 @@ use Rattle.packet.specs.Head.{bitOf, entry, headerAt, messageAt, headAt}
 use Rattle.packet.specs.Packet as packet
 use Rattle.packet.specs.Packet.{Label, IsHeader, IsMessage}
 use Rattle.packet.specs.Reading.{recordOf}
-use Rattle.packet.specs.Shown.{Says}
+use Rattle.packet.specs.Shown.{Names}
 use Rattle.packet.specs.Written.{Holds, Labelled}
+use Rattle.packet_theorems.specs.Cuts.{entryOf}
 use Rattle.packet_theorems.proofs.Same.{no-head}
 
 -- ---- what stands there is read
@@ -36,7 +41,9 @@ pub record Stands (kind : ℕ) (s : List ℕ) (at : ℕ) (l : Label) (x : List �
   pub read : headAt kind s at ≡ Head.Got entry (to (entry .place))
   pub place : entry .place ≡ at + length x + 4
   pub declared : entry .length ≡ d
-  pub says : Says s l (recordOf entry)
+  pub is : entry ≡ entryOf at l d
+  pub names : Names s l (recordOf entry)
+  pub fits : length s ≤ limit.bytes → Fits (recordOf entry)
   pub labelled : Labelled s l entry
 
 pub group : {s r : List ℕ} {at : ℕ} (x y z : List ℕ) → Here s at ((x ++ y) ++ z) r → Here s at (x ++ (y ++ z)) r
@@ -52,6 +59,15 @@ text-here {s} {at = at} t y h b u =
     let x : Holds s t (at + 2) (length t) =
     record { inside = omega arith; long = refl; same = there (length t) (skip (digits 2 (length t)) t c) refl } in
     (text-at 2 t c b u (omega arith), x, rw e at (skip (digits 2 (length t) ++ t) y h))
+
+-- a text that is held there, and UTF-8, stands there
+named : {s t : List ℕ} {p n : ℕ} → Holds s t p n → utf8 t ≡ true → Shown.Stands s p n
+named h u = record { inside = h .inside; right = rw (h .same) u }
+
+-- a flag is one byte
+bit-small : (flag : Bool) → bit flag < 256 ^ 1
+bit-small true = lit< tt
+bit-small false = lit< tt
 
 -- a flag, true if not 0, is written as 0 or 1
 flag-bit : (b : ℕ) → bitOf b ≡ bit (eqb (bitOf b) 1)
@@ -72,7 +88,9 @@ module _ {s r : List ℕ} {at : ℕ} where
         read = rw (x .0, byte-at b (cut (b ∷ []) (digits 4 d) (x .2)), u32-at d (skip (b ∷ []) (digits 4 d) (x .2)) m);
         place = simp length-append (omega arith);
         declared = refl;
-        says = Says.header (at + 2) (length t) (eqb (bitOf b) 1) (x .1 .same);
+        is = ap (λ f. entry 0x31 f (at + 2) (length t) 0 0 (at + 2 + length t + 1 + 4) d) (flag-bit b);
+        names = Names.header (eqb (bitOf b) 1) (named (x .1) u) (x .1 .same);
+        fits = λ i. record { a = omega (arith, x .1 .inside); b = l; c = bit-small (eqb (bitOf b) 1); d = lit< tt; zone = λ n z e. cc };
         labelled = record { kind = refl; bit = flag-bit b; first = x .1; no-place = refl; no-length = refl };
       }
 
@@ -89,7 +107,9 @@ module _ {s r : List ℕ} {at : ℕ} where
         read = rw (x .0, y .0, u32-at d (y .2) m);
         place = simp length-append (omega arith);
         declared = refl;
-        says = Says.message (at + 2) (length t) (at + 2 + length t + 2) (length o) (x .1 .same) (y .1 .same);
+        is = refl;
+        names = Names.message (named (x .1) u) (named (y .1) w) (x .1 .same) (y .1 .same);
+        fits = λ i. record { a = omega (arith, x .1 .inside); b = l; c = omega (arith, y .1 .inside); d = k; zone = λ n z e. cc };
         labelled = record { kind = refl; bit = refl; first = x .1; second = y .1 };
       }
 
@@ -106,13 +126,20 @@ pub record Stood (Kind : Label → Type 0) (s : List ℕ) (at : ℕ) : Type 0 wh
   pub small : declared < 256 ^ 4
   pub here : Here s at (row ++ digits 4 declared) rest
 
-flag-head : (t : List ℕ) (b : ℕ) → UTF-8 t (digits 2 (length t) ++ t) → packet.Head (Label.header t (eqb (bitOf b) 1)) ((digits 2 (length t) ++ t) ++ (b ∷ []))
-flag-head t zero u = packet.Head.header-false u
-flag-head t (suc b) u = rw (lt-ltb 0 (suc b) (omega arith)) (packet.Head.header-true b u)
+-- a header's name and flag, by the flag's byte
+flag-head : (t : List ℕ) (b : ℕ) → b < 256 → UTF-8 t (digits 2 (length t) ++ t)
+    → packet.Head (Label.header t (eqb (bitOf b) 1)) ((digits 2 (length t) ++ t) ++ (b ∷ []))
+flag-head t zero h u = packet.Head.header-false u
+flag-head t (suc zero) h u = packet.Head.header-true u
+flag-head t (suc (suc b)) h u = rw (lt-ltb 0 (suc (suc b)) (omega arith)) (packet.Head.header-above (suc (suc b)) (omega arith) h u)
 
 -- a row, and another where it ends
 pub ends-at : {s x r y z : List ℕ} {at next : ℕ} → Here s at x r → next ≡ at + length x → Here s next y z → Here s at (x ++ y) z
 ends-at h e g = join h refl (rw e at g)
+
+-- a row as long as all of s, at its front, is s
+pub all-here : {s x r : List ℕ} → Here s 0 x r → length x ≡ length s → x ≡ s
+all-here {s} {x} {r} h l = sym (take-append-seam x r) ∙ (ap₂ take l (sym (h .same)) ∙ take-length s)
 
 module _ (s : List ℕ) (bs : Bytes s) (at : ℕ) where
   header-stood : (e : Entry) (c : Cursor) → headerAt s at ≡ Head.Got e c → Stood IsHeader s at
@@ -129,7 +156,7 @@ module _ (s : List ℕ) (bs : Bytes s) (at : ℕ) where
         rest = drop (at + 2 + length t + 1 + 4) s;
         declared = d;
         kind = tt;
-        head = flag-head t b (short t l u);
+        head = flag-head t b (bytes-here g bs .0) (short t l u);
         small = k .bound;
         here = ends-at (ends-at h (omega arith) g) (simp length-append (omega arith)) (k .here);
       }
@@ -166,8 +193,8 @@ headers = record { stands = go; stood = header-stood }
     go : (s r : List ℕ) (at : ℕ) (l : Label) (x : List ℕ) (d : ℕ) → IsHeader l → packet.Head l x → d < 256 ^ 4 → Here s at (x ++ digits 4 d) r
         → Stands 0x31 s at l x d
     go s r at l x d k (packet.Head.header-false (short t b u)) m h = header-stands t 0 d h b u m
-    go s r at l x d k (packet.Head.header-true f (short t b u)) m h =
-        rw (lt-ltb 0 (suc f) (omega arith)) at (header-stands t (suc f) d h b u m)
+    go s r at l x d k (packet.Head.header-true (short t b u)) m h = header-stands t 1 d h b u m
+    go s r at l x d k (packet.Head.header-above f i j (short t b u)) m h = rw (lt-ltb 0 f (omega arith)) at (header-stands t f d h b u m)
     go s r at l x d k (packet.Head.message v w) m h = absurd k
 
 pub messages : Kinded 0x32 IsMessage
@@ -176,5 +203,6 @@ messages = record { stands = go; stood = message-stood }
     go : (s r : List ℕ) (at : ℕ) (l : Label) (x : List ℕ) (d : ℕ) → IsMessage l → packet.Head l x → d < 256 ^ 4 → Here s at (x ++ digits 4 d) r
         → Stands 0x32 s at l x d
     go s r at l x d k (packet.Head.header-false v) m h = absurd k
-    go s r at l x d k (packet.Head.header-true f v) m h = absurd k
+    go s r at l x d k (packet.Head.header-true v) m h = absurd k
+    go s r at l x d k (packet.Head.header-above f i j v) m h = absurd k
     go s r at l x d k (packet.Head.message (short t b u) (short o c v)) m h = message-stands t o d h b u c v m

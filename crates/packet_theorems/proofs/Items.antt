@@ -1,5 +1,5 @@
 -- Entries in a row against the standard's packet: what stands there is read and shown, what was read stood there, and it is no other.
-use Prim.Native.Nat.{ℕ, zero, suc, _+_, _^_, _<_}
+use Prim.Native.Nat.{ℕ, zero, suc, _+_, _^_, _≤_, _<_}
 use mathlib.Core.Path.{_≡_, refl, sym, ap, ap₂, _∙_}
 use mathlib.Core.List.{List, [], _∷_, _++_, append-assoc}
 use native.Mathlib.Omega.{arith}
@@ -15,20 +15,22 @@ use Rattle.image.specs.Due.{stop, Ends}
 use Rattle.image.specs.Whole.{bytes}
 use Rattle.amf0.specs.Reading.{value}
 use Rattle.amf0.specs.Standard.{Sort}
+use Rattle.amf0.specs.Shown.{Shows}
 use Rattle.amf0_theorems.proofs.Telling as telling
+use Rattle.amf0_theorems.proofs.Spelling.{shown}
 use Rattle.amf0_theorems.proofs.Sound as soundness
 use Rattle.amf0_theorems.proofs.Theorems as amf0
+use Rattle.amf0_theorems.proofs.Sound.{bind-ends}
 use Rattle.packet.specs.declared.head.Entry.{Entry}
 use Rattle.packet.specs.declared.head.Head.{Head}
 use Rattle.packet.specs.Head.{headAt}
 use Rattle.packet.specs.Packet.{Label, Item, Items}
 use Rattle.packet.specs.Packet as packet
-use Rattle.packet.specs.Shown.{Says, ShowsItems, Shallow}
+use Rattle.packet.specs.Shown.{Names, ShowsItems, Shallow}
 use Rattle.packet.specs.Reading.{recordOf, entriesAt}
-use Rattle.packet.specs.Change.{ExactItems}
 use Rattle.packet_theorems.proofs.Same.{onHead}
 use Rattle.packet_theorems.proofs.Heads.{Stands, Stood, Kinded, group, ends-at}
-use Rattle.packet_theorems.proofs.Agree.{bytes-bind, ends-bind, bind-ends, Exactly}
+use Rattle.packet_theorems.proofs.Agree.{bytes-bind, ends-bind, Exactly}
 
 -- ---- what stands there
 
@@ -45,10 +47,15 @@ pub record Exacted (kind : ℕ) (s : List ℕ) (n at z : ℕ) : Type 0 where
   pub count : length entries ≡ n
   pub exactly : Exactly kind s entries at z
 
+-- every entry in a row declares the length of the bytes that encode its value
+abbrev pub ExactItems : {Kind : Label → Type 0} {is : List Item} {x : List ℕ} → Items Kind is x → Type 0
+ExactItems Items.none = Unit {0}
+ExactItems (Items.more {d} {y} k h b v i) = (d ≡ length y) × ExactItems i
+
 -- a row of entries that stands at a place is read, and its image shows it
 pub record Told (kind : ℕ) {Kind : Label → Type 0} {is : List Item} {x : List ℕ} (i : Items Kind is x) (s : List ℕ) (at z : ℕ) : Type 0 where
   pub ends : Ends (entriesAt kind s (length is) at) z
-  pub shows : ShowsItems s is (bytes (entriesAt kind s (length is) at))
+  pub shows : length s ≤ limit.bytes → ShowsItems s is (bytes (entriesAt kind s (length is) at))
   pub exact : ExactItems i → Exacted kind s (length is) at z
 
 module _ {kind : ℕ} {Kind : Label → Type 0} (k : Kinded kind Kind) where
@@ -67,23 +74,25 @@ module _ {kind : ℕ} {Kind : Label → Type 0} (k : Kinded kind Kind) where
   unfolding entriesAt bytes
   items-told Items.none s r at h deep =
       let e : at + 0 ≡ at = omega arith in
-      record { ends = e; shows = ShowsItems.none; exact = λ t. record { entries = []; count = refl; exactly = rw e Exactly.none } }
+      record { ends = e; shows = λ l. ShowsItems.none; exact = λ t. record { entries = []; count = refl; exactly = rw e Exactly.none } }
   items-told (Items.more {l} {d} {v} {is} {x} {y} {z} is-kind h b e i) s r at g deep =
       let f : First kind s at l x d y z r = first is-kind h b g in
       let p = f .head .entry .place in
-      go f (telling.reads limit.levels s (z ++ r) p e (f .value) (deep .0)) (items-told i s r (p + length y) (f .behind) (deep .1))
+      go f (telling.reads limit.levels s (z ++ r) p e (f .value) (deep .0)) (shown s (z ++ r) p e (f .value) (deep .0))
+      (items-told i s r (p + length y) (f .behind) (deep .1))
     where
       go : (f : First kind s at l x d y z r) → telling.Reads limit.levels s (f .head .entry .place) (f .head .entry .place + length y) v
+          → (length s ≤ limit.bytes → Shows s v (bytes (value limit.levels s (f .head .entry .place))))
           → Told kind i s (f .head .entry .place + length y) (f .head .entry .place + length y + length z)
           → Told kind (Items.more {l = l} {d = d} {v = v} {is = is} {x = x} {y = y} {z = z} is-kind h b e i) s at (at + length (x ++ (digits 4 d ++ (y ++ z))))
-      go f a t =
+      go f a w t =
           let p = f .head .entry .place in
           let u = value limit.levels s p in
           rw (f .long) (record {
             ends = rw (f .head .read) (ends-bind u (entriesAt kind s (length is)) (p + length y) (p + length y + length z) (a .ends) (t .ends));
-            shows =
+            shows = λ l.
                 rw (f .head .read, bytes-bind u (entriesAt kind s (length is)) (p + length y) (a .ends))
-                (ShowsItems.more (f .head .says) (record { records = telling.recordsOf u; tells = a .tells; lies = telling.bytes-laid u }) (t .shows));
+                (ShowsItems.more (f .head .fits l) (f .head .names) (w l) (t .shows l));
             exact = λ o.
                 let same : f .head .entry .length ≡ length y = f .head .declared ∙ o .0 in
                 let m = t .exact (o .1) in
@@ -153,17 +162,18 @@ module _ {kind : ℕ} {Kind : Label → Type 0} (k : Kinded kind Kind) (s : List
 -- ---- no other
 
 -- two rows that begin the same bytes, and are as long
-front : (x y r q : List ℕ) → x ++ r ≡ y ++ q → length x ≡ length y → (x ≡ y) × (r ≡ q)
+pub front : (x y r q : List ℕ) → x ++ r ≡ y ++ q → length x ≡ length y → (x ≡ y) × (r ≡ q)
 front x y r q e l = (
   sym (take-append-seam x r) ∙ (ap₂ take l e ∙ take-append-seam y q),
   sym (drop-append-seam x r) ∙ (ap₂ drop l e ∙ drop-append-seam y q),
 )
 
-says-one : {s : List ℕ} {l o : Label} {a b : Record} → Says s l a → Says s o b → a ≡ b → l ≡ o
-says-one (Says.header p n f x) (Says.header q m g y) e = cc
-says-one (Says.header p n f x) (Says.message q m o k y z) e = let z : _≡_ {A = ℕ} 0 1 = cc in absurd (omega arith)
-says-one (Says.message p n q m x y) (Says.header o k f z) e = let z : _≡_ {A = ℕ} 0 1 = cc in absurd (omega arith)
-says-one (Says.message p n q m x y) (Says.message o k u j v w) e = cc
+-- a record is that of one label
+pub names-one : {s : List ℕ} {l o : Label} {a b : Record} → Names s l a → Names s o b → a ≡ b → l ≡ o
+names-one (Names.header f h x) (Names.header g i y) e = cc
+names-one (Names.header f h x) (Names.message i j y z) e = let z : _≡_ {A = ℕ} 0 1 = cc in absurd (omega arith)
+names-one (Names.message h j x y) (Names.header f i z) e = let z : _≡_ {A = ℕ} 0 1 = cc in absurd (omega arith)
+names-one (Names.message h i x y) (Names.message j k z w) e = cc
 
 pub items-unique : {kind : ℕ} {Kind : Label → Type 0} {is js : List Item} {x y : List ℕ} → Kinded kind Kind → Items Kind is x → Items Kind js y → (r q : List ℕ)
     → length is ≡ length js → x ++ r ≡ y ++ q → (is ≡ js) × (x ≡ y)
@@ -178,7 +188,7 @@ items-unique {kind} k (Items.more {l = l} {d = d} {v = v} {is = is} {x = x} {y =
     let ee : m .head .entry ≡ o .head .entry = cc (sym (m .head .read) ∙ o .head .read) in
     let pp : m .head .entry .place ≡ o .head .entry .place = ap (λ (t : Entry). t .place) ee in
     let dd : d ≡ d′ = sym (m .head .declared) ∙ (ap (λ (t : Entry). t .length) ee ∙ o .head .declared) in
-    let ll : l ≡ l′ = says-one (m .head .says) (o .head .says) (ap recordOf ee) in
+    let ll : l ≡ l′ = names-one (m .head .names) (o .head .names) (ap recordOf ee) in
     let hh : y ++ (z ++ r) ≡ y′ ++ (z′ ++ q) = sym (m .value .same) ∙ (ap (λ p. drop p s) pp ∙ o .value .same) in
     let vv = amf0.unique v v′ y y′ (z ++ r) (z′ ++ q) f f′ hh in
     let zz = front y y′ (z ++ r) (z′ ++ q) hh (ap length (vv .1)) .1 in

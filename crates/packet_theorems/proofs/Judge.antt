@@ -1,6 +1,6 @@
 -- What an entry answers against what the value reader answers on its value's bytes alone.
 use Prim.Native.Nat.{ℕ, _≤_}
-use mathlib.Core.Path.{_≡_, refl, sym, ap}
+use mathlib.Core.Path.{_≡_, refl}
 use mathlib.Core.List.{List, map}
 use native.Mathlib.Omega.{arith}
 use lib.ListN.{length, length-append}
@@ -9,15 +9,15 @@ use borrow.Author.Tests.{le-leb, lt-leb}
 use Rattle.wire.specs.Choice.{pick}
 use Rattle.wire.specs.Limit as limit
 use Rattle.image.specs.Record.{moved}
-use Rattle.image.specs.Due.{Due, end, stop, due, based, Stops}
+use Rattle.image.specs.Due.{Due, end, stop, due, based}
 use Rattle.image.specs.Whole.{Whole, bytes, accepted, refused, ended, settled}
 use Rattle.image.proofs.Laws.{size-bytes, size-moved}
 use Rattle.amf0.specs.Reading.{value, readOf}
 use Rattle.amf0.specs.Shown.{laid}
-use Rattle.amf0.specs.Why.{Comes}
-use Rattle.amf0.proofs.Reasons.{kept, forward}
-use Rattle.amf0.proofs.Outcome.{ended-at, comes, Named, named}
+use Rattle.amf0.proofs.Reasons.{Named, kept, forward}
+use Rattle.amf0.proofs.Outcome.{ended-at, Comes, comes}
 use Rattle.amf0_theorems.proofs.Telling.{recordsOf, bytes-laid}
+use Rattle.amf0_theorems.proofs.Refused.{ended-stop}
 use Rattle.packet.specs.Entry.{judge}
 use Rattle.packet.specs.Change.{Judged}
 
@@ -45,12 +45,6 @@ pub settled-based : (a : ℕ) (d : Due) (room : ℕ)
     → settled (based a d) room ≡ pick (leb (length (bytes d)) room) (ended d (bytes (based a d))) (refused 4)
 unfolding settled
 settled-based a d room = rw (length-based a d, ended-based a d)
-
-ended-stop : (d : Due) (b : List ℕ) (a p : ℕ) → Stops d a p → ended d b ≡ refused a
-unfolding ended
-ended-stop (end n) b a p h = absurd h
-ended-stop (stop w q) b a p h = ap refused (sym (h .0))
-ended-stop (due r q d) b a p h = ended-stop d b a p h
 
 -- ---- the judgement
 
@@ -100,9 +94,9 @@ judged a x n room l h = rw (settled-based a (value limit.levels x 0) room) (go (
         → Judged a x w (judge n (pick (leb (length (bytes (value limit.levels x 0))) room) (ended (value limit.levels x 0) (bytes (based a (value limit.levels x 0)))) (refused 4)))
     go w (Comes.over-limit i) = absurd (omega arith)
     go w (Comes.no-room i j) = rw (lt-leb (length (bytes (value limit.levels x 0))) room j) (no-room-judged a x)
-    go w (Comes.not-read {a = b} {p = p} i j t y) =
+    go w (Comes.not-read {a = b} p i j t y) =
         rw (le-leb (length (bytes (value limit.levels x 0))) room j, ended-stop (value limit.levels x 0) (bytes (based a (value limit.levels x 0))) b p t)
-        (refused-judged a x n b (named y))
+        (refused-judged a x n b y)
     go w (Comes.read {n = u} i j f) =
         rw (le-leb (length (bytes (value limit.levels x 0))) room j, ended-at (value limit.levels x 0) (bytes (based a (value limit.levels x 0))) u f)
         (read-judged a x (value limit.levels x 0) n u l (forward x 0 u (value limit.levels x 0) (kept limit.levels x 0 (omega arith)) f .1))

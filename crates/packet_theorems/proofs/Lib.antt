@@ -1,5 +1,6 @@
 -- `Demand3` is the customer's third demand. `Theorems` and `CutTheorems` have what is proved of the calls one by one, `PacketTheorems` of packets as the Rust
--- has them, and `WriteTheorems` of the writer and of the round trip. The files below each are what it is proved by.
+-- has them, `CutExactly` of what is cut, `Refusals` which field refuses a packet, `Reasons` and `Beginnings` what that says of the calls, `WriteTheorems` what is
+-- proved of the writer and of the round trip, `EntryTrip` of the trip of an entry, and `Room` of the room. The files below each are what it is proved by.
 pub mod Demand3
 pub mod Same
 pub mod Frame
@@ -9,17 +10,30 @@ pub mod Agree
 pub mod Examples
 pub mod Theorems
 pub mod CutTheorems
+pub mod SpanTheorems
 pub mod Outcome
 pub mod Taken
 pub mod PacketTheorems
 pub mod Items
 pub mod Whole
+pub mod Refusals
+pub mod Ways
+pub mod Labels
+pub mod Parts
+pub mod Reasons
+pub mod Beginnings
 pub mod WriteTheorems
 pub mod Puts
 pub mod Shortest
 pub mod WriteOutcome
+pub mod Seen
 pub mod WriteSound
+pub mod WriteRefusal
+pub mod WriteRefusing
 pub mod WriteReasons
 pub mod Unique
-pub mod WriteBytes
+pub mod PacketBytes
 pub mod Cutting
+pub mod CutExactly
+pub mod Room
+pub mod EntryTrip

@@ -17,6 +17,7 @@ use Rattle.amf0.specs.Reading.{value}
 use Rattle.amf0.specs.Standard.{Sort, Tree, depth, Encodes}
 use Rattle.amf0.specs.Shown.{Shows}
 use Rattle.amf0_theorems.proofs.Telling as telling
+use Rattle.amf0_theorems.proofs.Spelling.{shown}
 use Rattle.amf0.proofs.Outcome as outcome
 use Rattle.amf0_theorems.proofs.Sound as soundness
 use Rattle.amf0.proofs.Outcome.{ended-at}
@@ -26,11 +27,11 @@ use Rattle.packet.specs.Shown.{ShowsPacket, Within}
 use Rattle.packet.specs.Reading.{packetAt, incompleteOf, wholeOf}
 use Rattle.packet.specs.declared.entry.Found.the-variants as Found
 use Rattle.packet.specs.Entry.{found, cutOf, noEntry, spanOf, readEntry, foundIn}
-use Rattle.packet.specs.Why.{ComesEntry}
 use Rattle.packet_theorems.proofs.Agree.{alone, good-entry, based-ends}
 use Rattle.packet_theorems.proofs.Frame.{cut-read, lies-told}
+use Rattle.packet_theorems.proofs.Heads.{all-here}
 use Rattle.packet_theorems.proofs.Judge.{length-based}
-use Rattle.packet_theorems.proofs.Outcome.{comes-entry}
+use Rattle.packet_theorems.proofs.Outcome.{ComesEntry, comes-entry}
 use Rattle.packet_theorems.proofs.Taken.{thrice, roomy, Taken, taken, whole-taken}
 use Rattle.packet_theorems.proofs.Whole.{packet-told, FoundPacket, packet-found, packet-unique}
 
@@ -55,7 +56,7 @@ means s room n w bs t = rw (t .result) (go (packet-found s n bs (t .ends)))
           packet = f .packet;
           encoded = rw same (f .encoded);
           within = f .within;
-          shows = packet-told s (f .rest) (f .encoded) (f .here) (f .within) .shows;
+          shows = packet-told s (f .rest) (f .encoded) (f .here) (f .within) .shows (t .small);
           made = refl;
           used = t .within;
         }
@@ -83,7 +84,7 @@ complete-incomplete p x r room e l h i =
     let t = packet-told (x ++ r) r e (record { same = refl }) l in
     let d : Due = packetAt (x ++ r) in
     rw (roomy (x ++ r) room h (omega (arith, thrice (x ++ r))), ended-at d (bytes d) (length x) (t .ends))
-    (record { answer = refl; used = refl; shows = t .shows })
+    (record { answer = refl; used = refl; shows = t .shows h })
 
 -- And by the whole reading, where nothing follows it.
 pub complete : (p : Packet) (s : List ℕ) (room : ℕ) → Encoded p s → Within limit.levels p → length s ≤ limit.bytes
@@ -93,7 +94,7 @@ complete p s room e l h i =
     let t = packet-told s [] e (record { same = sym (append-nil s) }) l in
     let d : Due = packetAt s in
     rw (roomy s room h (omega (arith, thrice s)), ended-at d (bytes d) (length s) (t .ends), le-leb (length s) (length s) (le-refl (length s)))
-    (record { answer = refl; used = refl; shows = t .shows })
+    (record { answer = refl; used = refl; shows = t .shows h })
 
 -- Within the limit, and where the room is three times the input, the whole reading accepts exactly the standard's packets.
 pub exactly : (s : List ℕ) (room : ℕ) → Bytes s → length s ≤ limit.bytes → 3 * length s ≤ room
@@ -117,6 +118,18 @@ pub record Gives (s : List ℕ) (t : Tree Sort.value) (n : ℕ) (w : Whole) : Ty
   pub used : w .reading .used ≡ n
   pub shows : Shows s t (w .bytes)
 
+-- the tree that all of x encodes
+pub record AllValue (x : List ℕ) : Type 0 where
+  pub tree : Tree Sort.value
+  pub encodes : Encodes Sort.value tree x
+  pub deep : depth tree ≤ limit.levels
+
+-- a value whose reading ends with x
+pub all-value : (x : List ℕ) → Bytes x → Ends (value limit.levels x 0) (length x) → AllValue x
+all-value x bs ends =
+    let r = soundness.sound limit.levels x 0 (length x) bs ends in
+    record { tree = r .tree; encodes = rw (all-here (r .here) (omega (arith, r .next))) at (r .encodes); deep = r .deep }
+
 -- an entry's span has the bytes that it declares
 length-span : (s : List ℕ) (es : List Entry) (n k : ℕ) → cutOf s ≡ found es n → k < length es → length (spanOf s (getD es k noEntry)) ≡ getD es k noEntry .length
 length-span s es n k cut h =
@@ -135,11 +148,14 @@ module _ (s : List ℕ) (bs : Bytes s) (es : List Entry) (n : ℕ) (cut : cutOf 
       let r = lies-told 4 n es k (cut-read s es n cut .lies) h in
       let all = cut-read s es n cut .all in
       let within : e .place + e .length ≤ length s = omega arith in
-      let u = value limit.levels s (e .place) in
       let b = telling.reads limit.levels s (drop (e .place + e .length) s) (e .place) x (stood (e .length) s (e .place)) deep in
       let a = alone s (e .place) (e .length) bs within (rw (length-bytes (e .length) s (e .place) within) at (b .ends)) in
       rw (good-entry s room es n cut k e h refl (record { ends = a .ends; fits = rw length-based i }))
-      (record { answer = refl; used = refl; shows = rw (← a .same) (record { records = telling.recordsOf u; tells = b .tells; lies = telling.bytes-laid u }) })
+      (record {
+        answer = refl;
+        used = refl;
+        shows = rw (← a .same) (shown s (drop (e .place + e .length) s) (e .place) x (stood (e .length) s (e .place)) deep (cut-read s es n cut .small));
+      })
 
   -- Where the bytes of an entry's value encode a tree of the standard's, at most as deep as the limit, the entry is accepted in a room of three times those
   -- bytes: all of them are used, and the image tells that tree.
@@ -172,8 +188,5 @@ module _ (s : List ℕ) (bs : Bytes s) (es : List Entry) (n : ℕ) (cut : cutOf 
           let v = value limit.levels x 0 in
           let long : length x ≡ e .length = length-span s es n k cut h in
           let ends : Ends v (length x) = rw long (based-ends (e .place) v (e .length) (rw same at t)) in
-          let r = soundness.sound limit.levels x 0 (length x) (bytes-here (stood (e .length) s (e .place)) bs) ends in
-          let far : length (r .row) ≡ length x = omega (arith, r .next) in
-          let all : r .row ≡ x = sym (take-append-seam (r .row) (r .rest)) ∙ (ap₂ take far (sym (r .here .same)) ∙ take-length x) in
-          let y : Encodes Sort.value (r .tree) x = rw all at (r .encodes) in
-          (r .tree, y, r .deep, entry-gives (r .tree) room y (r .deep) (rw length-based at (rw same at i)))
+          let r = all-value x (bytes-here (stood (e .length) s (e .place)) bs) ends in
+          (r .tree, r .encodes, r .deep, entry-gives (r .tree) room (r .encodes) (r .deep) (rw length-based at (rw same at i)))

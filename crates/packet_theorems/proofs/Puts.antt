@@ -19,16 +19,15 @@ use Rattle.image.specs.Record.{_bytes_, none, fieldBytes, size}
 use Rattle.image.specs.Taking.{Fits}
 use Rattle.image.specs.Out.{Out, end, row, bytes as putOut, namedOf, sized}
 use Rattle.amf0.specs.Standard.{depth}
-use Rattle.amf0.specs.Shown.{laid}
+use Rattle.amf0.specs.Shown.{laid, Stands, Named, Right}
 use Rattle.amf0.specs.Written as amf0
-use Rattle.amf0.specs.Written.{Stands}
 use Rattle.amf0.specs.Writing.{value, whole}
-use Rattle.amf0_theorems.proofs.Puts.{Puts, then, first, others, puts, laid-append, laid-length, laid-size}
+use Rattle.amf0_theorems.proofs.Puts.{Puts, then, first, others, puts, laid-append, laid-length, laid-size, right-both}
 use Rattle.amf0_theorems.proofs.WriteOutcome.{puts-bytes, puts-settled, puts-whole}
 use Rattle.packet.specs.Packet.{Label, Item, Packet, IsHeader, IsMessage}
-use Rattle.packet.specs.Shown.{Shallow, Within}
+use Rattle.packet.specs.Shown.{Names, counts, Shallow, Within}
 use Rattle.packet.specs.Writing.{rowOf, label, declared, entry, entries, packet, writeOf}
-use Rattle.packet.specs.Written.{writeLabel, writeItems, write, Names, Spells, counts, Images, Writable}
+use Rattle.packet.specs.Written.{writeLabel, writeItems, write, Spells, Images, Writable}
 
 -- the kind of an entry with a label
 abbrev pub kindOf : Label → ℕ
@@ -43,6 +42,16 @@ pub message-kind : (l : Label) → IsMessage l → kindOf l ≡ 0x32
 message-kind (Label.header name flag) k = absurd k
 message-kind (Label.message target response) k = refl
 
+-- the record of an entry is right
+pub names-named : {s : List ℕ} {l : Label} {r : Record} → Names s l r → Named s r
+names-named (Names.header b h e) = tt
+names-named (Names.message h i e o) = tt
+
+-- and so are those of entries in a row
+pub spells-right : {s : List ℕ} {Kind : Label → Type 0} {is : List Item} {rs : List Record} → Spells s Kind is rs → Right s rs
+spells-right Spells.none = tt
+spells-right {s} (Spells.more {rs} {qs} k f n g c y) = (f, names-named n, right-both s rs qs g (spells-right y))
+
 -- the writing puts out some bytes and ends at n, or, where D holds, is refused with 5; if all is fine the bytes are x
 pub record Put (D : Type 0) (d : Out) (Fine : Type 0) (x : List ℕ) (n : ℕ) : Type 0 where
   pub out : List ℕ
@@ -50,14 +59,14 @@ pub record Put (D : Type 0) (d : Out) (Fine : Type 0) (x : List ℕ) (n : ℕ) :
   pub same : Fine → out ≡ x
 
 module _ (s : List ℕ) where
-  empty : Stands s 0 0
+  pub empty : Stands s 0 0
   unfolding ends
   empty = record { inside = omega arith; right = refl }
 
-  named : {p n : ℕ} (m a : Field) → Stands s p n → namedOf s (rowOf m a p n) ≡ true
+  pub named : {p n : ℕ} (m a : Field) → Stands s p n → namedOf s (rowOf m a p n) ≡ true
   named {p} {n} m a h = rw (le-leb (p + n) (length s) (h .inside)) (h .right)
 
-  row-puts : {D : Type 0} {p n e : ℕ} {x : List ℕ} {d : Out} (at : ℕ) (m a : Field) → Stands s p n → Puts D d x e
+  pub row-puts : {D : Type 0} {p n e : ℕ} {x : List ℕ} {d : Out} (at : ℕ) (m a : Field) → Stands s p n → Puts D d x e
       → Puts D (row s (rowOf m a p n) at d) ((fieldBytes m ++ (fieldBytes a ++ bytesAt n s p)) ++ x) e
   unfolding row
   row-puts {p} {n} at m a h q = rw (named m a h, le-leb (p + n) (length s) (h .inside)) (Puts.more q)
@@ -65,7 +74,7 @@ module _ (s : List ℕ) where
   module _ (image : List ℕ) where
     -- ---- entries
 
-    label-puts : {D : Type 0} {l : Label} {r : Record} (qs : List Record) (z : List ℕ) (at : ℕ) → Fits r → Names s l r → Here image at (laid (r ∷ qs)) z
+    pub label-puts : {D : Type 0} {l : Label} {r : Record} (qs : List Record) (z : List ℕ) (at : ℕ) → Fits r → Names s l r → Here image at (laid (r ∷ qs)) z
         → Puts D (label (kindOf l) image s at) (writeLabel l) (at + size r)
     unfolding label
     label-puts qs z at f (Names.header {name} {p} {n} true h e) g =
@@ -82,7 +91,7 @@ module _ (s : List ℕ) where
         rw (first s image (R.Message p n q m) qs z g f, same, too, sym e, sym o)
         (row-puts at none (2 bytes n) h (rw (append-nil (digits 2 m ++ bytesAt m s q)) at y))
 
-    items-puts : {D : Type 0} {kind : ℕ} {Kind : Label → Type 0} {is : List Item} {rs : List Record} (exact : Bool) → ((l : Label) → Kind l → kindOf l ≡ kind)
+    pub items-puts : {D : Type 0} {kind : ℕ} {Kind : Label → Type 0} {is : List Item} {rs : List Record} (exact : Bool) → ((l : Label) → Kind l → kindOf l ≡ kind)
         → Spells s Kind is rs → (z : List ℕ) (at : ℕ) → Here image at (laid rs) z → ((Shallow limit.levels is → ⊥) → D)
         → Put D (entries kind exact image s (length is) at) (Shallow limit.levels is) (writeItems exact is) (at + length (laid rs))
     unfolding entries entry
@@ -112,28 +121,31 @@ module _ (s : List ℕ) where
 
     -- ---- the packet
 
-    pub packet-puts : {D : Type 0} {p : Packet} (exact : Bool) → Images s p image → ((Within limit.levels p → ⊥) → D)
-        → Put D (packet exact image s) (Within limit.levels p) (write exact p) (length image)
+    pub packet-here : {D : Type 0} {p : Packet} {hs ms : List Record} {z : List ℕ} (exact : Bool) (n : ℕ) → Fits (counts p) → Spells s IsHeader (p .headers) hs
+        → Spells s IsMessage (p .messages) ms → Here image 0 (laid (counts p ∷ (hs ++ ms))) z → n ≡ length (laid (counts p ∷ (hs ++ ms)))
+        → ((Within limit.levels p → ⊥) → D) → Put D (packet exact image s) (Within limit.levels p) (write exact p) n
     unfolding packet
-    packet-puts {D} {p} exact m d =
+    packet-here {D} {p} {hs} {ms} {z} exact n f x y h l d =
         let r : Record = counts p in
-        let hs : List Record = m .header-records in
-        let ms : List Record = m .message-records in
         let q : ℕ = 0 + size r in
         let e : ℕ = q + length (laid hs) in
-        let h : Here image 0 (laid (r ∷ (hs ++ ms))) [] = record { same = m .lies ∙ sym (append-nil _) } in
-        let j : Here image q (laid hs ++ laid ms) [] = rw (laid-append hs ms) at (others s image r (hs ++ ms) [] h) in
-        let ends : length image ≡ e + length (laid ms) = omega (arith, ap length (m .lies), laid-size r (hs ++ ms), laid-length hs ms) in
-        let a = items-puts exact header-kind (m .headers) (laid ms ++ []) q (cut (laid hs) (laid ms) j) (λ i. d λ w. i (w .0)) in
-        let b = items-puts exact message-kind (m .messages) [] e (skip (laid hs) (laid ms) j) (λ i. d λ w. i (w .1)) in
+        let j : Here image q (laid hs ++ laid ms) z = rw (laid-append hs ms) at (others s image r (hs ++ ms) z h) in
+        let ends : n ≡ e + length (laid ms) = omega (arith, laid-size r (hs ++ ms), laid-length hs ms) in
+        let a = items-puts exact header-kind x (laid ms ++ z) q (cut (laid hs) (laid ms) j) (λ i. d λ w. i (w .0)) in
+        let b = items-puts exact message-kind y z e (skip (laid hs) (laid ms) j) (λ i. d λ w. i (w .1)) in
         record {
           out = 0 ∷ 0 ∷ digits 2 (length (p .headers)) ++ (a .out ++ (digits 2 (length (p .messages)) ++ b .out));
           puts =
-              rw (first s image r (hs ++ ms) [] h (m .fits), ends)
+              rw (first s image r (hs ++ ms) z h f, ends)
               (row-puts 0 (2 bytes 0) (2 bytes length (p .headers)) empty
               (then _ (a .puts) (row-puts 0 none (2 bytes length (p .messages)) empty (b .puts))));
           same = λ w. rw (a .same (w .0), b .same (w .1));
         }
+
+    pub packet-puts : {D : Type 0} {p : Packet} (exact : Bool) → Images s p image → ((Within limit.levels p → ⊥) → D)
+        → Put D (packet exact image s) (Within limit.levels p) (write exact p) (length image)
+    packet-puts exact m d =
+        packet-here exact (length image) (m .fits) (m .headers) (m .messages) (record { same = m .lies ∙ sym (append-nil _) }) (ap length (m .lies)) d
 
     -- the call's writing, of an image of a packet
     pub image-puts : {D : Type 0} {p : Packet} (exact : Bool) → Images s p image → ((Within limit.levels p → ⊥) → D)

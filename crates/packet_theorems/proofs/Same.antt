@@ -37,11 +37,11 @@ module _ {A : Type 0} (P : A → Type 0) (stop : ℕ → ℕ → A) (halts : (a 
   on16 (U16.Got n c) k g = g n c refl
   on16 (U16.Stop a p) k g = halts a p
 
-  pub on32 : (x : U32) (k : ℕ → ℕ → A) → ((n : ℕ) (c : Cursor) → x ≡ U32.Got n c → P (k n (c .at))) → P (got32 stop x k)
+  on32 : (x : U32) (k : ℕ → ℕ → A) → ((n : ℕ) (c : Cursor) → x ≡ U32.Got n c → P (k n (c .at))) → P (got32 stop x k)
   on32 (U32.Got n c) k g = g n c refl
   on32 (U32.Stop a p) k g = halts a p
 
-  pub onText : (x : Text) (k : ℕ → ℕ → ℕ → A) → ((p n : ℕ) (c : Cursor) → x ≡ Text.Got p n c → P (k p n (c .at))) → P (gotText stop x k)
+  onText : (x : Text) (k : ℕ → ℕ → ℕ → A) → ((p n : ℕ) (c : Cursor) → x ≡ Text.Got p n c → P (k p n (c .at))) → P (gotText stop x k)
   onText (Text.Got p n c) k g = g p n c refl
   onText (Text.Stop a p) k g = halts a p
 

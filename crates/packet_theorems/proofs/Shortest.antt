@@ -1,5 +1,5 @@
 -- What a packet is written as is that packet, but for the lengths that it declares, and no row of bytes that is the packet is shorter.
-use Prim.Native.Nat.{ℕ, suc, _+_, _^_, _≤_, _<_}
+use Prim.Native.Nat.{ℕ, _+_, _^_, _≤_, _<_}
 use mathlib.Core.Path.{_≡_, refl, ap}
 use mathlib.Core.List.{List, [], _∷_, _++_, map}
 use mathlib.Core.Bool.{Bool, true, false}
@@ -8,34 +8,25 @@ use native.Mathlib.Omega.{arith}
 use lib.ListN.{length, length-append, length-map}
 use lib.Dec.{lit<}
 use Rattle.wire.specs.Number.{digits}
-use Rattle.wire.specs.Field.{bytesAt}
 use Rattle.wire.specs.Limit as limit
-use Rattle.wire.proofs.Stands.{length-bytes}
 use Rattle.image.specs.declared.record.Record.{Record}
 use Rattle.image.specs.Taking.{Fits}
-use Rattle.amf0.specs.Standard.{Sort, Tree, UTF-8}
+use Rattle.amf0.specs.Standard.{Sort, Tree}
 use Rattle.amf0.specs.Standard.UTF-8.{short as text}
 use Rattle.amf0.specs.Shown.{laid}
 use Rattle.amf0.specs.Written as amf0
-use Rattle.amf0.specs.Written.{Stands}
 use Rattle.amf0_theorems.proofs.Puts.{laid-length, laid-size}
+use Rattle.amf0_theorems.proofs.Says.{short-text}
 use Rattle.amf0_theorems.proofs.Shortest.{encoded, least}
 use Rattle.packet.specs.Packet as packet
 use Rattle.packet.specs.Packet.{Label, Item, Packet, Items, Encoded}
-use Rattle.packet.specs.Shown.{Shallow, Within}
-use Rattle.packet.specs.Change.{ExactItems, ExactPacket}
-use Rattle.packet.specs.Written.{short, writeLabel, lengthOf, writeItems, write, sayingItem, saying, Names, Spells, counts, Images}
+use Rattle.packet.specs.Shown.{Names, counts, Shallow, Within}
+use Rattle.packet.specs.Written.{writeLabel, lengthOf, writeItems, write, sayingItem, saying, Spells, Images}
 
 -- ---- the packet
 
--- a text that stands is a short one
-short-text : {s k : List ℕ} {p n : ℕ} → bytesAt n s p ≡ k → Stands s p n → n < 256 ^ 2 → UTF-8 k (short k)
-short-text {s} {k} {p} {n} e h b =
-    let same : length k ≡ n = rw e at (length-bytes n s p (h .inside)) in
-    text k (omega arith) (rw e at (h .right))
-
 pub head : {s : List ℕ} {l : Label} {r : Record} → Names s l r → Fits r → packet.Head l (writeLabel l)
-head (Names.header true h e) f = packet.Head.header-true 0 (short-text e h (f .b))
+head (Names.header true h e) f = packet.Head.header-true (short-text e h (f .b))
 head (Names.header false h e) f = packet.Head.header-false (short-text e h (f .b))
 head (Names.message h i e o) f = packet.Head.message (short-text e h (f .b)) (short-text o i (f .d))
 
@@ -55,35 +46,22 @@ module _ (exact : Bool) where
         length-append (amf0.write (i .value)) (writeItems exact is),
       )
 
-  -- entries in a row; where lengths are exact, each declares that of its value
-  record MadeItems (Kind : Label → Type 0) (is : List Item) (x : List ℕ) : Type 0 where
-    items : Items Kind is x
-    exactly : exact ≡ true → ExactItems items
-
+  -- entries in a row
   made-items : {s : List ℕ} {Kind : Label → Type 0} {is : List Item} {rs : List Record} → Spells s Kind is rs → length (laid rs) ≤ limit.image
-      → (exact ≡ true → length (writeItems exact is) ≤ limit.bytes) → MadeItems Kind (map (sayingItem exact) is) (writeItems exact is)
-  made-items Spells.none h w = record { items = Items.none; exactly = λ e. tt }
+      → (exact ≡ true → length (writeItems exact is) ≤ limit.bytes) → Items Kind (map (sayingItem exact) is) (writeItems exact is)
+  made-items Spells.none h w = Items.none
   made-items (Spells.more {l} {d} {v} {is} {r} {rs} {qs} t f n g c y) h w =
       let a = laid-length rs qs in
       let b = laid-size r (rs ++ qs) in
       let o = items-length (record { label = l; declared = d; value = v }) is in
-      let m = made-items y (omega arith) (λ e. omega (arith, w e)) in
-      record {
-        items = Items.more t (head n f) (declares exact v λ e. omega (arith, w e)) (encoded c g (omega arith)) (m .items);
-        exactly = λ e. (ap (λ x. lengthOf x v) e, m .exactly e);
-      }
+      Items.more t (head n f) (declares exact v λ e. omega (arith, w e)) (encoded c g (omega arith)) (made-items y (omega arith) (λ e. omega (arith, w e)))
 
   pub write-length : (p : Packet) → length (write exact p) ≡ 6 + length (writeItems exact (p .headers)) + length (writeItems exact (p .messages))
   write-length p = omega (arith, length-append (writeItems exact (p .headers)) (digits 2 (length (p .messages)) ++ writeItems exact (p .messages)))
 
-  -- the packet; where lengths are exact, each entry declares that of its value
-  pub record Made (p : Packet) (x : List ℕ) : Type 0 where
-    pub encoded : Encoded p x
-    pub exactly : exact ≡ true → ExactPacket encoded
-
   -- what is written is the packet; exact lengths have to be within the limit
   pub write-encoded : {s image : List ℕ} {p : Packet} → Images s p image → length image ≤ limit.image
-      → (exact ≡ true → length (write exact p) ≤ limit.bytes) → Made (saying exact p) (write exact p)
+      → (exact ≡ true → length (write exact p) ≤ limit.bytes) → Encoded (saying exact p) (write exact p)
   write-encoded {p} m h w =
       let r : Record = counts p in
       let a = laid-size r (m .header-records ++ m .message-records) in
@@ -96,11 +74,7 @@ module _ (exact : Bool) where
       let ml : length ms ≡ length (p .messages) = length-map (p .messages) (sayingItem exact) in
       let hi = made-items (m .headers) (omega arith) (λ e. omega (arith, w e)) in
       let mi = made-items (m .messages) (omega arith) (λ e. omega (arith, w e)) in
-      rw (← hl, ← ml)
-      (record {
-        encoded = Encoded.packet {hs = hs} {ms = ms} (rw hl (m .fits .a)) (rw ml (m .fits .b)) (hi .items) (mi .items);
-        exactly = λ e. (hi .exactly e, mi .exactly e);
-      })
+      rw (← hl, ← ml) (Encoded.packet {hs = hs} {ms = ms} (rw hl (m .fits .a)) (rw ml (m .fits .b)) hi mi)
 
 -- ---- the same packet, but for the lengths
 
@@ -138,7 +112,8 @@ within-said n exact p h = (shallow-said exact n (p .headers) (h .0), shallow-sai
 
 label-least : {l : Label} {x : List ℕ} → packet.Head l x → length (writeLabel l) ≡ length x
 label-least (packet.Head.header-false (text t b u)) = omega (arith, length-append t (0 ∷ []))
-label-least (packet.Head.header-true f (text t b u)) = omega (arith, length-append t (1 ∷ []), length-append t (suc f ∷ []))
+label-least (packet.Head.header-true (text t b u)) = omega (arith, length-append t (1 ∷ []))
+label-least (packet.Head.header-above f i j (text t b u)) = omega (arith, length-append t (1 ∷ []), length-append t (f ∷ []))
 label-least (packet.Head.message (text t b u) (text o c v)) = refl
 
 items-least : {Kind : Label → Type 0} {is : List Item} {x : List ℕ} (exact : Bool) → Items Kind is x → length (writeItems exact is) ≤ length x

@@ -13,9 +13,8 @@ use Rattle.wire.specs.Limit as limit
 use Rattle.image.specs.Due.{Ends}
 use Rattle.image.specs.Whole.{Whole, bytes, accepted, refused, ended, settled}
 use Rattle.packet.specs.Reading.{packetAt, incompleteOf, all, wholeOf}
-use Rattle.packet.specs.Why.{Comes}
 use Rattle.packet.proofs.Reasons.{packet-kept, small, tells, forward}
-use Rattle.packet_theorems.proofs.Outcome.{comes}
+use Rattle.packet_theorems.proofs.Outcome.{Comes, comes}
 
 -- three bytes for each byte of the packet are room enough
 pub thrice : (s : List ℕ) → length (bytes (packetAt s)) ≤ 3 * length s

@@ -1,77 +1,29 @@
 -- The theorems on the packet calls, over what they come to.
-use Prim.Native.Nat.{ℕ, _*_, _≤_, _<_}
+use Prim.Native.Nat.{ℕ, _+_, _*_, _≤_, _<_}
 use mathlib.Core.Path.{_≡_, refl, sym, ap, _∙_}
 use mathlib.Core.Logic.{_≢_, _↔_}
 use mathlib.Core.List.{List}
-use native.Mathlib.Nat.{sub-zero}
 use native.Mathlib.Omega.{arith}
-use lib.ListN.{length, drop, replicate, length-take}
+use lib.ListN.{length}
 use lib.Dec.{leb, ltb, eqb}
 use borrow.Author.Tests.{leb-true, eqb-false}
 use Rattle.wire.specs.Limit as limit
 use Rattle.wire.proofs.Laws.{picked, pick-no}
-use Rattle.image.specs.declared.reading.Reading.{Reading}
-use Rattle.image.specs.Due.{Ends}
-use Rattle.image.specs.Whole.{Whole, bytes, accepted, refused, padded}
+use Rattle.wire.proofs.Stands.{length-bytes}
+use Rattle.image.specs.Due.{Due, Ends}
+use Rattle.image.specs.Whole.{Whole, bytes, accepted, refused}
 use Rattle.packet.specs.declared.head.Entry.{Entry}
 use Rattle.packet.specs.declared.entry.Found.{Found}
 use Rattle.packet.specs.declared.entry.Found.the-variants as Found
+use Rattle.packet.specs.Head.{entry}
 use Rattle.packet.specs.Reading.{packetAt, all, incompleteOf, wholeOf}
-use Rattle.packet.specs.Entry.{Cut, found, stops, cutOf, spanOf, entryIn, readEntry, foundIn}
-use Rattle.packet.specs.Why.{Comes, ComesEntry, inEntry}
-use Rattle.packet.proofs.Laws.{Splits, cut-told}
+use Rattle.packet.specs.Entry.{Cut, found, stops, cutOf, spanOf, readSpan, entryIn, readEntry, foundIn}
+use Rattle.packet.proofs.Laws.{Splits, cut-told, entry-chosen, span-read}
 use Rattle.packet.proofs.Reasons.{packet-kept, small, tells, forward}
-use Rattle.packet_theorems.proofs.Outcome.{comes, comes-entry, entry-kept}
-
--- ---- one outcome
-
--- an outcome of a call that its contract permits: what it returns, and the image that it leaves; `comes-to` is what the call comes to in a room
-pub record Permits (comes-to : ℕ → Whole) (image : List ℕ) (r : Reading) (left : List ℕ) : Type 0 where
-  pub returns : r ≡ comes-to (length image) .reading
-  pub leaves : left ≡ padded (comes-to (length image) .bytes) (length image)
-
-abbrev pub PermitsParse : List ℕ → List ℕ → Reading → List ℕ → Type 0
-PermitsParse s = Permits (wholeOf s)
-
-abbrev pub PermitsIncomplete : List ℕ → List ℕ → Reading → List ℕ → Type 0
-PermitsIncomplete s = Permits (incompleteOf s)
-
-abbrev pub PermitsEntry : List ℕ → ℕ → List ℕ → Reading → List ℕ → Type 0
-PermitsEntry s number = Permits (readEntry s number)
-
-pub record PermitsNth (s : List ℕ) (number : ℕ) (f : Found) : Type 0 where
-  pub returns : f ≡ foundIn (cutOf s) number
-
-module _ (image : List ℕ) (r q : Reading) (i j : List ℕ) where
-  same : (w : ℕ → Whole) → Permits w image r i → Permits w image q j → (r ≡ q) × (i ≡ j)
-  same w a b = (a .returns ∙ sym (b .returns), a .leaves ∙ sym (b .leaves))
-
-  -- Any two outcomes that the contract of `parse` permits for an input and an image are the same.
-  pub parse-determined : (s : List ℕ) → PermitsParse s image r i → PermitsParse s image q j → (r ≡ q) × (i ≡ j)
-  parse-determined s = same (wholeOf s)
-
-  -- The same of `parse_incomplete`.
-  pub incomplete-determined : (s : List ℕ) → PermitsIncomplete s image r i → PermitsIncomplete s image q j → (r ≡ q) × (i ≡ j)
-  incomplete-determined s = same (incompleteOf s)
-
-  -- The same of `parse_entry`.
-  pub entry-determined : (s : List ℕ) (number : ℕ) → PermitsEntry s number image r i → PermitsEntry s number image q j → (r ≡ q) × (i ≡ j)
-  entry-determined s number = same (readEntry s number)
-
--- The same of `nth`, which makes no image.
-pub nth-determined : (s : List ℕ) (number : ℕ) (f g : Found) → PermitsNth s number f → PermitsNth s number g → f ≡ g
-nth-determined s number f g a b = a .returns ∙ sym (b .returns)
+use Rattle.packet_theorems.specs.Why.{inEntry}
+use Rattle.packet_theorems.proofs.Outcome.{Comes, ComesEntry, comes, value-either, comes-entry, entry-kept}
 
 -- ---- the answers
-
--- The incomplete reading is refused for the limit, for the room or where the packet's reading stops, and is else accepted.
-pub reasons : (s : List ℕ) (room : ℕ) → Comes s room (incompleteOf s room)
-reasons = comes
-
--- The reading of an entry is refused by the cut or for want of an entry, for the room, for depth or as damaged, and is else accepted: its value takes all
--- the bytes of its span.
-pub entry-reasons : (s : List ℕ) (number room : ℕ) → ComesEntry s number room (readEntry s number room)
-entry-reasons = comes-entry
 
 -- an answer of the whole readings: 0 to 5, or 7
 pub record Answer (a : ℕ) : Type 0 where
@@ -88,7 +40,7 @@ incomplete-answers s room = go (incompleteOf s room) (comes s room)
     go w (Comes.read i j f) = record { high = omega arith; tree = λ e. omega arith }
 
 -- what holds of the incomplete reading and of a refusal with 3 holds of the whole one
-over-all : (P : Whole → Type 0) (s : List ℕ) (room : ℕ) → P (incompleteOf s room) → P (refused 3) → P (wholeOf s room)
+pub over-all : (P : Whole → Type 0) (s : List ℕ) (room : ℕ) → P (incompleteOf s room) → P (refused 3) → P (wholeOf s room)
 unfolding wholeOf
 over-all P s room f g =
     let w = incompleteOf s room in
@@ -203,6 +155,10 @@ parse-uses-all s room =
     (λ u e. absurd (omega arith)))
     (λ t e. absurd (eqb-false _ 0 t e))
 
+-- the value reader on a span alone, its places counted from the packet's start
+abbrev pub inSpan : List ℕ → ℕ → ℕ → Due
+inSpan s place n = inEntry s (entry 0 0 0 0 0 0 place n)
+
 -- What `parse_entry` accepts is an entry of the cut: the bytes used are those of its span, and the image is that of the value in them alone.
 pub record Takes (s : List ℕ) (number : ℕ) (w : Whole) : Type 0 where
   pub entry : Entry
@@ -220,6 +176,36 @@ entry-takes s number room = go (readEntry s number room) (comes-entry s number r
     go w (ComesEntry.damaged a p h i t l) e = absurd (omega arith)
     go w (ComesEntry.unused n h i t l) e = absurd (omega arith)
     go w (ComesEntry.read h i t) e = record { entry = _; found = h; ends = t; same = refl }
+
+-- What `parse_span` accepts is a span inside the packet, all of whose bytes are used: the image is that of the value in them alone, and has room.
+pub record TakesSpan (s : List ℕ) (place n room : ℕ) (w : Whole) : Type 0 where
+  pub small : length s ≤ limit.bytes
+  pub inside : place + n ≤ length s
+  pub ends : Ends (inSpan s place n) n
+  pub fits : length (bytes (inSpan s place n)) ≤ room
+  pub same : w ≡ accepted n (bytes (inSpan s place n))
+
+pub span-takes : (s : List ℕ) (place n room : ℕ) → readSpan s place n room .reading .answer ≡ 0 → TakesSpan s place n room (readSpan s place n room)
+unfolding readSpan
+span-takes s place n room =
+    let P : Whole → Type 0 = λ w. w .reading .answer ≡ 0 → TakesSpan s place n room w in
+    picked P (leb (length s) limit.bytes) _ _
+    (λ h. picked P (leb (place + n) (length s)) _ _
+    (λ i.
+    let in-s : place + n ≤ length s = leb-true _ _ i in
+    value-either P s (entry 0 0 0 0 0 0 place n) room (length-bytes n s place in-s) (λ r e. absurd (omega arith)) (λ p r t e. absurd (omega arith))
+    (λ a p r t l e. absurd (omega arith)) (λ m r t l e. absurd (omega arith))
+    (λ r t e. record { small = leb-true _ _ h; inside = in-s; ends = t; fits = r; same = refl }))
+    (λ i e. absurd (omega arith)))
+    (λ h e. absurd (omega arith))
+
+-- An entry that the cut finds reads as its span does.
+pub entry-span : (s : List ℕ) (number room : ℕ) (e : Entry) → foundIn (cutOf s) number ≡ Found.Is e
+    → readSpan s (e .place) (e .length) room ≡ readEntry s number room
+unfolding readEntry
+entry-span s number room e f =
+    let c = entry-chosen s number room (cutOf s) {e = e} (cut-told s) (sym f) in
+    span-read s e room (c .short) (c .inside) ∙ sym (c .read)
 
 -- ---- refusals
 
@@ -248,23 +234,6 @@ entry-refused s number room = go (readEntry s number room) (comes-entry s number
     go w (ComesEntry.unused n h i t l) ne = refl
     go w (ComesEntry.read h i t) ne = absurd (ne refl)
 
-zeros : (w : ℕ → Whole) (image : List ℕ) (r : Reading) (left : List ℕ) → Permits w image r left → r .answer ≢ 0
-    → (w (length image) .reading .answer ≢ 0 → w (length image) ≡ refused (w (length image) .reading .answer)) → left ≡ replicate (length image) 0
-zeros w image r left p ne h =
-    let same : r .answer ≡ w (length image) .reading .answer = ap (λ (q : Reading). q .answer) (p .returns) in
-    p .leaves ∙ rw (h λ e. ne (same ∙ e)) (ap (λ k. replicate k 0) (sub-zero (length image)))
-
-module _ (image : List ℕ) (r : Reading) (left : List ℕ) (ne : r .answer ≢ 0) where
-  -- So a refused call leaves an image of zeros.
-  pub parse-zeros : (s : List ℕ) → PermitsParse s image r left → left ≡ replicate (length image) 0
-  parse-zeros s p = zeros (wholeOf s) image r left p ne (parse-refused s (length image))
-
-  pub incomplete-zeros : (s : List ℕ) → PermitsIncomplete s image r left → left ≡ replicate (length image) 0
-  incomplete-zeros s p = zeros (incompleteOf s) image r left p ne (incomplete-refused s (length image))
-
-  pub entry-zeros : (s : List ℕ) (number : ℕ) → PermitsEntry s number image r left → left ≡ replicate (length image) 0
-  entry-zeros s number p = zeros (readEntry s number) image r left p ne (entry-refused s number (length image))
-
 -- ---- the room
 
 -- In a room of three bytes for each byte of the input, no whole reading is refused for room.
@@ -291,17 +260,22 @@ incomplete-room-exact s room h = go (incompleteOf s room) (comes s room)
 pub parse-room : (s : List ℕ) (room : ℕ) → 3 * length s ≤ room → wholeOf s room .reading .answer ≢ 4
 parse-room s room h = over-all (λ w. w .reading .answer ≢ 4) s room (incomplete-room s room h) (λ e. omega arith)
 
--- In a room of three bytes for each byte of its span, no reading of an entry is refused for room: the other entries don't count.
+-- In a room of three bytes for each byte of a span, no reading of it is refused for room.
+pub span-room : (s : List ℕ) (place n room : ℕ) → 3 * n ≤ room → readSpan s place n room .reading .answer ≢ 4
+unfolding readSpan
+span-room s place n room h =
+    let P : Whole → Type 0 = λ w. w .reading .answer ≢ 4 in
+    let x : Entry = entry 0 0 0 0 0 0 place n in
+    picked P (leb (length s) limit.bytes) _ _
+    (λ t. picked P (leb (place + n) (length s)) _ _
+    (λ i.
+    let long : length (spanOf s x) ≡ n = length-bytes n s place (leb-true _ _ i) in
+    value-either P s x room long (λ r e. omega (arith, small (spanOf s x) 0 (inEntry s x) (entry-kept s x))) (λ p r u e. omega arith) (λ a p r u l e. omega arith)
+    (λ m r u l e. omega arith) (λ r u e. omega arith))
+    (λ i e. omega arith))
+    (λ t e. omega arith)
+
+-- So it is for an entry in a room of three bytes for each byte of its span: the other entries don't count.
 pub entry-room : (s : List ℕ) (number room : ℕ) (e : Entry) → foundIn (cutOf s) number ≡ Found.Is e → 3 * e .length ≤ room
     → readEntry s number room .reading .answer ≢ 4
-entry-room s number room e f h = go (readEntry s number room) (comes-entry s number room)
-  where
-    go : (w : Whole) → ComesEntry s number room w → w .reading .answer ≢ 4
-    go w (ComesEntry.none g) z = nth-answers s number _ _ g .room z
-    go w (ComesEntry.no-room {e = d} g i) z =
-        let same : e ≡ d = cc in
-        omega (arith, small (spanOf s d) 0 (inEntry s d) (entry-kept s d), length-take (d .length) (drop (d .place) s), ap (λ (x : Entry). x .length) same)
-    go w (ComesEntry.deep p g i t) z = omega arith
-    go w (ComesEntry.damaged a p g i t l) z = omega arith
-    go w (ComesEntry.unused n g i t l) z = omega arith
-    go w (ComesEntry.read g i t) z = omega arith
+entry-room s number room e f h = rw (← entry-span s number room e f) (span-room s (e .place) (e .length) room h)

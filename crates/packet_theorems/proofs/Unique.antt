@@ -12,10 +12,9 @@ use Rattle.image.specs.Record.{size}
 use Rattle.image.specs.Taking.{Fits}
 use Rattle.image.specs.Out.{Out, end, stop, put}
 use Rattle.amf0.specs.Standard.{Sort, Tree, depth}
-use Rattle.amf0.specs.Shown.{laid}
+use Rattle.amf0.specs.Shown.{laid, Right}
 use Rattle.amf0.specs.Writing.{value}
 use Rattle.amf0.specs.Written as amf0
-use Rattle.amf0.specs.Written.{Right}
 use Rattle.amf0.specs.Written.Lead.{keyed}
 use Rattle.amf0_theorems.proofs.Puts.{Puts, first, others, puts, laid-append, laid-length, laid-size}
 use Rattle.amf0_theorems.proofs.WriteOutcome.{puts-bytes}
@@ -23,7 +22,9 @@ use Rattle.amf0_theorems.proofs.WriteSound.{Ends}
 use Rattle.amf0_theorems.proofs.Shortest.{encoded}
 use Rattle.amf0_theorems.proofs.Theorems.{unique}
 use Rattle.packet.specs.Packet.{Label, Item, Packet}
-use Rattle.packet.specs.Written.{sayingItem, saying, Names, Spells, counts, Images}
+use Rattle.packet.specs.Shown.{counts}
+use Rattle.packet.specs.Written.{sayingItem, saying, Spells, Images}
+use Rattle.packet_theorems.proofs.Items.{names-one}
 
 -- ---- a writing ends at one place
 
@@ -37,13 +38,7 @@ one-end (end k) a b = a ∙ sym b
 one-end (stop w p) a b = absurd a
 one-end (put x d) a b = one-end d a b
 
--- ---- a label, a value
-
-names-one : {s : List ℕ} {l o : Label} {a b : Record} → Names s l a → Names s o b → a ≡ b → l ≡ o
-names-one (Names.header f h x) (Names.header g i y) e = cc
-names-one (Names.header f h x) (Names.message i j y z) e = let z : _≡_ {A = ℕ} 0 1 = cc in absurd (omega arith)
-names-one (Names.message h j x y) (Names.header f i z) e = let z : _≡_ {A = ℕ} 0 1 = cc in absurd (omega arith)
-names-one (Names.message h i x y) (Names.message j k z w) e = cc
+-- ---- a value
 
 module _ (s image : List ℕ) where
   value-one : {v w : Tree Sort.value} {rs us : List Record} → amf0.Spells s keyed Sort.value v rs → Right s rs → amf0.Spells s keyed Sort.value w us → Right s us

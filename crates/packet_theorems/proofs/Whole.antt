@@ -1,10 +1,10 @@
 -- The whole packet against the standard's: what encodes a packet is read as it, and what was read encodes one.
-use Prim.Native.Nat.{ℕ, _+_, _^_, _<_}
+use Prim.Native.Nat.{ℕ, _+_, _^_, _≤_, _<_}
 use mathlib.Core.Path.{_≡_, refl, sym, ap, _∙_}
 use mathlib.Core.List.{List, [], _∷_, _++_}
 use native.Mathlib.Omega.{arith}
 use lib.ListN.{length, drop, length-append}
-use lib.Dec.{eqb}
+use lib.Dec.{eqb, lit<}
 use borrow.Author.Tests.{eqb-true}
 use Rattle.wire.specs.Number.{digits, Bytes}
 use Rattle.wire.specs.Limit as limit
@@ -18,16 +18,16 @@ use Rattle.wire.proofs.Stands.{Here, cut, skip, tag-at, byte-at, u16-at, tag-en
 use Rattle.image.specs.Due.{Due, stop, Ends}
 use Rattle.image.specs.Whole.{bytes}
 use Rattle.amf0_theorems.proofs.Telling.{one-end}
+use Rattle.amf0_theorems.proofs.Sound.{bind-ends}
 use Rattle.packet.specs.Head.{versionAt}
 use Rattle.packet.specs.Packet.{Item, Packet, IsHeader, IsMessage, Items, Encoded}
 use Rattle.packet.specs.Shown.{ShowsPacket, Shallow, Within}
 use Rattle.packet.specs.Reading.{entriesAt, packetAt}
-use Rattle.packet.specs.Change.{ExactItems, ExactPacket}
 use Rattle.packet_theorems.proofs.Same.{on16, onTag}
 use Rattle.packet_theorems.proofs.Frame.{no-tag}
 use Rattle.packet_theorems.proofs.Heads.{headers, messages, ends-at}
-use Rattle.packet_theorems.proofs.Agree.{bytes-bind, ends-bind, bind-ends, count-after, Exacts}
-use Rattle.packet_theorems.proofs.Items.{Told, items-told, items-shallow, Exacted, items-found, items-unique}
+use Rattle.packet_theorems.proofs.Agree.{bytes-bind, ends-bind, count-after, Exacts}
+use Rattle.packet_theorems.proofs.Items.{ExactItems, Told, items-told, items-shallow, Exacted, items-found, items-unique}
 
 -- ---- what stands there
 
@@ -62,10 +62,14 @@ framed {s} {r} h m x y b c all =
       long = simp length-append (omega arith);
     }
 
+-- every entry of a packet declares the length of the bytes that encode its value
+abbrev pub ExactPacket : {p : Packet} {s : List ℕ} → Encoded p s → Type 0
+ExactPacket (Encoded.packet h m hs ms) = ExactItems hs × ExactItems ms
+
 -- a packet that stands at the front of s is read up to n, and its image shows it; X says that its lengths are exact
 pub record ToldPacket (p : Packet) (s : List ℕ) (n : ℕ) (X : Type 0) : Type 0 where
   pub ends : Ends (packetAt s) n
-  pub shows : ShowsPacket s p (bytes (packetAt s))
+  pub shows : length s ≤ limit.bytes → ShowsPacket s p (bytes (packetAt s))
   pub exact : X → n ≡ length s → Exacts s
 
 exacts : {s : List ℕ} {h m : ℕ} {x y r : List ℕ} → Framed s h m x y r → Exacted 0x31 s h 4 (4 + length x) → Exacted 0x32 s m (4 + length x + 2) (length s) → Exacts s
@@ -85,15 +89,16 @@ exacts {x = x} f a b =
     }
 
 told-whole : {hs ms : List Item} {x y r : List ℕ} (s : List ℕ) (hi : Items IsHeader hs x) (mi : Items IsMessage ms y) → Framed s (length hs) (length ms) x y r
+    → length hs < 256 ^ 2 → length ms < 256 ^ 2
     → Told 0x31 hi s 4 (4 + length x) → Told 0x32 mi s (4 + length x + 2) (4 + length x + 2 + length y)
     → ToldPacket (record { headers = hs; messages = ms }) s (4 + length x + 2 + length y) (ExactItems hi × ExactItems mi)
 unfolding packetAt bytes
-told-whole {hs} {ms} {x} {y} s hi mi f a b =
+told-whole {hs} {ms} {x} {y} s hi mi f hl ml a b =
     let d : Due = entriesAt 0x31 s (length hs) 4 in
     let k : ℕ → Due = λ n. got16 stop (u16At s n) (entriesAt 0x32 s) in
     record {
       ends = rw (f .version, f .header-count) (ends-bind d k (4 + length x) (4 + length x + 2 + length y) (a .ends) (rw (f .message-count) (b .ends)));
-      shows =
+      shows = λ l.
           rw (
             f .version,
             f .header-count,
@@ -101,14 +106,14 @@ told-whole {hs} {ms} {x} {y} s hi mi f a b =
             bytes-bind d k (4 + length x) (a .ends),
             f .message-count,
           )
-          (ShowsPacket.packet (a .shows) (b .shows));
+          (ShowsPacket.packet (record { a = hl; b = ml; c = lit< tt; d = lit< tt; zone = λ n z e. cc }) (a .shows l) (b .shows l));
       exact = λ o e. exacts f (a .exact (o .0)) (rw e at (b .exact (o .1)));
     }
 
 pub packet-told : {p : Packet} {x : List ℕ} (s r : List ℕ) (e : Encoded p x) → Here s 0 x r → Within limit.levels p → ToldPacket p s (length x) (ExactPacket e)
 packet-told s r (Encoded.packet {hs} {ms} {x} {y} hl ml hi mi) h deep =
     let f = framed (length hs) (length ms) x y hl ml h in
-    rw (f .long) (told-whole s hi mi f (items-told headers hi s ((digits 2 (length ms) ++ y) ++ r) 4 (f .headers-here) (deep .0))
+    rw (f .long) (told-whole s hi mi f hl ml (items-told headers hi s ((digits 2 (length ms) ++ y) ++ r) 4 (f .headers-here) (deep .0))
     (items-told messages mi s r (4 + length x + 2) (f .messages-here) (deep .1)))
 
 -- what is read of a packet goes to no depth over the limit
@@ -152,7 +157,7 @@ version-stood s c bs =
     (omega arith, ends-at (tag-ends (0 ∷ []) s 0 d h) (omega arith) (rw (eqb-true b 0 t, one) at g)))
     (λ t. picked P (eqb b 3) _ _ (λ t. no-tag _ _) (λ t. no-tag _ _))
 
-encoded-row : {hs ms : List Item} {x y : List ℕ} (h m : ℕ) → h < 256 ^ 2 → m < 256 ^ 2 → length hs ≡ h → length ms ≡ m
+pub encoded-row : {hs ms : List Item} {x y : List ℕ} (h m : ℕ) → h < 256 ^ 2 → m < 256 ^ 2 → length hs ≡ h → length ms ≡ m
     → Items IsHeader hs x → Items IsMessage ms y → Encoded (record { headers = hs; messages = ms }) (rowOf h m x y)
 encoded-row {hs} {ms} h m hl ml hc mc hi mi = rw (← hc, ← mc) (Encoded.packet {hs = hs} {ms = ms} (rw hc hl) (rw mc ml) hi mi)
 

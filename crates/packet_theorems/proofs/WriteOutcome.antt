@@ -1,37 +1,34 @@
 -- A reading that is accepted makes an image that can be written.
-use Prim.Native.Nat.{ℕ, suc, _+_, _^_, _≤_, _<_}
+use Prim.Native.Nat.{ℕ, suc, _+_, _≤_}
 use mathlib.Core.Path.{_≡_, refl, sym, ap, ap₂, _∙_}
-use mathlib.Core.List.{List, [], _∷_, _++_, map}
+use mathlib.Core.List.{List, [], _∷_, _++_, map, map-append}
 use mathlib.Core.Bool.{Bool, true, false}
 use native.Mathlib.Omega.{arith}
 use lib.ListN.{length, take, length-map, take-append-drop}
 use lib.Dec.{lit<}
 use Rattle.wire.specs.Number.{digits, Bytes}
-use Rattle.wire.specs.Utf8.{utf8}
 use Rattle.wire.specs.Field.{to, u16At, got16}
 use Rattle.wire.specs.Limit as limit
 use Rattle.wire.proofs.Stands.{Here}
 use Rattle.image.specs.declared.record.Record.{Record}
 use Rattle.image.specs.declared.record.Record.the-variants as R
-use Rattle.image.specs.Record.{bitOf}
 use Rattle.image.specs.Taking.{Fits}
 use Rattle.image.specs.Due.{Due, stop}
 use Rattle.image.specs.Whole.{Whole, bytes}
 use Rattle.amf0.specs.Reading.{value}
-use Rattle.amf0.specs.Standard.UTF-8.{short}
 use Rattle.amf0.specs.Shown.{laid}
-use Rattle.amf0.specs.Written.{Stands, Named, Right, unplaced, Alike}
+use Rattle.amf0.specs.Written.{unplaced, Alike}
 use Rattle.amf0_theorems.proofs.Telling as telling
 use Rattle.amf0_theorems.proofs.Telling.{recordsOf, bytes-laid}
 use Rattle.amf0_theorems.proofs.Spelling.{spelled}
 use Rattle.amf0_theorems.proofs.Alike.{ofTree, Of, read}
 use Rattle.amf0_theorems.proofs.Puts.{laid-append, right-both}
 use Rattle.packet.specs.declared.head.Entry.{Entry}
-use Rattle.packet.specs.Packet as packet
 use Rattle.packet.specs.Packet.{Label, Item, Packet, IsHeader, IsMessage, Items, Encoded}
-use Rattle.packet.specs.Shown.{Shallow, Within}
+use Rattle.packet.specs.Shown.{counts, Shallow, Within}
 use Rattle.packet.specs.Reading.{recordOf, entriesAt, packetAt, incompleteOf, wholeOf}
-use Rattle.packet.specs.Written.{Labelled, Holds, Names, Spells, counts, Images, Writable, sayingItem, saying}
+use Rattle.packet.specs.Written.{Labelled, Spells, Images, Writable, sayingItem, saying}
+use Rattle.packet_theorems.proofs.Puts.{spells-right}
 use Rattle.packet_theorems.proofs.Heads.{Kinded, headers, messages}
 use Rattle.packet_theorems.proofs.Agree.{bytes-bind, count-after}
 use Rattle.packet_theorems.proofs.Items.{First, first, Told, items-told}
@@ -49,48 +46,13 @@ abbrev pub ofItems : List Item → List Record
 ofItems [] = []
 ofItems (i ∷ is) = ofLabel (i .label) ∷ (ofTree (i .value) [] ++ ofItems is)
 
-map-append : (f : Record → Record) (a b : List Record) → map f (a ++ b) ≡ map f a ++ map f b
-map-append f [] b = refl
-map-append f (r ∷ a) b = ap (λ x. f r ∷ x) (map-append f a b)
-
 -- ---- the record of an entry
 
-record Recorded (s : List ℕ) (l : Label) (r : Record) : Type 0 where
-  fits : Fits r
-  names : Names s l r
-  alike : unplaced r ≡ ofLabel l
-
-bit-small : (flag : Bool) → bitOf flag < 256 ^ 1
-bit-small true = lit< tt
-bit-small false = lit< tt
-
-module _ (s : List ℕ) (l : length s ≤ limit.bytes) where
-  stands : {t : List ℕ} {p n : ℕ} → Holds s t p n → utf8 t ≡ true → Stands s p n
-  stands h u = record { inside = h .inside; right = rw (h .same) u }
-
-  header-recorded : {t : List ℕ} {p n : ℕ} (flag : Bool) → Holds s t p n → length t < 256 ^ 2 → utf8 t ≡ true
-      → Recorded s (Label.header t flag) (R.Header p n flag)
-  header-recorded flag h b u =
-      record {
-        fits = record { a = omega (arith, h .inside); b = omega (arith, h .long); c = bit-small flag; d = lit< tt; zone = λ n z e. cc };
-        names = Names.header flag (stands h u) (h .same);
-        alike = ap (λ k. R.Header 0 k flag) (h .long);
-      }
-
-  message-recorded : {t o : List ℕ} {p n q m : ℕ} → Holds s t p n → length t < 256 ^ 2 → utf8 t ≡ true → Holds s o q m → length o < 256 ^ 2 → utf8 o ≡ true
-      → Recorded s (Label.message t o) (R.Message p n q m)
-  message-recorded h b u i c v =
-      record {
-        fits =
-            record { a = omega (arith, h .inside); b = omega (arith, h .long); c = omega (arith, i .inside); d = omega (arith, i .long); zone = λ n z e. cc };
-        names = Names.message (stands h u) (stands i v) (h .same) (i .same);
-        alike = ap₂ (λ k j. R.Message 0 k 0 j) (h .long) (i .long);
-      }
-
-  recorded : {o : Label} {x : List ℕ} (e : Entry) → packet.Head o x → Labelled s o e → Recorded s o (recordOf e)
-  recorded e (packet.Head.header-false (short t b u)) g = rw (g .kind, g .bit) (header-recorded false (g .first) b u)
-  recorded e (packet.Head.header-true f (short t b u)) g = rw (g .kind, g .bit) (header-recorded true (g .first) b u)
-  recorded e (packet.Head.message (short t b u) (short o c v)) g = rw (g .kind) (message-recorded (g .first) b u (g .second) c v)
+-- it is known by the entry's label but for places
+record-alike : (s : List ℕ) (l : Label) (e : Entry) → Labelled s l e → unplaced (recordOf e) ≡ ofLabel l
+record-alike s (Label.header name true) e g = rw (g .kind, g .bit) (ap (λ k. R.Header 0 k true) (g .first .long))
+record-alike s (Label.header name false) e g = rw (g .kind, g .bit) (ap (λ k. R.Header 0 k false) (g .first .long))
+record-alike s (Label.message target response) e g = rw (g .kind) (ap₂ (λ k j. R.Message 0 k 0 j) (g .first .long) (g .second .long))
 
 -- ---- entries in a row
 
@@ -109,20 +71,20 @@ module _ {kind : ℕ} {Kind : Label → Type 0} (k : Kinded kind Kind) where
   items-imaged (Items.more {l = o} {d} {v} {is} {x} {y} {z} t h b e i) s r at l g deep =
       let f : First kind s at o x d y z r = first k t h b g in
       let p = f .head .entry .place in
-      go f (recorded s l (f .head .entry) h (f .head .labelled)) (telling.reads limit.levels s (z ++ r) p e (f .value) (deep .0))
+      go f (telling.reads limit.levels s (z ++ r) p e (f .value) (deep .0))
       (read s y (z ++ r) p e (f .value) (deep .0) l) (items-imaged i s r (p + length y) l (f .behind) (deep .1))
     where
-      go : (f : First kind s at o x d y z r) → Recorded s o (recordOf (f .head .entry))
+      go : (f : First kind s at o x d y z r)
           → telling.Reads limit.levels s (f .head .entry .place) (f .head .entry .place + length y) v → Of s (f .head .entry .place) v
           → Imaged Kind s is (bytes (entriesAt kind s (length is) (f .head .entry .place + length y)))
           → Imaged Kind s (record { label = o; declared = d; value = v } ∷ is) (bytes (entriesAt kind s (suc (length is)) at))
-      go f c a w m =
+      go f a w m =
           let p = f .head .entry .place in
           let u : Due = value limit.levels s p in
           record {
             records = recordOf (f .head .entry) ∷ (recordsOf u ++ m .records);
-            spells = Spells.more t (c .fits) (c .names) (w .right) (spelled s v (recordsOf u) (a .tells)) (m .spells);
-            alike = rw (c .alike, map-append unplaced (recordsOf u) (m .records), w .same, m .alike);
+            spells = Spells.more t (f .head .fits l) (f .head .names) (w .right) (spelled s v (recordsOf u) (a .tells)) (m .spells);
+            alike = rw (record-alike s o (f .head .entry) (f .head .labelled), map-append unplaced (recordsOf u) (m .records), w .same, m .alike);
             lies =
                 rw (
                   f .head .read,
@@ -132,14 +94,6 @@ module _ {kind : ℕ} {Kind : Label → Type 0} (k : Kinded kind Kind) where
                   bytes-laid u,
                 );
           }
-
-names-named : {s : List ℕ} {l : Label} {r : Record} → Names s l r → Named s r
-names-named (Names.header flag h e) = tt
-names-named (Names.message h i e o) = tt
-
-right-items : {s : List ℕ} {Kind : Label → Type 0} {is : List Item} {rs : List Record} → Spells s Kind is rs → Right s rs
-right-items Spells.none = tt
-right-items {s} (Spells.more {rs} {qs} t f n g c y) = (f, names-named n, right-both s rs qs g (right-items y))
 
 -- ---- the packet
 
@@ -255,8 +209,8 @@ images-alike {s} {b} {p} exact x y =
     record {
       first = counts p ∷ (m .header-records ++ m .message-records);
       second = counts q ∷ (n .header-records ++ n .message-records);
-      right = (m .fits, tt, right-both s (m .header-records) (m .message-records) (right-items (m .headers)) (right-items (m .messages)));
-      right-too = (n .fits, tt, right-both b (n .header-records) (n .message-records) (right-items (n .headers)) (right-items (n .messages)));
+      right = (m .fits, tt, right-both s (m .header-records) (m .message-records) (spells-right (m .headers)) (spells-right (m .messages)));
+      right-too = (n .fits, tt, right-both b (n .header-records) (n .message-records) (spells-right (n .headers)) (spells-right (n .messages)));
       lies = m .lies;
       lies-too = n .lies;
       same =

@@ -2,7 +2,6 @@
 use Prim.Native.Nat.{ℕ, zero, suc, _≤_}
 use mathlib.Core.List.{List}
 use mathlib.Core.Bool.{Bool}
-use native.Mathlib.Omega.{arith}
 use lib.ListN.{length}
 use lib.Dec.{leb, eqb}
 use borrow.Author.Tests.{leb-true, leb-false}
@@ -12,16 +11,19 @@ use Rattle.wire.proofs.Laws.{picked}
 use Rattle.image.specs.Taking.{recordAt}
 use Rattle.image.specs.Out.{Out, end, stop, bytes as putOut, settled, sized, Written, written, unwritten}
 use Rattle.amf0.specs.Writing.{whole}
-use Rattle.amf0_theorems.proofs.WriteReasons.{Refuses, six, bind-refuses, taken-refuses, row-refuses, value-refuses, ended-either, sized-either, stops-deep}
+use Rattle.amf0_theorems.specs.Unwritten.{OutcomeOf}
+use Rattle.amf0_theorems.proofs.WriteReasons.{Refuses, six, bind-refuses, taken-refuses, row-refuses, value-refuses, ended-either, sized-either}
 use Rattle.amf0_theorems.proofs.WriteOutcome.{puts-bytes}
 use Rattle.packet.specs.declared.write.Part.{Part}
 use Rattle.packet.specs.declared.write.Part.the-variants as P
 use Rattle.packet.specs.Packet.{Packet}
 use Rattle.packet.specs.Shown.{Within}
 use Rattle.packet.specs.Writing.{partOf, labelled, label, entry, entries, packed, packet, writeOf}
-use Rattle.packet.specs.Written.{write, Images, Writable, Outcome}
-use Rattle.packet_theorems.proofs.Puts.{image-puts, write-puts}
+use Rattle.packet.specs.Written.{write, Images, Writable}
+use Rattle.packet_theorems.specs.Unwritten.{Outcome}
+use Rattle.packet_theorems.proofs.Puts.{write-puts}
 use Rattle.packet_theorems.proofs.WriteSound.{image-of}
+use Rattle.packet_theorems.proofs.WriteRefusal.{refused-by}
 
 -- ---- a refusal's answer
 
@@ -59,7 +61,7 @@ module _ (s image : List ℕ) where
         row-refuses s image _ 0 _
         (bind-refuses (entries 0x31 exact image s h q) _ (entries-refuses 0x31 h q) λ e. row-refuses s image _ 0 _ (entries-refuses 0x32 m e))
 
-    whole-refuses : Refuses (whole image (packet exact image s))
+    pub whole-refuses : Refuses (whole image (packet exact image s))
     whole-refuses =
         bind-refuses (packet exact image s) _ packet-refuses λ n.
         picked Refuses (leb (length image) n) (end n) (stop 6 n) (λ e. tt) (λ e. six)
@@ -76,29 +78,27 @@ module _ (image s : List ℕ) (exact : Bool) (room : ℕ) where
       picked P (leb (length s) limit.bytes) _ _
       (λ h. picked P (leb (length image) limit.image) _ _
       (λ i. ended-either P d (putOut d) room (whole-refuses s image exact)
-      (λ n e. sized-either image s room P (putOut d) (λ j. one) (λ j k. four) (λ j k. done (putOut d) k)) (λ e. five) (λ e. six))
+      (λ n e. sized-either image s room P (putOut d) (λ j. one) (λ j k. four) (λ j k. done (putOut d) k)) (λ p e. five) (λ p e. six))
       (λ i. one))
       (λ h. one)
 
-  pub outcome : Bytes image → Outcome image s exact room (writeOf image s exact room)
+  pub reasons : Bytes image → Outcome image s exact room (writeOf image s exact room)
   unfolding settled
-  outcome bs =
+  reasons bs =
       let d : Out = whole image (packet exact image s) in
       let P : Written → Type 0 = Outcome image s exact room in
       picked P (leb (length s) limit.bytes) _ _
       (λ h. picked P (leb (length image) limit.image) _ _
       (λ i. ended-either P d (putOut d) room (whole-refuses s image exact)
       (λ n e. done (leb-true _ _ h) (leb-true _ _ i) (image-of s image bs exact n e))
-      (λ e. Outcome.too-deep (leb-true _ _ h) (leb-true _ _ i) λ p m.
-      stops-deep (image-puts s image {D = Within limit.levels p → ⊥} exact m (λ l. l) .puts) 5 e .1)
-      (λ e. Outcome.no-packet (leb-true _ _ h) (leb-true _ _ i) λ p m.
-      let g = stops-deep (image-puts s image {D = Unit {0}} exact m (λ l. tt) .puts) 6 e in omega arith))
-      (λ i. Outcome.image-over (leb-false _ _ i)))
-      (λ h. Outcome.text-over (leb-false _ _ h))
+      (λ p e. OutcomeOf.too-deep (leb-true _ _ h) (leb-true _ _ i) (refused-by s image bs exact 5 p e))
+      (λ p e. OutcomeOf.wrong (leb-true _ _ h) (leb-true _ _ i) (refused-by s image bs exact 6 p e)))
+      (λ i. OutcomeOf.image-over (leb-false _ _ i)))
+      (λ h. OutcomeOf.text-over (leb-false _ _ h))
     where
       done : length s ≤ limit.bytes → length image ≤ limit.image → (p : Packet) × Images s p image × Within limit.levels p
           → Outcome image s exact room (sized (putOut (whole image (packet exact image s))) room)
       done h i x =
           let w : Writable image s (x .0) = record { text-size = h; image-size = i; images = x .1; deep = x .2 } in
           rw (puts-bytes (write-puts s image exact (x .1) (x .2)))
-          (sized-either image s room (Outcome image s exact room) (write exact (x .0)) (Outcome.output-over w) (Outcome.no-room w) (Outcome.put-out w))
+          (sized-either image s room (Outcome image s exact room) (write exact (x .0)) (OutcomeOf.output-over w) (OutcomeOf.no-room w) (OutcomeOf.put-out w))

@@ -1,51 +1,49 @@
 -- The theorems on the writer of packets, over what its public call comes to.
 use Prim.Native.Nat.{ℕ, _*_, _≤_, _<_}
 use mathlib.Core.Path.{_≡_, refl, sym, ap, subst, _∙_}
-use mathlib.Core.Logic.{_≢_, _↔_, _⊎_, inl, inr}
+use mathlib.Core.Logic.{_↔_, _⊎_, inl, inr, ⊎-elim}
 use mathlib.Core.List.{List, append-nil}
 use mathlib.Core.Bool.{Bool, true}
 use native.Mathlib.Omega.{arith}
-use lib.ListN.{length, take, drop, getD, length-append, length-drop}
-use lib.Seq.{length-take-le, drop-append-seam}
+use lib.ListN.{length, take, getD}
+use lib.Seq.{length-take-le}
 use Rattle.wire.specs.Number.{Bytes}
 use Rattle.wire.specs.Limit as limit
 use Rattle.wire.proofs.Stands.{Here}
-use Rattle.image.specs.declared.writing.Writing.{Writing}
-use Rattle.image.specs.Out.{Written, written, unwritten, sized, onto}
+use Rattle.image.specs.Out.{Written, written, unwritten, sized}
 use Rattle.image.specs.Whole.{Whole}
 use Rattle.amf0.specs.Written as amf0
 use Rattle.amf0.specs.Written.{Alike}
+use Rattle.amf0.specs.Writing.{whole}
+use Rattle.amf0_theorems.specs.Unwritten.{Stops, OutcomeOf}
 use Rattle.amf0_theorems.proofs.WriteOutcome.{sized-written, written-sized}
+use Rattle.amf0_theorems.proofs.WriteRefusal.{ends-or-stops}
+use Rattle.amf0_theorems.proofs.WriteReasons.{call-refusals, stops-once, stops-deep}
+use Rattle.amf0_theorems.proofs.Settled.{Settled}
+use Rattle.amf0_theorems.proofs.Settled.Settled.{refused, put-out}
 use Rattle.packet.specs.declared.head.Entry.{Entry}
 use Rattle.packet.specs.Packet.{Packet, Encoded}
 use Rattle.packet.specs.Shown.{Within}
 use Rattle.packet.specs.Reading.{incompleteOf, wholeOf}
 use Rattle.packet.specs.Entry.{found, cutOf, noEntry, readEntry}
-use Rattle.packet.specs.Change.{Exact, Agrees}
-use Rattle.packet.specs.Writing.{writeOf}
-use Rattle.packet.specs.Written.{write, saying, Images, Writable, Outcome, rewriteOf, Parts, itemsOf, noItem}
-use Rattle.packet_theorems.proofs.Puts.{packet-written}
+use Rattle.packet.specs.Change.{Agrees}
+use Rattle.packet.specs.Writing.{packet, writeOf}
+use Rattle.packet.specs.Written.{write, saying, Images, Writable, rewriteOf, Parts, itemsOf, noItem}
+use Rattle.packet_theorems.specs.Cuts.{Exact}
+use Rattle.packet_theorems.specs.Unwritten.{Refused, Outcome}
+use Rattle.packet_theorems.proofs.Puts.{image-puts, packet-written}
 use Rattle.packet_theorems.proofs.Shortest.{write-encoded, packet-least, write-saying, within-saying, within-said}
 use Rattle.packet_theorems.proofs.Unique.{images-one}
-use Rattle.packet_theorems.proofs.WriteBytes.{write-bytes}
+use Rattle.packet_theorems.proofs.PacketBytes.{encoded-bytes}
 use Rattle.packet_theorems.proofs.WriteOutcome.{ReadImage, taken-image, WasRead, read-incomplete, read-whole, images-alike}
-use Rattle.packet_theorems.proofs.WriteReasons.{answered, outcome}
-use Rattle.packet_theorems.proofs.Cutting.{packet-cut, each-count, each-at, shallow-append, shallow-at}
+use Rattle.packet_theorems.proofs.WriteReasons.{whole-refuses, answered, reasons}
+use Rattle.packet_theorems.proofs.WriteSound.{image-of}
+use Rattle.packet_theorems.proofs.WriteRefusal.{refused-by}
+use Rattle.packet_theorems.proofs.WriteRefusing.{refuses-by}
+use Rattle.packet_theorems.proofs.Cutting.{packet-cut, shallow-append, shallow-at}
 use Rattle.packet_theorems.proofs.Taken.{whole-taken}
 use Rattle.packet_theorems.proofs.PacketTheorems.{complete, Gives, entry-complete}
 use Rattle.packet_theorems.proofs.Demand3.{agreement}
-
--- ---- one outcome
-
--- an outcome of the public call that its contract permits: what it returns, and the output that it leaves
-pub record PermitsWrite (image text : List ℕ) (exact : Bool) (out : List ℕ) (r : Writing) (left : List ℕ) : Type 0 where
-  pub returns : r ≡ writeOf image text exact (length out) .writing
-  pub leaves : left ≡ onto (writeOf image text exact (length out) .bytes) out
-
--- Any two outcomes that the contract permits for an image, a text, a setting and an output are the same.
-pub determined-write : (image text : List ℕ) (exact : Bool) (out : List ℕ) (r q : Writing) (i j : List ℕ) → PermitsWrite image text exact out r i
-    → PermitsWrite image text exact out q j → (r ≡ q) × (i ≡ j)
-determined-write image text exact out r q i j a b = (a .returns ∙ sym (b .returns), a .leaves ∙ sym (b .leaves))
 
 -- ---- the writing and the packet
 
@@ -72,8 +70,8 @@ pub written-is : (image text b : List ℕ) (exact : Bool) (p : Packet) (out : �
     → WrittenAs exact p b
 written-is image text b exact p out w e =
     let g = written-sized (write exact p) out b (sym (packet-written exact out w) ∙ e) in
-    let x = write-encoded exact (w .images) (w .image-size) (λ t. g .small) .encoded in
-    rw (g .same) (record { same = refl; encoded = x; small = g .small; bytes = subst Bytes (write-saying exact exact p) (write-bytes exact x) })
+    let x = write-encoded exact (w .images) (w .image-size) (λ t. g .small) in
+    rw (g .same) (record { same = refl; encoded = x; small = g .small; bytes = encoded-bytes x })
 
 -- an acceptance of all of b, which is the packet p but for the lengths that its entries declare, with an image of that packet
 pub record ReadsBack (b : List ℕ) (exact : Bool) (p : Packet) (w : Whole) : Type 0 where
@@ -139,7 +137,7 @@ module _ {s : List ℕ} {v : Whole} (m : WasRead s v) (exact : Bool) where
       (record {
         packet = m .packet;
         before = m .encoded;
-        after = write-encoded exact (w .images) (w .image-size) (λ t. l) .encoded;
+        after = write-encoded exact (w .images) (w .image-size) (λ t. l);
         answer = refl;
         count = refl;
         fewer = fewer;
@@ -221,23 +219,21 @@ cuts-exactly image text b p out w e =
     let g = written-sized (write true p) out b (sym (packet-written true out w) ∙ e) in
     let f = packet-cut (w .images) (w .image-size) (g .small) in
     let m = write-encoded true (w .images) (w .image-size) (λ t. g .small) in
-    let x : Exact (write true p) = record { packet = saying true p; encoded = m .encoded; exact = m .exactly refl } in
-    let bs : Bytes (write true p) = subst Bytes (write-saying true true p) (write-bytes true (m .encoded)) in
-    let n = each-count (write true p) (itemsOf p) (f .entries) (f .each) in
+    let bs : Bytes (write true p) = encoded-bytes m in
     let all = shallow-append limit.levels (p .headers) (p .messages) (w .deep .0) (w .deep .1) in
     rw (g .same)
     (record {
-      exact = x;
+      exact = f .exact;
       entries = f .entries;
       cut = f .cut;
-      count = n;
-      each = λ k h. each-at (write true p) (itemsOf p) (f .entries) k (f .each) h .parts;
+      count = f .count;
+      each = f .each;
       reads = λ k room h r.
-          let o = each-at (write true p) (itemsOf p) (f .entries) k (f .each) h in
+          let o = f .each k h in
           entry-complete (write true p) bs (f .entries) (length (write true p)) (f .cut) k h (getD (itemsOf p) k noItem .value) room
-          (rw (o .parts .span) (o .encodes)) (shallow-at limit.levels (itemsOf p) k all (omega arith))
-          (rw (o .parts .span) (rw (o .parts .long) at r));
-      agrees = λ room a. agreement (write true p) room bs x a;
+          (rw (o .span) (f .encodes k h)) (shallow-at limit.levels (itemsOf p) k all (omega (arith, f .count)))
+          (rw (o .span) (rw (o .long) at r));
+      agrees = λ room a. agreement (write true p) room bs (f .exact) a;
     })
 
 -- the used bytes of s are a packet, and b is cut into its entries
@@ -269,32 +265,62 @@ write-answers image text exact room =
     answered image text exact room (λ w. let a = w .writing .answer in (a ≡ 0) ⊎ ((a ≡ 1) ⊎ ((a ≡ 4) ⊎ ((a ≡ 5) ⊎ (a ≡ 6)))))
     (inr (inl refl)) (inr (inr (inl refl))) (inr (inr (inr (inl refl)))) (inr (inr (inr (inr refl)))) (λ b h. inl refl)
 
--- A call is refused for a size, because the image is that of no packet or of one too deep, or for the room; else it puts out what the packet is written as.
+-- The writing is refused with an answer at a place exactly where the records before it begin a packet, and what stands there is not what is due and gives
+-- that answer.
+pub refusal : (image text : List ℕ) (exact : Bool) (a p : ℕ) → Bytes image → Stops (whole image (packet exact image text)) a p ↔ Refused image text a p
+refusal image text exact a p bs = (refused-by text image bs exact a p, refuses-by text image bs exact a p)
+
+-- An image is refused with one answer, at one place.
+pub one-refusal : (image text : List ℕ) (a b p q : ℕ) → Bytes image → Refused image text a p → Refused image text b q → (a ≡ b) × (p ≡ q)
+one-refusal image text a b p q bs x y =
+    stops-once (whole image (packet true image text)) a b p q (refuses-by text image bs true a p x) (refuses-by text image bs true b q y)
+
+-- The image of a packet is refused with 5 only, and only where a value of it is too deep.
+pub refused-image : (image text : List ℕ) (a u : ℕ) (p : Packet) → Bytes image → Refused image text a u → Images text p image
+    → (a ≡ 5) × (Within limit.levels p → ⊥)
+refused-image image text a u p bs x m =
+    stops-deep (image-puts text image {D = Within limit.levels p → ⊥} true m (λ l. l) .puts) a u (refuses-by text image bs true a u x)
+
+-- An image is that of a packet whose values are not too deep, or it is refused at a place.
+pub packet-or-refusal : (image text : List ℕ) → Bytes image
+    → ((p : Packet) × Images text p image × Within limit.levels p) ⊎ ((a : ℕ) × (u : ℕ) × Refused image text a u)
+packet-or-refusal image text bs =
+    ⊎-elim (λ e. inl (image-of text image bs true (e .0) (e .1))) (λ e. inr (e .0, e .1, refused-by text image bs true (e .0) (e .1) (e .2)))
+    (ends-or-stops (whole image (packet true image text)))
+
+-- A call is refused for a size, by what stands at a place of the image, or for the room; else it puts out what the packet is written as.
 pub write-reasons : (image text : List ℕ) (exact : Bool) (room : ℕ) → Bytes image → Outcome image text exact room (writeOf image text exact room)
-write-reasons = outcome
+write-reasons = reasons
+
+-- Within the limits, a call is refused with 5, or with 6, exactly where the image is so refused by what stands at a place.
+pub write-refusals : (image text : List ℕ) (exact : Bool) (room a : ℕ) → Bytes image → length text ≤ limit.bytes → length image ≤ limit.image
+    → (a ≡ 5) ⊎ (a ≡ 6) → writeOf image text exact room ≡ unwritten a ↔ (p : ℕ) × Refused image text a p
+write-refusals image text exact room a bs h i o =
+    call-refusals image text (whole image (packet exact image text)) room a (Refused image text a) (whole-refuses text image exact) h i o λ p.
+    refusal image text exact a p bs
 
 -- A write is accepted exactly where the image is that of a packet whose bytes are within the limit and the room.
 pub write-accepted : (image text : List ℕ) (exact : Bool) (room : ℕ) → Bytes image → writeOf image text exact room .writing .answer ≡ 0
     ↔ (p : Packet) × Writable image text p × (length (write exact p) ≤ limit.bytes) × (length (write exact p) ≤ room)
 write-accepted image text exact room bs = (
-  go (writeOf image text exact room) (outcome image text exact room bs),
+  go (writeOf image text exact room) (reasons image text exact room bs),
   λ x. ap (λ (w : Written). w .writing .answer) (packet-written exact room (x .1) ∙ sized-written (write exact (x .0)) room (x .2) (x .3)),
 )
   where
     go : (w : Written) → Outcome image text exact room w → w .writing .answer ≡ 0
         → (p : Packet) × Writable image text p × (length (write exact p) ≤ limit.bytes) × (length (write exact p) ≤ room)
-    go w (Outcome.text-over h) e = absurd (omega arith)
-    go w (Outcome.image-over h) e = absurd (omega arith)
-    go w (Outcome.no-packet h i f) e = absurd (omega arith)
-    go w (Outcome.too-deep h i f) e = absurd (omega arith)
-    go w (Outcome.output-over m h) e = absurd (omega arith)
-    go w (Outcome.no-room m h i) e = absurd (omega arith)
-    go w (Outcome.put-out {p} m h i) e = (p, m, h, i)
+    go w (OutcomeOf.text-over h) e = absurd (omega arith)
+    go w (OutcomeOf.image-over h) e = absurd (omega arith)
+    go w (OutcomeOf.wrong h i f) e = absurd (omega arith)
+    go w (OutcomeOf.too-deep h i f) e = absurd (omega arith)
+    go w (OutcomeOf.output-over m h) e = absurd (omega arith)
+    go w (OutcomeOf.no-room m h i) e = absurd (omega arith)
+    go w (OutcomeOf.put-out {x = p} m h i) e = (p, m, h, i)
 
 -- Within the limits, the image of a packet with a value that is too deep is refused with 5.
 pub write-deep : (image text : List ℕ) (exact : Bool) (p : Packet) (room : ℕ) → Bytes image → length text ≤ limit.bytes → length image ≤ limit.image
     → Images text p image → (Within limit.levels p → ⊥) → writeOf image text exact room ≡ unwritten 5
-write-deep image text exact p room bs h i m d = go (writeOf image text exact room) (outcome image text exact room bs)
+write-deep image text exact p room bs h i m d = go (writeOf image text exact room) (reasons image text exact room bs)
   where
     other : (q : Packet) → Writable image text q → ⊥
     other q w =
@@ -302,38 +328,15 @@ write-deep image text exact p room bs h i m d = go (writeOf image text exact roo
         d (within-said limit.levels exact p (subst (Within limit.levels) (sym e) (within-saying limit.levels exact q (w .deep))))
 
     go : (w : Written) → Outcome image text exact room w → w ≡ unwritten 5
-    go w (Outcome.text-over j) = absurd (omega arith)
-    go w (Outcome.image-over j) = absurd (omega arith)
-    go w (Outcome.no-packet j k f) = absurd (f p m)
-    go w (Outcome.too-deep j k f) = refl
-    go w (Outcome.output-over {p = q} n j) = absurd (other q n)
-    go w (Outcome.no-room {p = q} n j k) = absurd (other q n)
-    go w (Outcome.put-out {p = q} n j k) = absurd (other q n)
+    go w (OutcomeOf.text-over j) = absurd (omega arith)
+    go w (OutcomeOf.image-over j) = absurd (omega arith)
+    go w (OutcomeOf.wrong j k f) = let e = refused-image image text 6 _ p bs f m in absurd (omega (arith, e .0))
+    go w (OutcomeOf.too-deep j k f) = refl
+    go w (OutcomeOf.output-over {x = q} n j) = absurd (other q n)
+    go w (OutcomeOf.no-room {x = q} n j k) = absurd (other q n)
+    go w (OutcomeOf.put-out {x = q} n j k) = absurd (other q n)
 
--- A refused write counts 0 and leaves the output as it was.
-pub write-refused : (image text : List ℕ) (exact : Bool) (out : List ℕ) (r : Writing) (left : List ℕ) → PermitsWrite image text exact out r left → r .answer ≢ 0
-    → (r .count ≡ 0) × (left ≡ out)
-write-refused image text exact out r left p =
-    answered image text exact (length out) (λ w. r ≡ w .writing → left ≡ onto (w .bytes) out → r .answer ≢ 0 → (r .count ≡ 0) × (left ≡ out))
-    (none 1) (none 4) (none 5) (none 6) (λ b h e f ne. absurd (ne (ap (λ (q : Writing). q .answer) e))) (p .returns) (p .leaves)
-  where
-    none : (a : ℕ) → r ≡ unwritten a .writing → left ≡ out → r .answer ≢ 0 → (r .count ≡ 0) × (left ≡ out)
-    none a e f ne = (ap (λ (q : Writing). q .count) e, f)
-
--- An accepted write changes as many bytes as it counts, at the front of the output, and no other.
-pub write-kept : (image text : List ℕ) (exact : Bool) (out : List ℕ) (r : Writing) (left : List ℕ) → PermitsWrite image text exact out r left → r .answer ≡ 0
-    → (r .count ≤ length out) × (length left ≡ length out) × (drop (r .count) left ≡ drop (r .count) out)
-write-kept image text exact out r left p =
-    answered image text exact (length out) (λ w. r ≡ w .writing → left ≡ onto (w .bytes) out → r .answer ≡ 0 → Kept)
-    (none 1 λ e. omega arith) (none 4 λ e. omega arith) (none 5 λ e. omega arith) (none 6 λ e. omega arith)
-    (λ b h e f z. rw (e, f) (
-      h,
-      omega (arith, length-append b (drop (length b) out), length-drop (length b) out),
-      drop-append-seam b (drop (length b) out),
-    )) (p .returns) (p .leaves)
-  where
-    Kept : Type 0
-    Kept = (r .count ≤ length out) × (length left ≡ length out) × (drop (r .count) left ≡ drop (r .count) out)
-
-    none : (a : ℕ) → a ≢ 0 → r ≡ unwritten a .writing → left ≡ out → r .answer ≡ 0 → Kept
-    none a ne e f z = absurd (ne (sym (ap (λ (q : Writing). q .answer) e) ∙ z))
+-- A refused write counts 0 and has no byte of an output; an accepted one counts the bytes that it has of it, and they have room.
+pub write-settled : (image text : List ℕ) (exact : Bool) (room : ℕ) → Settled room (writeOf image text exact room)
+write-settled image text exact room =
+    answered image text exact room (Settled room) (refused 1 λ e. omega arith) (refused 4 λ e. omega arith) (refused 5 λ e. omega arith) (refused 6 λ e. omega arith) put-out

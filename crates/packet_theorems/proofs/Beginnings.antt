@@ -1,0 +1,145 @@
+-- A proper beginning of a packet is refused with 2: a refusal with another answer stays where bytes are added behind.
+use Prim.Native.Nat.{ℕ, _≤_}
+use mathlib.Core.Path.{_≡_, refl, sym, ap, _∙_}
+use mathlib.Core.Logic.{_≢_}
+use mathlib.Core.List.{List, [], _∷_, _++_, append-nil, append-assoc}
+use mathlib.Core.Bool.{Bool, true, false}
+use native.Mathlib.Omega.{arith}
+use lib.ListN.{length, length-append}
+use lib.Dec.{eqb}
+use borrow.Author.Tests.{eqb-true, eqb-false}
+use Rattle.wire.specs.Number.{Bytes}
+use Rattle.wire.specs.Limit as limit
+use Rattle.wire.proofs.Stands.{Here, bytes-left}
+use Rattle.image.specs.Whole.{bytes, refused}
+use Rattle.amf0_theorems.proofs.Leading.{longer}
+use Rattle.amf0_theorems.proofs.Refused.{either, ended-stop, still-refused}
+use Rattle.amf0_theorems.specs.Refusal.{Field}
+use Rattle.packet.specs.Packet.{Label, Packet, Encoded}
+use Rattle.packet.specs.Shown.{Within}
+use Rattle.packet.specs.Reading.{packetAt, incompleteOf, wholeOf}
+use Rattle.packet.specs.declared.entry.Found.the-variants as Found
+use Rattle.packet.specs.Entry.{stops, cutOf, listOf, uncut, foundIn, readEntry}
+use Rattle.packet_theorems.specs.Cuts.{Slice, Cuts}
+use Rattle.packet_theorems.specs.Refusal.{Way, whole, cut, LeadsEntries, IsPacket, LeadsPacket, Seven, RefusedPacket, RefusedCut}
+use Rattle.packet_theorems.proofs.Parts.{Part, goes, halts, goes-halts, Standing, Plain}
+use Rattle.packet_theorems.proofs.Ways.{Goes, packetBy, TellsPacket, way-told, way-halts, way-ends}
+use Rattle.packet_theorems.proofs.Taken.{roomy}
+use Rattle.packet_theorems.proofs.PacketBytes.{encoded-bytes}
+use Rattle.packet_theorems.proofs.CutExactly.{cuts-packet}
+use Rattle.packet_theorems.proofs.Theorems.{incomplete-room-exact}
+use Rattle.packet_theorems.proofs.Reasons.{readable-packet}
+use Rattle.packet_theorems.proofs.Refusals.{spanBy, span-goes, cut-refused-exactly, valueBy, value-goes, packet-refused}
+
+-- ---- bytes added behind
+
+-- the fields of values lead on where bytes are added behind one that is there
+record More (w : Way) : Type 0 where
+  inside : (r q x : List ℕ) (f : Field) → 1 ≤ length r → w .Inside r x f → w .Inside (r ++ q) x f
+
+version-more : (r q : List ℕ) → 1 ≤ length r → ((z : List ℕ) → r ≢ 3 ∷ z) → (z : List ℕ) → r ++ q ≢ 3 ∷ z
+version-more [] q h t z e = omega arith
+version-more (b ∷ r) q h t z e = t r cc
+
+seven-more : {s : List ℕ} (q : List ℕ) → Seven s → Seven (s ++ q)
+seven-more q Seven.begins = Seven.begins
+
+module _ {w : Way} (more : More w) (q : List ℕ) where
+  entries-more : {Kind : Label → Type 0} {r x : List ℕ} {f : Field} {k : ℕ} → 1 ≤ length r → LeadsEntries w Kind r k x f → LeadsEntries w Kind (r ++ q) k x f
+  entries-more h (LeadsEntries.label l) = LeadsEntries.label l
+  entries-more h (LeadsEntries.declared k e) = LeadsEntries.declared k e
+  entries-more {r} {f} h (LeadsEntries.inside {y} k e d i) = LeadsEntries.inside k e d (more .inside r q y f h i)
+  entries-more h (LeadsEntries.next k e d y z) = LeadsEntries.next k e d y (entries-more h z)
+
+  -- fields lead on where bytes are added behind one that is there
+  packet-more : {r x : List ℕ} {f : Field} → 1 ≤ length r → LeadsPacket w r x f → LeadsPacket w (r ++ q) x f
+  packet-more h LeadsPacket.zero = LeadsPacket.zero
+  packet-more {r} h (LeadsPacket.version t) = LeadsPacket.version (version-more r q h t)
+  packet-more h LeadsPacket.header-count = LeadsPacket.header-count
+  packet-more h (LeadsPacket.headers l y) = LeadsPacket.headers l (entries-more h y)
+  packet-more h (LeadsPacket.message-count l y) = LeadsPacket.message-count l y
+  packet-more h (LeadsPacket.messages l y m z) = LeadsPacket.messages l y m (entries-more h z)
+
+  -- a refusal with another answer than 2 stays
+  refused-more : {s : List ℕ} {a p : ℕ} → a ≢ 2 → RefusedPacket w s a p → RefusedPacket w (s ++ q) a p
+  refused-more n (RefusedPacket.version-3 v) = RefusedPacket.version-3 (seven-more q v)
+  refused-more n (RefusedPacket.field u) = RefusedPacket.field (still-refused q (λ r x f h l. packet-more h l) u n)
+
+-- ---- a proper beginning
+
+-- over the way: a proper beginning of what is gone over as a packet is refused with 2
+module _ {w : Way} (more : More w) (s r : List ℕ) (bs : Bytes (s ++ r)) (step next : ℕ → ℕ → Part) (g : Goes w s step) (h : Goes w (s ++ r) next) where
+  way-begun : 1 ≤ length r → IsPacket w (s ++ r) → (p : ℕ) × RefusedPacket w s 2 p
+  way-begun l i = go (packetBy s step) (way-told s (bytes-left s r bs) step g)
+    where
+      whole-row : packetBy (s ++ r) next ≡ goes 0 (length (s ++ r))
+      whole-row = way-ends (s ++ r) bs next h (s ++ r) [] i (record { same = sym (append-nil (s ++ r)) })
+
+      -- no packet ends inside
+      inner : {v n : ℕ} → Standing (Plain (IsPacket w)) s 0 v n → ⊥
+      inner d = front (d .stands)
+        where
+          front : {v : ℕ} → Plain (IsPacket w) v (d .row) → ⊥
+          front (Plain.plain x) =
+              let here : Here (s ++ r) 0 (d .row) (d .rest ++ r) = record { same = ap (λ y. y ++ r) (d .here .same) ∙ append-assoc (d .row) (d .rest) r } in
+              let e : goes 0 (length (d .row)) ≡ goes 0 (length (s ++ r)) = sym (way-ends (s ++ r) bs next h (d .row) (d .rest ++ r) x here) ∙ whole-row in
+              let same : length (d .row) ≡ length (s ++ r) = cc in
+              omega (arith, length-append s r, ap length (d .here .same), length-append (d .row) (d .rest))
+
+      two : (a p : ℕ) (t : Bool) → eqb a 2 ≡ t → RefusedPacket w s a p → (p : ℕ) × RefusedPacket w s 2 p
+      two a p true t q = (p, rw (eqb-true a 2 t) at q)
+      two a p false t q = goes-halts (sym whole-row ∙ way-halts (s ++ r) bs next h (refused-more more r (eqb-false a 2 t) q))
+
+      go : (o : Part) → TellsPacket w s o → (p : ℕ) × RefusedPacket w s 2 p
+      go (goes v n) d = absurd (inner d)
+      go (halts a p) q = two a p (eqb a 2) refl q
+
+-- ---- the cut
+
+module _ {hs ms : List Slice} (s r : List ℕ) (bs : Bytes (s ++ r)) (exact : Cuts hs ms (s ++ r)) (proper : 1 ≤ length r) (small : length s ≤ limit.bytes) where
+  -- the cut of a proper beginning
+  cut-begun : (p : ℕ) × (cutOf s ≡ stops 2 p)
+  cut-begun =
+      let more : More cut = record { inside = λ r q x f h i. absurd i } in
+      let ss = bytes-left s r bs in
+      let packet = cuts-packet (s ++ r) .1 (hs, ms, exact) in
+      let b = way-begun more s r bs (spanBy s) (spanBy (s ++ r)) (span-goes s ss) (span-goes (s ++ r) bs) proper packet in
+      (b .0, cut-refused-exactly s 2 (b .0) ss .1 (RefusedCut.not-cut small (b .1)))
+
+  -- A proper beginning of a packet that its declared lengths cut exactly is, within the limit, refused with 2 by `cut`, whatever the list.
+  pub cut-beginning : (room : ℕ) → listOf s room ≡ uncut 2
+  unfolding listOf
+  cut-beginning room = rw (cut-begun .1)
+
+  -- So it is by `nth`.
+  pub nth-beginning : (number : ℕ) → (p : ℕ) × (foundIn (cutOf s) number ≡ Found.Stop 2 p)
+  nth-beginning number = (cut-begun .0, rw (cut-begun .1))
+
+  -- And by `parse_entry`.
+  pub entry-beginning : (number room : ℕ) → readEntry s number room ≡ refused 2
+  unfolding readEntry
+  entry-beginning number room = rw (cut-begun .1)
+
+-- ---- the whole reading, over what is proved of values
+
+module _ (p : Packet) (s r : List ℕ) (room : ℕ) (packet : Encoded p (s ++ r)) (deep : Within limit.levels p) (proper : 1 ≤ length r)
+    (small : length s ≤ limit.bytes) where
+  -- A proper beginning of a packet whose values are not too deep is, within the limit and where it is not refused for room, refused with 2.
+  pub incomplete-beginning : incompleteOf s room .reading .answer ≢ 4 → incompleteOf s room ≡ refused 2
+  incomplete-beginning n =
+      let more : More whole = record { inside = λ r q x f h i. longer q h i } in
+      let bs = encoded-bytes packet in
+      let ss = bytes-left s r bs in
+      let b =
+      way-begun more s r bs (valueBy s) (valueBy (s ++ r)) (value-goes s ss) (value-goes (s ++ r) bs) proper
+      (readable-packet (s ++ r) .0 (record { packet = p; encoded = packet; within = deep }))
+      in
+      let fits : length (bytes (packetAt s)) ≤ room =
+      either (length (bytes (packetAt s))) room (λ i. i) (λ i. absurd (n (incomplete-room-exact s room small .1 i)))
+      in
+      roomy s room small fits ∙ ended-stop (packetAt s) (bytes (packetAt s)) 2 (b .0) (packet-refused s 2 (b .0) ss .1 (b .1))
+
+  -- So it is by the whole reading.
+  pub parse-beginning : wholeOf s room .reading .answer ≢ 4 → wholeOf s room ≡ refused 2
+  unfolding wholeOf
+  parse-beginning n = rw (incomplete-beginning λ four. n (rw four))

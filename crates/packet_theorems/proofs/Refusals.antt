@@ -1,0 +1,381 @@
+-- The whole reading of a packet and the cut are refused exactly where, and as, the grammar of refusals says.
+use Prim.Native.Nat.{ℕ, zero, suc, _+_, _-_, _≤_, _<_}
+use mathlib.Core.Path.{_≡_, refl, sym, ap, _∙_}
+use mathlib.Core.Logic.{_↔_}
+use mathlib.Core.List.{List, [], _∷_, _++_}
+use mathlib.Core.Bool.{Bool, true, false}
+use native.Mathlib.Omega.{arith}
+use lib.ListN.{length, take, drop, length-append, length-drop}
+use lib.Dec.{leb}
+use borrow.Author.Tests.{le-leb, lt-leb, leb-true, leb-false}
+use Rattle.wire.specs.Choice.{pick}
+use Rattle.wire.specs.Number.{digits, number, Bytes}
+use Rattle.wire.specs.Limit as limit
+use Rattle.wire.specs.Field.{to, bytesAt, u16At, got16, pastTag}
+use Rattle.wire.specs.declared.cursor.Tag.{Tag}
+use Rattle.wire.specs.declared.cursor.Tag.the-variants as Tag
+use Rattle.wire.proofs.Laws.{picked}
+use Rattle.wire.proofs.Stands.{Here, Stood, inside, stood, number-stood, join, length-bytes, go16, cut as front}
+use Rattle.image.specs.Due.{Due, end, stop, due, _>>=_, Ends, Stops}
+use Rattle.amf0.specs.Reading.{value}
+use Rattle.amf0_theorems.proofs.Refusals.{value-refused}
+use Rattle.amf0_theorems.specs.Refusal.{Field, Refuses}
+use Rattle.amf0_theorems.specs.Refusal.Field.{some, count}
+use Rattle.amf0_theorems.proofs.Telling as telling
+use Rattle.amf0_theorems.proofs.Sound as soundness
+use Rattle.packet.specs.declared.head.Entry.{Entry}
+use Rattle.packet.specs.declared.head.Head.{Head}
+use Rattle.packet.specs.declared.head.Head.the-variants as Head
+use Rattle.packet.specs.Head.{versionAt, headAt, gotHead}
+use Rattle.packet.specs.Packet.{Label}
+use Rattle.packet.specs.Reading.{entriesAt, packetAt}
+use Rattle.packet.specs.Entry.{Cut, found, stops, gotCut, entryAt, walk, cutOf}
+use Rattle.packet_theorems.specs.Refusal.{Value, whole, cut, IsPacket, RefusedPacket, LeftOver, RefusedCut}
+use Rattle.packet_theorems.proofs.Heads.{all-here}
+use Rattle.packet_theorems.proofs.Parts.{Part, goes, halts, _then_, then-then, then-same, goes-halts, Standing, Tells, Follows, Plain, plain, Both, LeadsBoth, in-turn, turned, Only, only-refused, one-field, Number, numberBy, number-follows}
+use Rattle.packet_theorems.proofs.Labels.{Kinds, headers, messages}
+use Rattle.packet_theorems.proofs.Ways.{Body, LeadsBody, Goes, entriesBy, versionBy, packetBy, TellsPacket, way-told, way-halts, way-ends}
+
+-- ---- fields, as the readings have them
+
+-- f is how a result ends; `fail` are the results that are refused
+module _ {A : Type 0} (f : A → Part) (fail : ℕ → ℕ → A) (same : (a p : ℕ) → f (fail a p) ≡ halts a p) (s : List ℕ) where
+  number-end : (at : ℕ) (k : ℕ → ℕ → A) (g : ℕ → ℕ → Part) → ((n q : ℕ) → f (k n q) ≡ g n q) → f (got16 fail (u16At s at) k) ≡ numberBy 2 s at then g
+  number-end at k g each =
+      go16 (λ x. f x ≡ numberBy 2 s at then g) fail s at k
+      (λ i. rw (le-leb (at + 2) (length s) i) (each (number (bytesAt 2 s at)) (at + 2))) (λ i. rw (lt-leb (at + 2) (length s) i) (same 2 at))
+
+  version-end : (k : ℕ → A) (g : ℕ → Part) → ((p : ℕ) → f (k p) ≡ g p) → f (pastTag fail (versionAt s) k) ≡ versionBy s then λ v p. g p
+  version-end k g each = go (versionAt s)
+    where
+      go : (x : Tag) → f (pastTag fail x k) ≡ pastTag halts x (λ p. goes 0 p) then λ v p. g p
+      go (Tag.Past c) = each (c .at)
+      go (Tag.Stop a p) = same a p
+
+  head-end : {kind : ℕ} {Kind : Label → Type 0} (m : Kinds kind Kind) (at : ℕ) (k : Entry → ℕ → A) (g : ℕ → ℕ → Part)
+      → ((e : Entry) (v : ℕ) → f (k e v) ≡ g (e .length) v) → f (gotHead fail (headAt kind s at) k) ≡ m .labelBy s at then λ v q. numberBy 4 s q then g
+  head-end {kind} m at k g each = go (headAt kind s at) ∙ m .head s g at
+    where
+      go : (x : Head) → f (gotHead fail x k) ≡ gotHead halts x λ e v. g (e .length) v
+      go (Head.Got e c) = each e (c .at)
+      go (Head.Stop a p) = same a p
+
+-- ---- the whole reading
+
+-- how a reading ends
+abbrev endOf : Due → Part
+endOf (end n) = goes 0 n
+endOf (stop a p) = halts a p
+endOf (due r p d) = endOf d
+
+end-bind : (d : Due) (k : ℕ → Due) → endOf (d >>= k) ≡ endOf d then λ v n. endOf (k n)
+end-bind (end n) k = refl
+end-bind (stop a p) k = refl
+end-bind (due r p d) k = end-bind d k
+
+-- what holds of either end holds of it
+end-either : (P : Part → Type 0) (d : Due) → ((n : ℕ) → Ends d n → P (goes 0 n)) → ((a p : ℕ) → Stops d a p → P (halts a p)) → P (endOf d)
+end-either P (end n) f g = f n refl
+end-either P (stop a p) f g = g a p (refl, refl)
+end-either P (due r p d) f g = end-either P d f g
+
+end-ends : (d : Due) (n : ℕ) → Ends d n → endOf d ≡ goes 0 n
+end-ends (end m) n t = rw t
+end-ends (stop b q) n t = absurd t
+end-ends (due r q d) n t = end-ends d n t
+
+end-stops : (d : Due) (a p : ℕ) → Stops d a p ↔ endOf d ≡ halts a p
+end-stops d a p = (to d, from d)
+  where
+    to : (d : Due) → Stops d a p → endOf d ≡ halts a p
+    to (end n) t = absurd t
+    to (stop b q) t = rw (t .0, t .1)
+    to (due r q d) t = to d t
+
+    from : (d : Due) → endOf d ≡ halts a p → Stops d a p
+    from (end n) e = goes-halts e
+    from (stop b q) e = (cc, cc)
+    from (due r q d) e = from d e
+
+-- a value, whatever length was declared
+abbrev pub valueBy : List ℕ → ℕ → ℕ → Part
+valueBy s d v = endOf (value limit.levels s v)
+
+-- entries, and the packet, end as their parts in turn do
+module _ {kind : ℕ} {Kind : Label → Type 0} (k : Kinds kind Kind) (s : List ℕ) where
+  entries-end : (n at : ℕ) → endOf (entriesAt kind s n at) ≡ entriesBy k s (valueBy s) n at
+  unfolding entriesAt entriesBy
+  entries-end zero at = refl
+  entries-end (suc n) at =
+      head-end endOf stop (λ a p. refl) s k at _ (λ d v. valueBy s d v then λ u q. entriesBy k s (valueBy s) n q)
+      (λ e v. end-bind (value limit.levels s v) (entriesAt kind s n) ∙ then-same (endOf (value limit.levels s v)) _ _ λ u q. entries-end n q)
+      ∙ then-same (k .labelBy s at) _ _ λ v q. sym (then-then (numberBy 4 s q) (valueBy s) λ u e. entriesBy k s (valueBy s) n e)
+
+packet-end : (s : List ℕ) → endOf (packetAt s) ≡ packetBy s (valueBy s)
+unfolding packetAt packetBy
+packet-end s =
+    version-end endOf stop (λ a p. refl) s _ _ λ p.
+    number-end endOf stop (λ a p. refl) s p _ _ λ h q.
+    end-bind (entriesAt 0x31 s h q) _
+    ∙ rw (entries-end headers s h q)
+    (then-same (entriesBy headers s (valueBy s) h q) _ _ λ u e. number-end endOf stop (λ a p. refl) s e _ _ λ m f. entries-end messages s m f)
+
+-- ---- the cut
+
+-- how a cut ends
+abbrev cutEnd : Cut → Part
+cutEnd (found es z) = goes 0 z
+cutEnd (stops a p) = halts a p
+
+-- as many bytes as were declared; else the length is refused
+abbrev pub spanBy : List ℕ → ℕ → ℕ → Part
+spanBy s d v = pick (leb (v + d) (length s)) (goes 0 (v + d)) (halts 2 (v - 4))
+
+-- a walk ends as its parts in turn do
+module _ {kind : ℕ} {Kind : Label → Type 0} (k : Kinds kind Kind) (s : List ℕ) where
+  walk-end : (n at : ℕ) → cutEnd (walk kind s n at) ≡ entriesBy k s (spanBy s) n at
+  unfolding walk entryAt entriesBy
+  walk-end zero at = refl
+  walk-end (suc n) at =
+      head-end (λ x. cutEnd (gotHead stops x (λ e q. gotCut (walk kind s n q) λ es z. found (e ∷ es) z))) Head.Stop (λ a p. refl) s k at _
+      (λ d v. spanBy s d v then λ u q. entriesBy k s (spanBy s) n q)
+      (λ e v. one (walk-end n) e v (leb (v + e .length) (length s)))
+      ∙ then-same (k .labelBy s at) _ _ λ v q. sym (then-then (numberBy 4 s q) (spanBy s) λ u e. entriesBy k s (spanBy s) n e)
+    where
+      rest : (e : Entry) (x : Cut) (o : Part) → cutEnd x ≡ o → cutEnd (gotCut x λ es z. found (e ∷ es) z) ≡ o
+      rest e (found es z) o q = q
+      rest e (stops a p) o q = q
+
+      one : ((q : ℕ) → cutEnd (walk kind s n q) ≡ entriesBy k s (spanBy s) n q) → (e : Entry) (v : ℕ) (t : Bool)
+          → cutEnd (gotHead stops (pick t (Head.Got e (to (v + e .length))) (Head.Stop 2 (v - 4))) (λ e q. gotCut (walk kind s n q) λ es z. found (e ∷ es) z))
+          ≡ pick t (goes 0 (v + e .length)) (halts 2 (v - 4)) then λ u q. entriesBy k s (spanBy s) n q
+      one behind e v true = rest e (walk kind s n (v + e .length)) _ (behind (v + e .length))
+      one behind e v false = refl
+
+-- a cut goes on from where one ends
+cut-bind : (x : Cut) (k : List Entry → ℕ → Cut) (g : ℕ → Part) → ((es : List Entry) (z : ℕ) → cutEnd (k es z) ≡ g z) → cutEnd (gotCut x k) ≡ cutEnd x then λ v z. g z
+cut-bind (found es z) k g each = each es z
+cut-bind (stops a p) k g each = refl
+
+-- bytes left over are refused
+abbrev lastBy : List ℕ → ℕ → Part
+lastBy s z = pick (leb (length s) z) (goes 0 z) (halts 3 z)
+
+-- what comes behind a packet comes behind its messages
+packet-then : (s : List ℕ) (step k : ℕ → ℕ → Part)
+    → packetBy s step then k
+    ≡ versionBy s then λ v p.
+    numberBy 2 s p then λ h q.
+    entriesBy headers s step h q then λ u e.
+    numberBy 2 s e then λ m f.
+    entriesBy messages s step m f then k
+unfolding packetBy
+packet-then s step k =
+    then-then (versionBy s) _ k
+    ∙ then-same (versionBy s) _ _ λ v p.
+    then-then (numberBy 2 s p) _ k
+    ∙ then-same (numberBy 2 s p) _ _ λ h q.
+    then-then (entriesBy headers s step h q) _ k
+    ∙ then-same (entriesBy headers s step h q) _ _ λ u e. then-then (numberBy 2 s e) (λ m f. entriesBy messages s step m f) k
+
+-- so does a cut, within the limit
+cut-end : (s : List ℕ) → length s ≤ limit.bytes → cutEnd (cutOf s) ≡ packetBy s (spanBy s) then λ v z. lastBy s z
+unfolding cutOf
+cut-end s l =
+    rw (le-leb (length s) limit.bytes l)
+    (version-end cutEnd stops (λ a p. refl) s _ _ (λ p.
+    number-end cutEnd stops (λ a p. refl) s p _ _ λ h q.
+    cut-bind (walk 0x31 s h q) _ (λ e. numberBy 2 s e then λ m f. entriesBy messages s (spanBy s) m f then λ v z. lastBy s z) (λ hs e.
+    number-end cutEnd stops (λ a p. refl) s e _ _ λ m f.
+    cut-bind (walk 0x32 s m f) _ (lastBy s) (λ ms z. last hs ms z (leb (length s) z))
+    ∙ ap (λ o. o then λ v z. lastBy s z) (walk-end messages s m f))
+    ∙ ap (λ o. o then λ v e. numberBy 2 s e then λ m f. entriesBy messages s (spanBy s) m f then λ v z. lastBy s z) (walk-end headers s h q))
+    ∙ sym (packet-then s (spanBy s) λ v z. lastBy s z))
+  where
+    last : (hs ms : List Entry) (z : ℕ) (t : Bool) → cutEnd (pick t (found (hs ++ ms) z) (stops 3 z)) ≡ pick t (goes 0 z) (halts 3 z)
+    last hs ms z true = refl
+    last hs ms z false = refl
+
+-- a length that is whole, and as many bytes
+span-follows : (s : List ℕ) → Bytes s → (q : ℕ) → Follows (Plain (Body cut)) (LeadsBody cut) s q (numberBy 4 s q then spanBy s)
+span-follows s bs q = turned (λ v x b. b) (λ v x r h b. b) to-leads from-leads (one-field {f = count} ends halt told)
+  where
+    to-leads : (r x : List ℕ) (f : Field) → Only count x f → LeadsBody cut r x f
+    to-leads r x f Only.only = LeadsBody.size
+
+    from-leads : (r x : List ℕ) (f : Field) → LeadsBody cut r x f → Only count x f
+    from-leads r x f LeadsBody.size = Only.only
+    from-leads r x f (LeadsBody.inside l i) = absurd i
+
+    ends : (v : ℕ) (x r : List ℕ) → Plain (Body cut) v x → Here s q x r → numberBy 4 s q then spanBy s ≡ goes v (q + length x)
+    ends v x r (Plain.plain (Body.body {d} {y} l e)) h =
+        let o : numberBy 4 s q ≡ goes d (q + 4) =
+        number-follows 4 s bs q (omega arith) .ends d (digits 4 d) (y ++ r) (Number.is l) (front (digits 4 d) y h)
+        in
+        let i = inside h (omega arith) in
+        rw (o, le-leb (q + 4 + d) (length s) (omega arith)) (ap (goes 0) (omega arith))
+
+    halt : (a : ℕ) → Refuses count (drop q s) a → numberBy 4 s q then spanBy s ≡ halts a q
+    halt a (Refuses.short l) = rw (lt-leb (q + 4) (length s) (omega (arith, length-drop q s)))
+    halt a (Refuses.too-few l m) =
+        let i : length s < q + 4 + number (bytesAt 4 s q) = omega (arith, length-drop q s) in
+        rw (le-leb (q + 4) (length s) (omega (arith, length-drop q s)), lt-leb (q + 4 + number (bytesAt 4 s q)) (length s) i) (ap (halts 2) (omega arith))
+
+    stands : (d : ℕ) → Stood 4 s q d → q + 4 + d ≤ length s → Standing (Plain (Body cut)) s q 0 (q + 4 + d)
+    stands d m l =
+        let y = bytesAt d s (q + 4) in
+        let long : length y ≡ d = length-bytes d s (q + 4) l in
+        record {
+          row = digits 4 d ++ y;
+          rest = drop (q + 4 + d) s;
+          stands = plain (Body.body (m .bound) (sym long));
+          here = join (m .here) refl (stood d s (q + 4));
+          next = simp length-append (omega arith);
+        }
+
+    told : Tells (Plain (Body cut)) (λ r. Only count) s q (numberBy 4 s q then spanBy s)
+    told =
+        let P : Part → Type 0 = Tells (Plain (Body cut)) (λ r. Only count) s q in
+        let n : ℕ = number (bytesAt 4 s q) in
+        picked (λ o. P (o then spanBy s)) (leb (q + 4) (length s)) _ _
+        (λ t.
+        let i = leb-true (q + 4) (length s) t in
+        picked P (leb (q + 4 + n) (length s)) _ _
+        (λ u. stands n (number-stood s bs q 4 i) (leb-true (q + 4 + n) (length s) u))
+        (λ u.
+        let j = leb-false (q + 4 + n) (length s) u in
+        let back : q + 4 - 4 ≡ q = omega arith in
+        let enough : 4 ≤ length (drop q s) = omega (arith, length-drop q s) in
+        let few : length (drop q s) < 4 + number (take 4 (drop q s)) = omega (arith, length-drop q s) in
+        rw back (only-refused s q (Refuses.too-few enough few))))
+        (λ t.
+        let i = leb-false (q + 4) (length s) t in
+        let few : length (drop q s) < 4 = omega (arith, length-drop q s) in
+        only-refused s q (Refuses.short few))
+
+-- the cut goes over values as its way has it
+pub span-goes : (s : List ℕ) → Bytes s → Goes cut s (spanBy s)
+span-goes s bs = record { follows = span-follows s bs }
+
+cut-stops : (x : Cut) (a p : ℕ) → cutEnd x ≡ halts a p → x ≡ stops a p
+cut-stops (found es z) a p e = goes-halts e
+cut-stops (stops b q) a p e = cc
+
+cut-over : (s : List ℕ) → limit.bytes < length s → cutOf s ≡ stops 1 0
+unfolding cutOf
+cut-over s l = rw (lt-leb (length s) limit.bytes l)
+
+-- bytes are left over behind x, which ends before s does
+pub left-behind : (P : List ℕ → Type 0) (s x r : List ℕ) → P x → s ≡ x ++ r → length x < length s → LeftOver P s 3 (length x)
+left-behind P s x [] i e l = absurd (omega (arith, ap length e, length-append x []))
+left-behind P s x (b ∷ r) i e l = rw e (LeftOver.behind b r i)
+
+-- bytes left over refuse the cut
+cut-left : {s : List ℕ} {a p : ℕ} → Bytes s → length s ≤ limit.bytes → LeftOver (IsPacket cut) s a p → cutEnd (cutOf s) ≡ halts a p
+cut-left bs l (LeftOver.behind {x} b r i) =
+    cut-end (x ++ (b ∷ r)) l
+    ∙ rw (
+      way-ends (x ++ (b ∷ r)) bs (spanBy (x ++ (b ∷ r))) (span-goes (x ++ (b ∷ r)) bs) x (b ∷ r) i (record { same = refl }),
+      lt-leb (length (x ++ (b ∷ r))) (length x) (omega (arith, length-append x (b ∷ r))),
+    )
+
+-- what an end of a cut says
+abbrev TellsCut : List ℕ → Part → Type 0
+TellsCut s (goes v n) = IsPacket cut s
+TellsCut s (halts a p) = RefusedCut s a p
+
+cut-tells : (s : List ℕ) → Bytes s → TellsCut s (cutEnd (cutOf s))
+cut-tells s bs = within (leb (length s) limit.bytes) refl
+  where
+    left : {v n : ℕ} (x r : List ℕ) → Plain (IsPacket cut) v x → s ≡ x ++ r → n ≡ length x → n < length s → LeftOver (IsPacket cut) s 3 n
+    left x r (Plain.plain i) e n l = rw n (left-behind (IsPacket cut) s x r i e (omega arith))
+
+    all : {v : ℕ} (x r : List ℕ) → Plain (IsPacket cut) v x → Here s 0 x r → length x ≡ length s → IsPacket cut s
+    all x r (Plain.plain i) h l = rw (all-here h l) at i
+
+    last : length s ≤ limit.bytes → (o : Part) → TellsPacket cut s o → TellsCut s (o then λ v z. lastBy s z)
+    last l (halts a p) q = RefusedCut.not-cut l q
+    last l (goes v z) d = picked (TellsCut s) (leb (length s) z) _ _
+        (λ t.
+        let long : length (d .row) ≡ length s = omega (arith, leb-true (length s) z t, d .next, ap length (d .here .same), length-append (d .row) (d .rest)) in
+        all (d .row) (d .rest) (d .stands) (d .here) long) λ t.
+        RefusedCut.left-over l (left (d .row) (d .rest) (d .stands) (d .here .same) (omega (arith, d .next)) (leb-false (length s) z t))
+
+    within : (t : Bool) → leb (length s) limit.bytes ≡ t → TellsCut s (cutEnd (cutOf s))
+    within true t =
+        let l = leb-true (length s) limit.bytes t in
+        rw (cut-end s l) (last l (packetBy s (spanBy s)) (way-told s bs (spanBy s) (span-goes s bs)))
+    within false t = let l = leb-false (length s) limit.bytes t in rw (cut-over s l) (RefusedCut.over-limit l)
+
+-- what is cut is gone over as a packet
+pub cut-packet : (s : List ℕ) (es : List Entry) (n : ℕ) → Bytes s → cutOf s ≡ found es n → IsPacket cut s
+cut-packet s es n bs e = rw e at (cut-tells s bs)
+
+-- The cut is refused exactly where the limit, version 3, a field or bytes left over refuse the packet, and with that answer and place.
+pub cut-refused-exactly : (s : List ℕ) (a p : ℕ) → Bytes s → cutOf s ≡ stops a p ↔ RefusedCut s a p
+cut-refused-exactly s a p bs = (λ e. rw e at (cut-tells s bs), λ q. cut-stops (cutOf s) a p (from q))
+  where
+    from : {a p : ℕ} → RefusedCut s a p → cutEnd (cutOf s) ≡ halts a p
+    from (RefusedCut.over-limit l) = ap cutEnd (cut-over s l)
+    from (RefusedCut.not-cut l q) = cut-end s l ∙ rw (way-halts s bs (spanBy s) (span-goes s bs) q)
+    from (RefusedCut.left-over l x) = cut-left bs l x
+
+-- ---- the whole reading, over what is proved of values
+
+-- a value is gone over as AMF 0 has it
+value-follows : (s : List ℕ) → Bytes s → (d at : ℕ) → at ≤ length s → Follows (Plain Value) (whole .Inside) s at (valueBy s d at)
+value-follows s bs d at l =
+    record {
+      ends = ends;
+      stops = λ a p q. end-stops (value limit.levels s at) a p .0 (value-refused limit.levels s at a p bs l .1 q);
+      told =
+          end-either (Tells (Plain Value) (whole .Inside) s at) (value limit.levels s at) stands λ a p. value-refused limit.levels s at a p bs l .0;
+    }
+  where
+    ends : (v : ℕ) (x r : List ℕ) → Plain Value v x → Here s at x r → valueBy s d at ≡ goes v (at + length x)
+    ends v x r (Plain.plain y) h =
+        end-ends (value limit.levels s at) (at + length x) (telling.reads limit.levels s r at (y .encodes) h (y .deep) .ends)
+
+    stands : (n : ℕ) → Ends (value limit.levels s at) n → Standing (Plain Value) s at 0 n
+    stands n e =
+        let f = soundness.sound limit.levels s at n bs e in
+        record {
+          row = f .row;
+          rest = f .rest;
+          stands = plain (record { tree = f .tree; encodes = f .encodes; deep = f .deep });
+          here = f .here;
+          next = f .next;
+        }
+
+-- the whole reading goes over values as its way has it
+pub value-goes : (s : List ℕ) → Bytes s → Goes whole s (valueBy s)
+value-goes s bs = record { follows = follows }
+  where
+    to-body : (v : ℕ) (x : List ℕ) → Both (Number 4) (λ d. Plain Value) v x → Plain (Body whole) v x
+    to-body v x (Both.both (Number.is l) (Plain.plain y)) = plain (Body.body l y)
+
+    from-body : (v : ℕ) (x : List ℕ) → Plain (Body whole) v x → Both (Number 4) (λ d. Plain Value) v x
+    from-body v x (Plain.plain (Body.body l y)) = Both.both (Number.is l) (plain y)
+
+    to-leads : (r x : List ℕ) (f : Field) → LeadsBoth (Number 4) (λ r. Only (some 4)) (λ d. whole .Inside) r x f → LeadsBody whole r x f
+    to-leads r x f (LeadsBoth.one Only.only) = LeadsBody.size
+    to-leads r x f (LeadsBoth.two (Number.is l) i) = LeadsBody.inside l i
+
+    from-leads : (r x : List ℕ) (f : Field) → LeadsBody whole r x f → LeadsBoth (Number 4) (λ r. Only (some 4)) (λ d. whole .Inside) r x f
+    from-leads r x f LeadsBody.size = LeadsBoth.one Only.only
+    from-leads r x f (LeadsBody.inside l i) = LeadsBoth.two (Number.is l) i
+
+    within : {q d : ℕ} {x r : List ℕ} → Number 4 d x → Here s q x r → q + length x ≤ length s
+    within (Number.is l) h = inside h (omega arith)
+
+    follows : (q : ℕ) → Follows (Plain (Body whole)) (LeadsBody whole) s q (numberBy 4 s q then valueBy s)
+    follows q =
+        turned to-body (λ v x r h. from-body v x) to-leads from-leads
+        (in-turn (valueBy s) (numberBy 4 s q) (number-follows 4 s bs q (omega arith)) λ d x r n h. value-follows s bs d (q + length x) (within n h))
+
+-- The whole reading of a packet is refused exactly where version 3 or a field refuses it, and with that answer and place.
+pub packet-refused : (s : List ℕ) (a p : ℕ) → Bytes s → Stops (packetAt s) a p ↔ RefusedPacket whole s a p
+packet-refused s a p bs =
+    let g = value-goes s bs in
+    let e = end-stops (packetAt s) a p in
+    (λ t. rw (sym (packet-end s) ∙ e .0 t) at (way-told s bs (valueBy s) g), λ q. e .1 (packet-end s ∙ way-halts s bs (valueBy s) g q))

@@ -1,0 +1,100 @@
+-- Why a whole reading of a packet and a cut by its declared lengths are refused, with no word of a reader: which fields stand before one that is not whole or
+-- not right. Both go over the same fields round the values, and differ in how they go over a value.
+use Prim.Native.Nat.{ℕ, suc, _^_, _≤_, _<_}
+use mathlib.Core.Path.{_≡_}
+use mathlib.Core.Logic.{_≢_}
+use mathlib.Core.List.{List, [], _∷_, _++_}
+use mathlib.Core.Bool.{true}
+use lib.ListN.{length}
+use Rattle.wire.specs.Number.{digits}
+use Rattle.wire.specs.Limit as limit
+use Rattle.amf0.specs.Standard.{Sort, Tree, depth, UTF-8, Encodes}
+use Rattle.amf0_theorems.specs.Refusal.{Field, InText, Leads, Refused}
+use Rattle.amf0_theorems.specs.Refusal.Field.{some, fixed, count}
+use Rattle.packet.specs.Packet.{Label, Head, IsHeader, IsMessage}
+
+-- ---- how the values of a packet are gone over
+
+pub record Way : Type 1 where
+  -- the field of the length that an entry declares
+  pub size : Field
+  -- these bytes are gone over as the value of an entry that declares that length
+  pub Stands : (declared : ℕ) → List ℕ → Type 0
+  -- the bytes x begin a value, `rest` is all that stands behind them, and this field is due there
+  pub Inside : (rest x : List ℕ) → Field → Type 0
+
+-- the bytes y are a value that is not too deep
+pub record Value (y : List ℕ) : Type 0 where
+  pub tree : Tree Sort.value
+  pub encodes : Encodes Sort.value tree y
+  pub deep : depth tree ≤ limit.levels
+
+-- the whole reading: values of AMF 0, and the declared lengths are not looked at
+abbrev pub whole : Way
+whole = record { size = some 4; Stands = λ d y. Value y; Inside = λ r x f. Leads r limit.levels Sort.value x f }
+
+-- the cut: as many bytes as are declared, whatever they are
+abbrev pub cut : Way
+cut = record { size = count; Stands = λ d y. d ≡ length y; Inside = λ r x f. ⊥ }
+
+-- ---- entries
+
+-- the fields of an entry's label: a header's name and flag, a message's target and response
+pub data LeadsLabel (Kind : Label → Type 0) : List ℕ → Field → Type 0 where
+  first : {x : List ℕ} {f : Field} → InText 2 x f → LeadsLabel Kind x f
+  flag : {k x : List ℕ} → Kind (Label.header k true) → UTF-8 k x → LeadsLabel Kind x (some 1)
+  response : {k x y : List ℕ} {f : Field} → Kind (Label.message k []) → UTF-8 k x → InText 2 y f → LeadsLabel Kind (x ++ y) f
+
+-- n entries of a kind in a row, from the first to the last
+pub data Entries (w : Way) (Kind : Label → Type 0) : ℕ → List ℕ → Type 0 where
+  none : Entries w Kind 0 []
+  more : {n d : ℕ} {l : Label} {x y z : List ℕ} → Kind l → Head l x → d < 256 ^ 4 → w .Stands d y → Entries w Kind n z
+      → Entries w Kind (suc n) (x ++ (digits 4 d ++ (y ++ z)))
+
+-- the bytes x begin n entries of a kind, r is all that stands behind them, and this field is due there
+pub data LeadsEntries (w : Way) (Kind : Label → Type 0) (r : List ℕ) : ℕ → (x : List ℕ) → Field → Type 0 where
+  -- an entry: its label, the length that it declares, and its value
+  label : {n : ℕ} {x : List ℕ} {f : Field} → LeadsLabel Kind x f → LeadsEntries w Kind r (suc n) x f
+  declared : {n : ℕ} {l : Label} {x : List ℕ} → Kind l → Head l x → LeadsEntries w Kind r (suc n) x (w .size)
+  inside : {n d : ℕ} {l : Label} {x y : List ℕ} {f : Field} → Kind l → Head l x → d < 256 ^ 4 → w .Inside r y f
+      → LeadsEntries w Kind r (suc n) (x ++ (digits 4 d ++ y)) f
+  -- the entries behind it
+  next : {n d : ℕ} {l : Label} {x y z : List ℕ} {f : Field} → Kind l → Head l x → d < 256 ^ 4 → w .Stands d y → LeadsEntries w Kind r n z f
+      → LeadsEntries w Kind r (suc n) (x ++ (digits 4 d ++ (y ++ z))) f
+
+-- ---- packets
+
+-- these bytes are gone over as a packet, to the last
+pub data IsPacket (w : Way) : List ℕ → Type 0 where
+  packet : {h m : ℕ} {x y : List ℕ} → h < 256 ^ 2 → Entries w IsHeader h x → m < 256 ^ 2 → Entries w IsMessage m y
+      → IsPacket w (0x00 ∷ 0x00 ∷ digits 2 h ++ (x ++ (digits 2 m ++ y)))
+
+-- the bytes x begin a packet, r is all that stands behind them, and this field is due there
+pub data LeadsPacket (w : Way) (r : List ℕ) : (x : List ℕ) → Field → Type 0 where
+  zero : LeadsPacket w r [] (fixed (0x00 ∷ []))
+  -- another version than 3, which is said apart
+  version : ((z : List ℕ) → r ≢ 0x03 ∷ z) → LeadsPacket w r (0x00 ∷ []) (fixed (0x00 ∷ []))
+  header-count : LeadsPacket w r (0x00 ∷ 0x00 ∷ []) (some 2)
+  headers : {h : ℕ} {x : List ℕ} {f : Field} → h < 256 ^ 2 → LeadsEntries w IsHeader r h x f → LeadsPacket w r (0x00 ∷ 0x00 ∷ digits 2 h ++ x) f
+  message-count : {h : ℕ} {x : List ℕ} → h < 256 ^ 2 → Entries w IsHeader h x → LeadsPacket w r (0x00 ∷ 0x00 ∷ digits 2 h ++ x) (some 2)
+  messages : {h m : ℕ} {x y : List ℕ} {f : Field} → h < 256 ^ 2 → Entries w IsHeader h x → m < 256 ^ 2 → LeadsEntries w IsMessage r m y f
+      → LeadsPacket w r (0x00 ∷ 0x00 ∷ digits 2 h ++ (x ++ (digits 2 m ++ y))) f
+
+-- a packet of version 3
+pub data Seven : List ℕ → Type 0 where
+  begins : {r : List ℕ} → Seven (0x00 ∷ 0x03 ∷ r)
+
+-- an input is refused as a packet, with an answer, by the field at a place
+pub data RefusedPacket (w : Way) (s : List ℕ) : (answer place : ℕ) → Type 0 where
+  version-3 : Seven s → RefusedPacket w s 7 1
+  field : {a p : ℕ} → Refused (LeadsPacket w) s 0 a p → RefusedPacket w s a p
+
+-- bytes are left over behind what P says of the first: the first of them is refused
+pub data LeftOver (P : List ℕ → Type 0) : List ℕ → (answer place : ℕ) → Type 0 where
+  behind : {x : List ℕ} (b : ℕ) (r : List ℕ) → P x → LeftOver P (x ++ (b ∷ r)) 3 (length x)
+
+-- a cut is refused, with an answer, by the field at a place
+pub data RefusedCut (s : List ℕ) : (answer place : ℕ) → Type 0 where
+  over-limit : limit.bytes < length s → RefusedCut s 1 0
+  not-cut : {a p : ℕ} → length s ≤ limit.bytes → RefusedPacket cut s a p → RefusedCut s a p
+  left-over : {a p : ℕ} → length s ≤ limit.bytes → LeftOver (IsPacket cut) s a p → RefusedCut s a p

@@ -1,0 +1,90 @@
+-- What the packet calls can come to in a room, and when: a room too small refuses before any other reason but the limit. What stands in the input, which
+-- field refuses it, and into what it is cut, is said by the grammars; that a room is too small, by the records that the definitions find.
+use Prim.Native.Nat.{ℕ, _+_, _≤_, _<_}
+use mathlib.Core.Path.{_≡_}
+use mathlib.Core.Logic.{_⊎_}
+use mathlib.Core.List.{List, _++_}
+use lib.ListN.{length, getD}
+use Rattle.wire.specs.Limit as limit
+use Rattle.image.specs.Due.{Due, based}
+use Rattle.image.specs.Whole.{Whole, bytes, accepted, refused}
+use Rattle.amf0.specs.Reading.{value}
+use Rattle.amf0_theorems.specs.Refusal.{RefusedValue}
+use Rattle.packet.specs.declared.head.Entry.{Entry}
+use Rattle.packet.specs.declared.entry.Found.{Found}
+use Rattle.packet.specs.declared.entry.Found.the-variants as Found
+use Rattle.packet.specs.Head.{entry}
+use Rattle.packet.specs.Packet.{Packet, Encoded}
+use Rattle.packet.specs.Shown.{Within}
+use Rattle.packet.specs.Reading.{packetAt}
+use Rattle.packet.specs.Entry.{noEntry, spanOf, Listed, uncut}
+use Rattle.packet_theorems.specs.Cuts.{CutInto}
+use Rattle.packet_theorems.specs.Refusal.{Value, whole, RefusedPacket, LeftOver, RefusedCut}
+
+-- ---- the whole readings
+
+-- the bytes x are a packet whose values are not too deep
+pub record Readable (x : List ℕ) : Type 0 where
+  pub packet : Packet
+  pub encoded : Encoded packet x
+  pub within : Within limit.levels packet
+
+-- the incomplete reading
+pub data Comes (s : List ℕ) (room : ℕ) : Whole → Type 0 where
+  over-limit : limit.bytes < length s → Comes s room (refused 1)
+  no-room : length s ≤ limit.bytes → room < length (bytes (packetAt s)) → Comes s room (refused 4)
+  not-read : {a p : ℕ} → length s ≤ limit.bytes → length (bytes (packetAt s)) ≤ room → RefusedPacket whole s a p → Comes s room (refused a)
+  read : {x : List ℕ} (r : List ℕ) → length s ≤ limit.bytes → length (bytes (packetAt s)) ≤ room → s ≡ x ++ r → Readable x
+      → Comes s room (accepted (length x) (bytes (packetAt s)))
+
+-- the reading to the last byte
+pub data ComesWhole (s : List ℕ) (room : ℕ) : Whole → Type 0 where
+  over-limit : limit.bytes < length s → ComesWhole s room (refused 1)
+  no-room : length s ≤ limit.bytes → room < length (bytes (packetAt s)) → ComesWhole s room (refused 4)
+  not-read : {a p : ℕ} → length s ≤ limit.bytes → length (bytes (packetAt s)) ≤ room → RefusedPacket whole s a p → ComesWhole s room (refused a)
+  left-over : {a p : ℕ} → length s ≤ limit.bytes → length (bytes (packetAt s)) ≤ room → LeftOver Readable s a p → ComesWhole s room (refused a)
+  read : length s ≤ limit.bytes → length (bytes (packetAt s)) ≤ room → Readable s → ComesWhole s room (accepted (length s) (bytes (packetAt s)))
+
+-- ---- the cut
+
+-- the cut into a list
+pub data ComesList (s : List ℕ) (room : ℕ) : Listed → Type 0 where
+  not-cut : {a p : ℕ} → RefusedCut s a p → ComesList s room (uncut a)
+  too-short : {es : List Entry} → CutInto s es → room < length es → ComesList s room (uncut 4)
+  cut : {es : List Entry} → CutInto s es → length es ≤ room
+      → ComesList s room (record { cutting = record { answer = 0; used = length s; count = length es }; entries = es })
+
+-- the entry with a number
+pub data ComesNth (s : List ℕ) (number : ℕ) : Found → Type 0 where
+  not-cut : {a p : ℕ} → RefusedCut s a p → ComesNth s number (Found.Stop a p)
+  no-entry : {es : List Entry} → CutInto s es → length es ≤ number → ComesNth s number (Found.Stop 8 0)
+  is : {es : List Entry} → CutInto s es → number < length es → ComesNth s number (Found.Is (getD es number noEntry))
+
+-- ---- one value
+
+-- the value reader on an entry's bytes alone
+abbrev pub inEntry : List ℕ → Entry → Due
+inEntry s e = based (e .place) (value limit.levels (spanOf s e) 0)
+
+-- the reading of an entry's value
+pub data ComesValue (s : List ℕ) (e : Entry) (room : ℕ) : Whole → Type 0 where
+  no-room : room < length (bytes (inEntry s e)) → ComesValue s e room (refused 4)
+  deep : {p : ℕ} → length (bytes (inEntry s e)) ≤ room → RefusedValue limit.levels (spanOf s e) 0 5 p → ComesValue s e room (refused 5)
+  -- no value stands in its bytes
+  damaged : {a p : ℕ} → length (bytes (inEntry s e)) ≤ room → RefusedValue limit.levels (spanOf s e) 0 a p → (a ≡ 2) ⊎ (a ≡ 3)
+      → ComesValue s e room (refused 9)
+  -- one stands there, and bytes are left over
+  unused : {a p : ℕ} → length (bytes (inEntry s e)) ≤ room → LeftOver Value (spanOf s e) a p → ComesValue s e room (refused 9)
+  read : length (bytes (inEntry s e)) ≤ room → Value (spanOf s e) → ComesValue s e room (accepted (e .length) (bytes (inEntry s e)))
+
+-- the reading of entry `number`
+pub data ComesEntry (s : List ℕ) (number room : ℕ) : Whole → Type 0 where
+  not-cut : {a p : ℕ} → RefusedCut s a p → ComesEntry s number room (refused a)
+  no-entry : {es : List Entry} → CutInto s es → length es ≤ number → ComesEntry s number room (refused 8)
+  found : {es : List Entry} {w : Whole} → CutInto s es → number < length es → ComesValue s (getD es number noEntry) room w → ComesEntry s number room w
+
+-- the reading of n bytes from a place on
+pub data ComesSpan (s : List ℕ) (place n room : ℕ) : Whole → Type 0 where
+  over-limit : limit.bytes < length s → ComesSpan s place n room (refused 1)
+  outside : length s ≤ limit.bytes → length s < place + n → ComesSpan s place n room (refused 8)
+  inside : {w : Whole} → length s ≤ limit.bytes → place + n ≤ length s → ComesValue s (entry 0 0 0 0 0 0 place n) room w → ComesSpan s place n room w
