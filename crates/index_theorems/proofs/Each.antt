@@ -11,8 +11,8 @@ use Rattle.image.specs.declared.record.Record.the-variants as R
 use Rattle.image.specs.Record.{size}
 use Rattle.image.proofs.Laws.{size-some}
 use Rattle.amf0.specs.Standard.{Sort, Tree}
-use Rattle.amf0.specs.Shown.{laid}
-use Rattle.amf0.specs.Written.{Right, Lead, Spells, Writable}
+use Rattle.amf0.specs.Shown.{laid, Right}
+use Rattle.amf0.specs.Written.{Lead, Spells, Writable}
 use Rattle.amf0_theorems.proofs.Puts.{laid-size, right-left, right-right}
 use Rattle.lso.specs.File.{Lso}
 use Rattle.lso.specs.File as File

@@ -9,7 +9,6 @@ use lib.Dec.{leb}
 use lib.ListN.{length}
 use borrow.Author.Tests.{le-leb, leb-true}
 use Rattle.wire.specs.Choice.{pick}
-use Rattle.wire.specs.Field.{to}
 use Rattle.wire.specs.Limit as limit
 use Rattle.wire.specs.Number.{Bytes}
 use Rattle.wire.specs.declared.cursor.Cursor.{Cursor}

@@ -17,8 +17,7 @@ use Rattle.image.specs.Record.{size}
 use Rattle.image.specs.Out.{Out, _>>=_, bytes as bytesOut}
 use Rattle.image.proofs.Laws.{size-some}
 use Rattle.amf0.specs.Standard.{depth}
-use Rattle.amf0.specs.Shown.{Word, laid}
-use Rattle.amf0.specs.Written.{Right}
+use Rattle.amf0.specs.Shown.{Word, laid, Right}
 use Rattle.amf0_theorems.proofs.Puts.{Puts, then, laid-append, laid-length, laid-size, right-left, right-right, first, others}
 use Rattle.lso.specs.File.{Lso, deepest}
 use Rattle.lso.specs.File as File

@@ -16,10 +16,10 @@ use Rattle.image.specs.Out.{Out, _>>=_, namedAt}
 use Rattle.image.proofs.Laws.{size-some}
 use Rattle.image.proofs.Pouring.{named-none}
 use Rattle.amf0.specs.Standard.{Item, Sort, Tree, depth, follows}
-use Rattle.amf0.specs.Shown.{Word, look, laid}
+use Rattle.amf0.specs.Shown.{Word, look, laid, Stands, Named, Right}
 use Rattle.amf0.specs.Shown.Word.{item, name, close, other}
 use Rattle.amf0.specs.Writing.{valueAt}
-use Rattle.amf0.specs.Written.{Right, Stands, Named, Lead, lead, Spells}
+use Rattle.amf0.specs.Written.{Lead, lead, Spells}
 use Rattle.amf0.specs.Written.Lead.{keyed, keyless}
 use Rattle.amf0_theorems.proofs.Complete.{within}
 use Rattle.amf0_theorems.proofs.Puts.{Puts, then, laid-append, laid-length, laid-size, right-left, right-right, one, first, others, value-begins, pairs-begin}

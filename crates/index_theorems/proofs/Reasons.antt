@@ -20,6 +20,7 @@ use Rattle.amf0.specs.Standard.{Sort, Tree, depth}
 use Rattle.amf0.specs.Shown.{laid}
 use Rattle.amf0.specs.Writing as amf0-writes
 use Rattle.amf0.specs.Written as amf0
+use Rattle.amf0_theorems.specs.Unwritten.{OutcomeOf}
 use Rattle.amf0_theorems.proofs.Puts.{Puts}
 use Rattle.amf0_theorems.proofs.WriteOutcome.{image-puts}
 use Rattle.amf0_theorems.proofs.WriteReasons as amf0-reasons
@@ -115,32 +116,28 @@ meant {image} {text} known x = go (recordAt image 0) (none 5 (inl refl)) (none 6
         walks : answerOf (keysOf image text) ≡ a
         walks = refused-as-written image text known ∙ writes-own image text 0 a o .0 z .same
 
-    tree : (w : Written) → amf0.Outcome image text 0 w → w .writing .answer ≢ 5 → w .writing .answer ≢ 6 → Meant image text
-    tree w (amf0.Outcome.text-over h) a b = absurd (omega (arith, x .text-size))
-    tree w (amf0.Outcome.image-over h) a b = absurd (omega (arith, x .image-size))
-    tree w (amf0.Outcome.no-tree h i f) a b = absurd (b refl)
-    tree w (amf0.Outcome.too-deep h i f) a b = absurd (a refl)
-    tree w (amf0.Outcome.output-over m h) a b = Meant.of-tree m
-    tree w (amf0.Outcome.no-room m h i) a b = Meant.of-tree m
-    tree w (amf0.Outcome.put-out m h i) a b = Meant.of-tree m
+    -- where a write is not refused with 5 or 6, the image holds something of the kind that is asked for
+    held : {A : Type 0} {Holds : A → Type 0} {put : A → List ℕ} {Refused : ℕ → ℕ → Type 0} → ((y : A) → Holds y → Meant image text) → (w : Written)
+        → OutcomeOf Holds put Refused image text 0 w → w .writing .answer ≢ 5 → w .writing .answer ≢ 6 → Meant image text
+    held f w (OutcomeOf.text-over h) a b = absurd (omega (arith, x .text-size))
+    held f w (OutcomeOf.image-over h) a b = absurd (omega (arith, x .image-size))
+    held f w (OutcomeOf.wrong h i r) a b = absurd (b refl)
+    held f w (OutcomeOf.too-deep h i r) a b = absurd (a refl)
+    held f w (OutcomeOf.output-over {x = y} m h) a b = f y m
+    held f w (OutcomeOf.no-room {x = y} m h i) a b = f y m
+    held f w (OutcomeOf.put-out {x = y} m h i) a b = f y m
 
-    file : (w : Written) → lso.Outcome image text 0 w → w .writing .answer ≢ 5 → w .writing .answer ≢ 6 → Meant image text
-    file w (lso.Outcome.text-over h) a b = absurd (omega (arith, x .text-size))
-    file w (lso.Outcome.image-over h) a b = absurd (omega (arith, x .image-size))
-    file w (lso.Outcome.no-file h i f) a b = absurd (b refl)
-    file w (lso.Outcome.too-deep h i f) a b = absurd (a refl)
-    file w (lso.Outcome.output-over m h) a b = Meant.of-file m
-    file w (lso.Outcome.no-room m h i) a b = Meant.of-file m
-    file w (lso.Outcome.put-out m h i) a b = Meant.of-file m
+    tree : amf0-writes.writeOf image text 0 .writing .answer ≢ 5 → amf0-writes.writeOf image text 0 .writing .answer ≢ 6 → Meant image text
+    tree = held (λ t m. Meant.of-tree m) (amf0-writes.writeOf image text 0) (amf0-reasons.reasons image text 0 known)
 
     by : (y : Part) → writesBy image text 0 y .writing .answer ≢ 5 → writesBy image text 0 y .writing .answer ≢ 6 → Meant image text
-    by (P.File p n) a b = file (lso-writes.writeOf image text 0) (lso-reasons.outcome image text 0 known) a b
-    by (P.Key p n) a b = tree (amf0-writes.writeOf image text 0) (amf0-reasons.outcome image text 0 known) a b
-    by P.Other a b = tree (amf0-writes.writeOf image text 0) (amf0-reasons.outcome image text 0 known) a b
+    by (P.File p n) = held (λ f m. Meant.of-file m) (lso-writes.writeOf image text 0) (lso-reasons.reasons image text 0 known)
+    by (P.Key p n) = tree
+    by P.Other = tree
 
     go : (t : Taken) → writesIn image text 0 t .writing .answer ≢ 5 → writesIn image text 0 t .writing .answer ≢ 6 → Meant image text
-    go (Found r c) a b = by (partOf r) a b
-    go Bad a b = tree (amf0-writes.writeOf image text 0) (amf0-reasons.outcome image text 0 known) a b
+    go (Found r c) = by (partOf r)
+    go Bad = tree
 
 -- ---- the call
 

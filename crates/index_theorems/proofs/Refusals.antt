@@ -29,6 +29,7 @@ use Rattle.amf0.specs.declared.write.Rest.{Rest as After}
 use Rattle.amf0.specs.declared.write.Rest.the-variants as WR
 use Rattle.amf0.specs.Shape.{Shape}
 use Rattle.amf0.specs.Shape as S
+use Rattle.amf0.specs.Standard.{short-most}
 use Rattle.amf0.specs.Writing.{items, pairs, dense, rest as following, value as written, whole}
 use Rattle.amf0.specs.Writing.{shapeOf, valueAt, taken, valued, paired}
 use Rattle.index.specs.declared.walk.Rest.{Rest}
@@ -82,7 +83,7 @@ pub data Kin (s : List ℕ) : Shape → Role → Type 0 where
 kin : (s : List ℕ) (r : Record) → Kin s (shapeOf r) (roleOf r)
 kin s (R.Number n) = Kin.k-value refl Due.d-none
 kin s (R.Boolean b) = Kin.k-value refl Due.d-none
-kin s (R.Text p n) = picked (λ x. Kin s x (Role.Value p n Nothing)) (leb n 65535) _ _ (λ _. Kin.k-value refl Due.d-none) (λ _. Kin.k-value refl Due.d-none)
+kin s (R.Text p n) = picked (λ x. Kin s x (Role.Value p n Nothing)) (leb n short-most) _ _ (λ _. Kin.k-value refl Due.d-none) (λ _. Kin.k-value refl Due.d-none)
 kin s R.Object = Kin.k-value refl Due.d-pairs
 kin s R.Null = Kin.k-value refl Due.d-none
 kin s R.Undefined = Kin.k-value refl Due.d-none

@@ -15,8 +15,8 @@ use Rattle.image.specs.declared.taking.Taken.the-variants.{Found}
 use Rattle.image.specs.Record.{size}
 use Rattle.image.specs.Taking.{recordAt}
 use Rattle.amf0.specs.Standard.{Item, Sort, Tree, follows}
-use Rattle.amf0.specs.Shown.{Word, look, laid}
-use Rattle.amf0.specs.Written.{Right, Lead, lead, Spells}
+use Rattle.amf0.specs.Shown.{Word, look, laid, Right}
+use Rattle.amf0.specs.Written.{Lead, lead, Spells}
 use Rattle.amf0.specs.Written.Lead.{keyed}
 use Rattle.amf0_theorems.proofs.Puts.{laid-append, right-left, right-right, first, others}
 use Rattle.index.specs.declared.mark.Mark.{Mark}

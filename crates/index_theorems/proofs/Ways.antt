@@ -14,8 +14,8 @@ use Rattle.image.specs.declared.record.Record.{Record}
 use Rattle.image.specs.Record.{size}
 use Rattle.image.proofs.Laws.{size-some}
 use Rattle.amf0.specs.Standard.{Sort, Tree}
-use Rattle.amf0.specs.Shown.{laid}
-use Rattle.amf0.specs.Written.{Right, Lead, Spells}
+use Rattle.amf0.specs.Shown.{laid, Right}
+use Rattle.amf0.specs.Written.{Lead, Spells}
 use Rattle.amf0.specs.Written.Lead.{keyed}
 use Rattle.amf0_theorems.proofs.Puts.{laid-append, laid-length, laid-size, right-left, right-right, others}
 use Rattle.index.specs.declared.mark.Mark.{Mark}

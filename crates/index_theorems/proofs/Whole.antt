@@ -12,8 +12,8 @@ use Rattle.image.specs.declared.record.Record.{Record}
 use Rattle.image.specs.Record.{size}
 use Rattle.image.specs.Out.{Out, bytes as bytesOut}
 use Rattle.amf0.specs.Standard.{Sort, Tree, depth}
-use Rattle.amf0.specs.Shown.{laid}
-use Rattle.amf0.specs.Written.{Right, Lead, Spells, Writable}
+use Rattle.amf0.specs.Shown.{laid, Right}
+use Rattle.amf0.specs.Written.{Lead, Spells, Writable}
 use Rattle.amf0.specs.Written.Lead.{keyed}
 use Rattle.amf0_theorems.proofs.Puts.{Puts, then, laid-length, laid-size, first, one}
 use Rattle.index.specs.declared.mark.Mark.{Mark}

@@ -8,7 +8,7 @@ use Rattle.wire.specs.Field.{to}
 use Rattle.image.specs.declared.record.Record.the-variants as R
 use Rattle.image.specs.declared.taking.Taken.the-variants.{Found}
 use Rattle.image.specs.Taking.{recordAt}
-use Rattle.amf0.specs.Written.{Stands}
+use Rattle.amf0.specs.Shown.{Stands}
 use Rattle.index.specs.declared.mark.Mark.{Mark}
 use Rattle.index.specs.Find.{isValue}
 
