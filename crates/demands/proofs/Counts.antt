@@ -1,0 +1,104 @@
+-- What a reading says that it made is as many bytes as its records have.
+use Prim.Native.Nat.{ℕ}
+use mathlib.Core.Path.{_≡_, refl}
+use mathlib.Core.Bool.{Bool}
+use mathlib.Core.List.{List, _++_}
+use lib.ListN.{length}
+use lib.Dec.{leb, ltb, eqb}
+use Rattle.wire.specs.Choice.{pick}
+use Rattle.wire.specs.Limit as limit
+use Rattle.wire.specs.Text.{insideOf}
+use Rattle.wire.proofs.Laws.{picked}
+use Rattle.image.specs.Due.{Due, end, stop, due}
+use Rattle.image.specs.Whole.{Whole, bytes, accepted, refused, ended, settled}
+use Rattle.amf0.specs.Reading.{readOf}
+use Rattle.lso.specs.Reading as lso
+use Rattle.lso.specs.Reading.{End, Body}
+use Rattle.packet.specs.Reading as packet
+use Rattle.packet.specs.Entry.{Cut, found, stops, cutOf, judge, entryIn, readSpan, readEntry}
+
+-- it counts the bytes that it has
+pub record Counts (w : Whole) : Type 0 where
+  pub same : w .reading .made ≡ length (w .bytes)
+
+-- a refusal has no bytes
+none : (a : ℕ) → Counts (refused a)
+none a = record { same = refl }
+
+-- a choice of two
+either : (t : Bool) (a b : Whole) → Counts a → Counts b → Counts (pick t a b)
+either t a b f g = picked Counts t a b (λ e. f) (λ e. g)
+
+-- a reading as it ends
+ended-counts : (d : Due) (b : List ℕ) → Counts (ended d b)
+unfolding ended
+ended-counts (end n) b = record { same = refl }
+ended-counts (stop a p) b = none a
+ended-counts (due r p d) b = ended-counts d b
+
+-- and in a room
+settled-counts : (d : Due) (room : ℕ) → Counts (settled d room)
+unfolding settled
+settled-counts d room = either (leb (length (bytes d)) room) _ _ (ended-counts d (bytes d)) (none 4)
+
+-- a judgement
+judge-counts : (n : ℕ) (w : Whole) → Counts w → Counts (judge n w)
+judge-counts n w h =
+    either (eqb (w .reading .answer) 0) _ _ (either (leb n (w .reading .used)) _ _ h (none 9))
+    (either (eqb (w .reading .answer) 2) _ _ (none 9) (either (eqb (w .reading .answer) 3) _ _ (none 9) h))
+
+-- Each reading counts the bytes that it has: of a value,
+pub value-counts : (s : List ℕ) (room : ℕ) → Counts (readOf s room)
+value-counts s room = either (leb (length s) limit.bytes) _ _ (settled-counts _ room) (none 1)
+
+-- of the beginning of an input, as a packet,
+pub packet-incomplete-counts : (s : List ℕ) (room : ℕ) → Counts (packet.incompleteOf s room)
+unfolding packet.incompleteOf
+packet-incomplete-counts s room = either (leb (length s) limit.bytes) _ _ (settled-counts _ room) (none 1)
+
+-- of a packet,
+pub packet-counts : (s : List ℕ) (room : ℕ) → Counts (packet.wholeOf s room)
+unfolding packet.wholeOf
+packet-counts s room =
+    let w = packet.incompleteOf s room in
+    let h = packet-incomplete-counts s room in
+    either (eqb (w .reading .answer) 0) _ _ (either (leb (length s) (w .reading .used)) _ _ h (none 3)) h
+
+-- of a part of a packet,
+pub span-counts : (s : List ℕ) (place n room : ℕ) → Counts (readSpan s place n room)
+unfolding readSpan
+span-counts s place n room =
+    either (leb (length s) limit.bytes) _ _ (either (insideOf s place n) _ _ (judge-counts n _ (settled-counts _ room)) (none 8)) (none 1)
+
+-- of an entry,
+pub entry-counts : (s : List ℕ) (number room : ℕ) → Counts (readEntry s number room)
+unfolding readEntry
+entry-counts s number room = go (cutOf s)
+  where
+    go : (x : Cut) → Counts (entryIn s x number room)
+    go (stops a p) = none a
+    go (found es n) = either (ltb number (length es)) _ _ (judge-counts _ _ (settled-counts _ room)) (none 8)
+
+-- of the beginning of an input, as a file,
+pub file-incomplete-counts : (s : List ℕ) (room : ℕ) → Counts (lso.incompleteOf s room)
+unfolding lso.incompleteOf
+file-incomplete-counts s room = either (leb (length s) limit.bytes) _ _ (go (lso.endOf (lso.headerAt s))) (none 1)
+  where
+    ending : (e : End) (w : Whole) → Counts w → Counts (lso.ending e w)
+    ending (End.ends n) w h = h
+    ending (End.stops a) w h = either (eqb a 2) _ _ h (either (eqb a 3) _ _ h (none a))
+
+    go : (e : End) → Counts (lso.headed e s room)
+    go (End.stops a) = none a
+    go (End.ends p) =
+        let b : Body = lso.bodyAt s (length s) p in
+        either (leb (length (lso.everDue s p)) room) _ _
+        (ending (lso.endOf (b .tried)) (accepted (b .at) (bytes (lso.headerAt s) ++ b .taken)) (record { same = refl })) (none 4)
+
+-- and of a file.
+pub file-counts : (s : List ℕ) (room : ℕ) → Counts (lso.wholeOf s room)
+unfolding lso.wholeOf
+file-counts s room =
+    let w = lso.incompleteOf s room in
+    let h = file-incomplete-counts s room in
+    either (eqb (w .reading .answer) 0) _ _ (either (leb (length s) (w .reading .used)) _ _ h (none 3)) h

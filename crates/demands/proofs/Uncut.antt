@@ -1,0 +1,61 @@
+-- Demand 1: when the reading of an entry is refused because the packet is not cut exactly.
+use Prim.Native.Nat.{ℕ}
+use mathlib.Core.Path.{_≡_, refl, sym, ap, _∙_}
+use mathlib.Core.Logic.{_↔_, inl, inr, ⊎-elim}
+use mathlib.Core.List.{List, [], _∷_}
+use native.Mathlib.Omega.{arith}
+use lib.ListN.{length, getD}
+use lib.Dec.{ltb}
+use borrow.Author.Tests.{ltb-false}
+use Rattle.wire.specs.Number.{Bytes}
+use Rattle.wire.proofs.Laws.{picked}
+use Rattle.image.specs.Whole.{Whole}
+use Rattle.packet.specs.declared.head.Entry.{Entry}
+use Rattle.packet.specs.declared.entry.Found.{Found}
+use Rattle.packet.specs.declared.entry.Found.the-variants as Found
+use Rattle.packet.specs.Entry.{Cut, found, stops, cutOf, noEntry, foundIn, entryIn, readSpan, readEntry}
+use Rattle.packet.proofs.Laws.{cut-told, entry-chosen}
+use Rattle.packet_theorems.specs.Refusal.{RefusedCut}
+use Rattle.packet_theorems.proofs.Theorems.{entry-span, entry-over-limit}
+use Rattle.packet_theorems.proofs.SpanTheorems.{span-answers}
+use Rattle.packet_theorems.proofs.Refusals.{cut-refused-exactly}
+use Rattle.packet_theorems.proofs.Demand3 as packets
+use Rattle.demands.specs.Forms.{OneOf}
+
+-- the answers that come where a packet is cut
+abbrev pub AfterCut : ℕ → Type 0
+AfterCut = OneOf 0 (4 ∷ 5 ∷ 8 ∷ 9 ∷ [])
+
+module _ (s : List ℕ) (k room : ℕ) where
+  -- an entry that is found answers so
+  found-answers : (e : Entry) → foundIn (cutOf s) k ≡ Found.Is e → AfterCut (readEntry s k room .reading .answer)
+  found-answers e f =
+      rw (ap (λ (w : Whole). w .reading .answer) (entry-span s k room e f)) at
+      (⊎-elim inl (⊎-elim (λ z. absurd (over z)) inr) (span-answers s (e .place) (e .length) room))
+    where
+      over : readSpan s (e .place) (e .length) room .reading .answer ≡ 1 → ⊥
+      over z =
+          let h = entry-chosen s k 0 (cutOf s) {e = e} (cut-told s) (sym f) in
+          let g = entry-over-limit s k room .0 (sym (ap (λ (w : Whole). w .reading .answer) (entry-span s k room e f)) ∙ z) in
+          omega (arith, h .short)
+
+  -- and so does a number past the last
+  cut-answers : (es : List Entry) (n : ℕ) → cutOf s ≡ found es n → AfterCut (readEntry s k room .reading .answer)
+  cut-answers es n c =
+      picked {A = Found} (λ f. foundIn (cutOf s) k ≡ f → AfterCut (readEntry s k room .reading .answer)) (ltb k (length es))
+      (Found.Is (getD es k noEntry)) (Found.Stop 8 0) (λ h f. found-answers (getD es k noEntry) f)
+      (λ h f. rw (packets.past s s es n c (record { long = refl; same = λ i b. refl }) k room (ltb-false k (length es) h)) (inr (inr (inr (inl refl)))))
+      (ap (λ x. foundIn x k) c)
+
+-- Any other answer is given just where a field refuses the packet.
+pub entry-uncut : (s : List ℕ) (k room a : ℕ) → Bytes s → (AfterCut a → ⊥) → readEntry s k room .reading .answer ≡ a ↔ (p : ℕ) × RefusedCut s a p
+unfolding readEntry
+entry-uncut s k room a bs other = go (cutOf s) refl
+  where
+    go : (x : Cut) → cutOf s ≡ x → entryIn s (cutOf s) k room .reading .answer ≡ a ↔ (p : ℕ) × RefusedCut s a p
+    go (stops b p) e = rw e
+        (λ z. (p, rw z at (cut-refused-exactly s b p bs .0 e)), λ t. let f = cut-refused-exactly s a (t .0) bs .1 (t .1) in cc)
+    go (found es n) e = (
+      λ z. absurd (other (rw z at (cut-answers s k room es n e))),
+      λ t. let f = cut-refused-exactly s a (t .0) bs .1 (t .1) in let z : _≡_ {A = ℕ} 0 1 = cc in absurd (omega arith),
+    )
