@@ -3,7 +3,8 @@
    beside each other.
 
    A row of bytes, or of numbers, is a pointer and a length. What a C caller owes is what C itself can't check:
-   - a pointer to a row is not NULL, even where the length is 0, and as many bytes or numbers stand behind it as the length says;
+   - every pointer is good: it is not NULL, even where a row's length is 0, it is aligned for what it points to, and what is said of it stands behind it, as many
+     bytes or numbers as the row's length, eight or five numbers where an array is declared so, or one number (used, made, count, place, next, from);
    - what a call writes (image, out, entry, numbers, fields, index, counts and places) overlaps no other argument, and nobody else touches it during the call;
    - what it reads (input, image, text, packet, index, path, key) isn't written by anybody during the call.
    Nothing else is owed: whatever the bytes and the numbers are, each call ends, and its answer, its counts and every byte that it leaves are proved to be what
@@ -158,7 +159,9 @@ uint8_t riddoskam_packet_nth(const uint8_t *packet, size_t packet_length, size_t
 uint8_t riddoskam_packet_cut(const uint8_t *packet, size_t packet_length, size_t *numbers, size_t numbers_length, size_t *used, size_t *count);
 
 /* The record at a place of an image: fields[0] is its kind, the others are its body, field by field, and 0 where it has none. `*next` is the place behind it.
-   Where no whole and right record stands there, the answer is 6 and all are 0. */
+   Where no whole and right record stands there, the answer is 6 and all are 0.
+   An image is its first `made` bytes, and that is the length to hand over: the zeros behind them would be taken for numbers, 0.0 each, since 00 is the kind of
+   one. A walk ends where `at` is that length. */
 uint8_t riddoskam_record_at(const uint8_t *image, size_t image_length, size_t at, uint64_t fields[5], size_t *next);
 
 /* Whether `place + length` (in whole numbers, never wrapped) is at most the input's length. */
