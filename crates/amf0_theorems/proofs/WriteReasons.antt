@@ -218,3 +218,28 @@ module _ (image s : List ℕ) (room : ℕ) where
           let w : Writable image s (x .0) = record { text-size = h; image-size = i; images = x .1; deep = x .2 } in
           rw (puts-bytes (image-puts limit.levels (x .1) λ l. omega (arith, x .2)))
           (sized-either (Outcome image s room) (write (x .0)) (OutcomeOf.output-over w) (OutcomeOf.no-room w) (OutcomeOf.put-out w))
+
+-- ---- what a call comes to, whatever is asked for
+
+module _ {A : Type 0} {Holds : A → Type 0} {put : A → List ℕ} {Refused : ℕ → ℕ → Type 0} {image text : List ℕ} {room : ℕ} where
+  -- where it is accepted, the image holds something whose bytes are within the limit and the room
+  pub holds : (w : Written) → OutcomeOf Holds put Refused image text room w → w .writing .answer ≡ 0
+      → (x : A) × Holds x × (length (put x) ≤ limit.bytes) × (length (put x) ≤ room)
+  holds w (OutcomeOf.text-over h) e = absurd (omega arith)
+  holds w (OutcomeOf.image-over h) e = absurd (omega arith)
+  holds w (OutcomeOf.wrong h i f) e = absurd (omega arith)
+  holds w (OutcomeOf.too-deep h i f) e = absurd (omega arith)
+  holds w (OutcomeOf.output-over m h) e = absurd (omega arith)
+  holds w (OutcomeOf.no-room m h i) e = absurd (omega arith)
+  holds w (OutcomeOf.put-out {x = x} m h i) e = (x, m, h, i)
+
+  -- within the limits, where the image holds nothing and no record of it is wrong, a value is too deep
+  pub only-deep : (w : Written) → OutcomeOf Holds put Refused image text room w → length text ≤ limit.bytes → length image ≤ limit.image
+      → ((x : A) → Holds x → ⊥) → ((p : ℕ) → Refused 6 p → ⊥) → w ≡ unwritten 5
+  only-deep w (OutcomeOf.text-over h) l k none right = absurd (omega arith)
+  only-deep w (OutcomeOf.image-over h) l k none right = absurd (omega arith)
+  only-deep w (OutcomeOf.wrong {place} h i f) l k none right = absurd (right place f)
+  only-deep w (OutcomeOf.too-deep h i f) l k none right = refl
+  only-deep w (OutcomeOf.output-over {x = x} m h) l k none right = absurd (none x m)
+  only-deep w (OutcomeOf.no-room {x = x} m h i) l k none right = absurd (none x m)
+  only-deep w (OutcomeOf.put-out {x = x} m h i) l k none right = absurd (none x m)

@@ -29,7 +29,7 @@ use Rattle.amf0_theorems.proofs.Shortest.{encoded, least}
 use Rattle.amf0_theorems.proofs.Spelling as spelling
 use Rattle.amf0_theorems.proofs.WriteOutcome.{puts-bytes, image-puts, image-written, read-image, accepted-read, read-all, sized-written, written-sized}
 use Rattle.amf0_theorems.proofs.WriteReasons as because
-use Rattle.amf0_theorems.proofs.WriteReasons.{call-refusals, whole-refuses, stops-once, answered, reasons}
+use Rattle.amf0_theorems.proofs.WriteReasons.{call-refusals, whole-refuses, stops-once, answered, reasons, holds, only-deep}
 use Rattle.amf0_theorems.proofs.WriteSound.{image-of}
 use Rattle.amf0_theorems.proofs.WriteRefusal.{ends-or-stops, no-front, refused-by}
 use Rattle.amf0_theorems.proofs.WriteRefusing.{refuses-by}
@@ -274,36 +274,18 @@ write-over image text room bs = (go (writeOf image text room) (reasons image tex
 pub write-accepted : (image text : List ℕ) (room : ℕ) → Bytes image → writeOf image text room .writing .answer ≡ 0
     ↔ (t : Tree Sort.value) × Writable image text t × (length (write t) ≤ limit.bytes) × (length (write t) ≤ room)
 write-accepted image text room bs = (
-  go (writeOf image text room) (reasons image text room bs),
+  holds (writeOf image text room) (reasons image text room bs),
   λ x. ap (λ (w : Written). w .writing .answer) (written-tree image text (x .0) room (x .1) .0 ∙ sized-written (write (x .0)) room (x .2) (x .3)),
 )
-  where
-    go : (w : Written) → Outcome image text room w → w .writing .answer ≡ 0
-        → (t : Tree Sort.value) × Writable image text t × (length (write t) ≤ limit.bytes) × (length (write t) ≤ room)
-    go w (OutcomeOf.text-over h) e = absurd (omega arith)
-    go w (OutcomeOf.image-over h) e = absurd (omega arith)
-    go w (OutcomeOf.wrong h i f) e = absurd (omega arith)
-    go w (OutcomeOf.too-deep h i f) e = absurd (omega arith)
-    go w (OutcomeOf.output-over m h) e = absurd (omega arith)
-    go w (OutcomeOf.no-room m h i) e = absurd (omega arith)
-    go w (OutcomeOf.put-out {x = t} m h i) e = (t, m, h, i)
 
 -- Within the limits, the image of a tree that is too deep is refused with 5.
 pub write-deep : (image text : List ℕ) (t : Tree Sort.value) (room : ℕ) → Bytes image → length text ≤ limit.bytes → length image ≤ limit.image
     → Images text t image → limit.levels < depth t → writeOf image text room ≡ unwritten 5
-write-deep image text t room bs h i m d = go (writeOf image text room) (reasons image text room bs)
+write-deep image text t room bs h i m d =
+    only-deep (writeOf image text room) (reasons image text room bs) h i other (λ p f. let e = refused-image image text 6 p t bs f m in omega (arith, e .0))
   where
     other : (u : Tree Sort.value) → Writable image text u → ⊥
     other u w = let e = ap depth (one-tree image text t u i m (w .images)) in omega (arith, w .deep)
-
-    go : (w : Written) → Outcome image text room w → w ≡ unwritten 5
-    go w (OutcomeOf.text-over j) = absurd (omega arith)
-    go w (OutcomeOf.image-over j) = absurd (omega arith)
-    go w (OutcomeOf.wrong j k f) = let e = refused-image image text 6 _ t bs f m in absurd (omega (arith, e .0))
-    go w (OutcomeOf.too-deep j k f) = refl
-    go w (OutcomeOf.output-over {x = u} n j) = absurd (other u n)
-    go w (OutcomeOf.no-room {x = u} n j k) = absurd (other u n)
-    go w (OutcomeOf.put-out {x = u} n j k) = absurd (other u n)
 
 -- A refused write counts 0 and has no byte of an output; an accepted one counts the bytes that it has of it, and they have room.
 pub write-settled : (image text : List ℕ) (room : ℕ) → Settled room (writeOf image text room)

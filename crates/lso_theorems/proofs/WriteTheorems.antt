@@ -11,10 +11,10 @@ use Rattle.wire.specs.Limit as limit
 use Rattle.image.specs.Out.{Written, written, unwritten, sized}
 use Rattle.image.specs.Whole.{Whole}
 use Rattle.amf0.specs.Written.{unplaced}
-use Rattle.amf0_theorems.specs.Unwritten.{Stops, OutcomeOf}
+use Rattle.amf0_theorems.specs.Unwritten.{Stops}
 use Rattle.amf0_theorems.proofs.WriteOutcome.{sized-written, written-sized}
 use Rattle.amf0_theorems.proofs.WriteRefusal.{ends-or-stops}
-use Rattle.amf0_theorems.proofs.WriteReasons.{call-refusals, stops-once}
+use Rattle.amf0_theorems.proofs.WriteReasons.{call-refusals, stops-once, holds}
 use Rattle.lso.specs.File.{Lso, File, deepest}
 use Rattle.amf0_theorems.proofs.Settled.{Settled}
 use Rattle.amf0_theorems.proofs.Settled.Settled.{refused, put-out}
@@ -206,19 +206,9 @@ write-refusals image text room a bs h i o =
 pub write-accepted : (image text : List ℕ) (room : ℕ) → Bytes image → writeOf image text room .writing .answer ≡ 0
     ↔ (f : Lso) × Writable image text f × (length (write f) ≤ limit.bytes) × (length (write f) ≤ room)
 write-accepted image text room bs = (
-  go (writeOf image text room) (reasons image text room bs),
+  holds (writeOf image text room) (reasons image text room bs),
   λ x. ap (λ (w : Written). w .writing .answer) (file-written room (x .1) ∙ sized-written (write (x .0)) room (x .2) (x .3)),
 )
-  where
-    go : (w : Written) → Outcome image text room w → w .writing .answer ≡ 0
-        → (f : Lso) × Writable image text f × (length (write f) ≤ limit.bytes) × (length (write f) ≤ room)
-    go w (OutcomeOf.text-over h) e = absurd (omega arith)
-    go w (OutcomeOf.image-over h) e = absurd (omega arith)
-    go w (OutcomeOf.wrong h i f) e = absurd (omega arith)
-    go w (OutcomeOf.too-deep h i f) e = absurd (omega arith)
-    go w (OutcomeOf.output-over m h) e = absurd (omega arith)
-    go w (OutcomeOf.no-room m h i) e = absurd (omega arith)
-    go w (OutcomeOf.put-out {x = f} m h i) e = (f, m, h, i)
 
 -- In whatever is written, the four bytes behind the first two are 16 plus the name's length plus the body's: as many bytes as stand behind them.
 pub written-length : (image text : List ℕ) (room : ℕ) → Bytes image → writeOf image text room .writing .answer ≡ 0

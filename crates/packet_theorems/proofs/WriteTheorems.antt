@@ -15,10 +15,10 @@ use Rattle.image.specs.Whole.{Whole}
 use Rattle.amf0.specs.Written as amf0
 use Rattle.amf0.specs.Written.{Alike}
 use Rattle.amf0.specs.Writing.{whole}
-use Rattle.amf0_theorems.specs.Unwritten.{Stops, OutcomeOf}
+use Rattle.amf0_theorems.specs.Unwritten.{Stops}
 use Rattle.amf0_theorems.proofs.WriteOutcome.{sized-written, written-sized}
 use Rattle.amf0_theorems.proofs.WriteRefusal.{ends-or-stops}
-use Rattle.amf0_theorems.proofs.WriteReasons.{call-refusals, stops-once, stops-deep}
+use Rattle.amf0_theorems.proofs.WriteReasons.{call-refusals, stops-once, stops-deep, holds, only-deep}
 use Rattle.amf0_theorems.proofs.Settled.{Settled}
 use Rattle.amf0_theorems.proofs.Settled.Settled.{refused, put-out}
 use Rattle.packet.specs.declared.head.Entry.{Entry}
@@ -303,38 +303,20 @@ write-refusals image text exact room a bs h i o =
 pub write-accepted : (image text : List ℕ) (exact : Bool) (room : ℕ) → Bytes image → writeOf image text exact room .writing .answer ≡ 0
     ↔ (p : Packet) × Writable image text p × (length (write exact p) ≤ limit.bytes) × (length (write exact p) ≤ room)
 write-accepted image text exact room bs = (
-  go (writeOf image text exact room) (reasons image text exact room bs),
+  holds (writeOf image text exact room) (reasons image text exact room bs),
   λ x. ap (λ (w : Written). w .writing .answer) (packet-written exact room (x .1) ∙ sized-written (write exact (x .0)) room (x .2) (x .3)),
 )
-  where
-    go : (w : Written) → Outcome image text exact room w → w .writing .answer ≡ 0
-        → (p : Packet) × Writable image text p × (length (write exact p) ≤ limit.bytes) × (length (write exact p) ≤ room)
-    go w (OutcomeOf.text-over h) e = absurd (omega arith)
-    go w (OutcomeOf.image-over h) e = absurd (omega arith)
-    go w (OutcomeOf.wrong h i f) e = absurd (omega arith)
-    go w (OutcomeOf.too-deep h i f) e = absurd (omega arith)
-    go w (OutcomeOf.output-over m h) e = absurd (omega arith)
-    go w (OutcomeOf.no-room m h i) e = absurd (omega arith)
-    go w (OutcomeOf.put-out {x = p} m h i) e = (p, m, h, i)
 
 -- Within the limits, the image of a packet with a value that is too deep is refused with 5.
 pub write-deep : (image text : List ℕ) (exact : Bool) (p : Packet) (room : ℕ) → Bytes image → length text ≤ limit.bytes → length image ≤ limit.image
     → Images text p image → (Within limit.levels p → ⊥) → writeOf image text exact room ≡ unwritten 5
-write-deep image text exact p room bs h i m d = go (writeOf image text exact room) (reasons image text exact room bs)
+write-deep image text exact p room bs h i m d =
+    only-deep (writeOf image text exact room) (reasons image text exact room bs) h i other (λ q f. let e = refused-image image text 6 q p bs f m in omega (arith, e .0))
   where
     other : (q : Packet) → Writable image text q → ⊥
     other q w =
         let e = one-packet image text exact p q i m (w .images) in
         d (within-said limit.levels exact p (subst (Within limit.levels) (sym e) (within-saying limit.levels exact q (w .deep))))
-
-    go : (w : Written) → Outcome image text exact room w → w ≡ unwritten 5
-    go w (OutcomeOf.text-over j) = absurd (omega arith)
-    go w (OutcomeOf.image-over j) = absurd (omega arith)
-    go w (OutcomeOf.wrong j k f) = let e = refused-image image text 6 _ p bs f m in absurd (omega (arith, e .0))
-    go w (OutcomeOf.too-deep j k f) = refl
-    go w (OutcomeOf.output-over {x = q} n j) = absurd (other q n)
-    go w (OutcomeOf.no-room {x = q} n j k) = absurd (other q n)
-    go w (OutcomeOf.put-out {x = q} n j k) = absurd (other q n)
 
 -- A refused write counts 0 and has no byte of an output; an accepted one counts the bytes that it has of it, and they have room.
 pub write-settled : (image text : List ℕ) (exact : Bool) (room : ℕ) → Settled room (writeOf image text exact room)
