@@ -12,224 +12,11 @@ use borrow.Author.Needs.{needs}
 use Rattle.amf0.proofs.read.parse_fields.Statement.{statement}
 use Rattle.amf0.proofs.read.parse_fields.Tie as tie
 
-enum-told : tie.Need-enum-told
-enum-told c = search needs
-
-be-u64-requires : tie.Need-be-u64-requires
-be-u64-requires c κs = search needs
-
-enum-known-n : tie.Need-enum-known-n
-enum-known-n c = search needs
-
-enum-known-a : tie.Need-enum-known-a
-enum-known-a c = search needs
-
-add-t60 : tie.Need-add-t60
-add-t60 c = let r = u64-stop _ _ _ _ (sym (c .before .before .before .be-u64 .ensures) ∙ c .before .a .given .1) in omega arith
-
-enum-told-2 : tie.Need-enum-told-2
-enum-told-2 c = search needs
-
-be-u8-requires : tie.Need-be-u8-requires
-be-u8-requires c κs = search needs
-
-enum-known-b : tie.Need-enum-known-b
-enum-known-b c = search needs
-
-enum-known-a-2 : tie.Need-enum-known-a-2
-enum-known-a-2 c = search needs
-
-add-t66 : tie.Need-add-t66
-add-t66 c = let r = u8-stop _ _ _ _ (sym (c .before .before .before .be-u8 .ensures) ∙ c .before .a2 .given .1) in omega arith
-
-enum-told-3 : tie.Need-enum-told-3
-enum-told-3 c = search needs
-
-parse-string-requires : tie.Need-parse-string-requires
-parse-string-requires c κs = search needs
-
-enum-known-p : tie.Need-enum-known-p
-enum-known-p c = search needs
-
-add-t69 : tie.Need-add-t69
-add-t69 c = let r = text-next 2 _ _ _ _ _ (sym (c .before .before .before .parse-string .ensures) ∙ c .before .p .given .1) in omega arith
-
-enum-known-a-3 : tie.Need-enum-known-a-3
-enum-known-a-3 c = search needs
-
-add-t72 : tie.Need-add-t72
-add-t72 c = let r = text-stop 2 _ _ _ _ (sym (c .before .before .before .parse-string .ensures) ∙ c .before .a3 .given .1) (omega arith) in omega arith
-
-enum-told-4 : tie.Need-enum-told-4
-enum-told-4 c = search needs
-
-enum-told-5 : tie.Need-enum-told-5
-enum-told-5 c = search needs
-
-add-t75 : tie.Need-add-t75
-add-t75 c = search needs
-
-enum-told-6 : tie.Need-enum-told-6
-enum-told-6 c = search needs
-
-enum-told-7 : tie.Need-enum-told-7
-enum-told-7 c = search needs
-
-enum-told-8 : tie.Need-enum-told-8
-enum-told-8 c = search needs
-
-be-u16-requires : tie.Need-be-u16-requires
-be-u16-requires c κs = search needs
-
-enum-known-n-2 : tie.Need-enum-known-n-2
-enum-known-n-2 c = search needs
-
-enum-known-a-4 : tie.Need-enum-known-a-4
-enum-known-a-4 c = search needs
-
-add-t84 : tie.Need-add-t84
-add-t84 c = let r = u16-stop _ _ _ _ (sym (c .before .before .before .be-u16 .ensures) ∙ c .before .a4 .given .1) in omega arith
-
-enum-told-9 : tie.Need-enum-told-9
-enum-told-9 c = search needs
-
-be-u32-requires : tie.Need-be-u32-requires
-be-u32-requires c κs = search needs
-
-enum-known-n-3 : tie.Need-enum-known-n-3
-enum-known-n-3 c = search needs
-
-enum-known-a-5 : tie.Need-enum-known-a-5
-enum-known-a-5 c = search needs
-
-add-t89 : tie.Need-add-t89
-add-t89 c = let r = u32-stop _ _ _ _ (sym (c .before .before .before .be-u32 .ensures) ∙ c .before .a5 .given .1) in omega arith
-
-enum-told-10 : tie.Need-enum-told-10
-enum-told-10 c = search needs
-
-add-t90 : tie.Need-add-t90
-add-t90 c = search needs
-
-enum-told-11 : tie.Need-enum-told-11
-enum-told-11 c = search needs
-
-be-u32-requires-2 : tie.Need-be-u32-requires-2
-be-u32-requires-2 c κs = search needs
-
-enum-known-n-4 : tie.Need-enum-known-n-4
-enum-known-n-4 c = search needs
-
-cast-if1 : tie.Need-cast-if1
-cast-if1 c = search needs
-
-sub-if1 : tie.Need-sub-if1
-sub-if1 c = let r = u32-next _ _ _ _ (sym (c .before .before .before .before .be-u322 .ensures) ∙ c .before .before .n4 .given .1) in omega arith
-
-add-t100 : tie.Need-add-t100
-add-t100 c = search needs
-
-enum-known-a-6 : tie.Need-enum-known-a-6
-enum-known-a-6 c = search needs
-
-add-t101 : tie.Need-add-t101
-add-t101 c = let r = u32-stop _ _ _ _ (sym (c .before .before .before .be-u322 .ensures) ∙ c .before .a6 .given .1) in omega arith
-
-enum-told-12 : tie.Need-enum-told-12
-enum-told-12 c = search needs
-
-be-u64-requires-2 : tie.Need-be-u64-requires-2
-be-u64-requires-2 c κs = search needs
-
-enum-known-n-5 : tie.Need-enum-known-n-5
-enum-known-n-5 c = search needs
-
-be-u16-requires-2 : tie.Need-be-u16-requires-2
-be-u16-requires-2 c κs = search needs
-
-enum-known-z : tie.Need-enum-known-z
-enum-known-z c = search needs
-
-enum-known-a-7 : tie.Need-enum-known-a-7
-enum-known-a-7 c = search needs
-
 add-t108 : tie.Need-add-t108
 add-t108 c =
     let q = u64-next _ _ _ _ (sym (c .before .before .before .before .before .before .before .be-u642 .ensures) ∙ c .before .before .before .before .before .n5 .given .1) in
     let r = u16-stop _ _ _ _ (sym (c .before .before .before .be-u162 .ensures) ∙ c .before .a7 .given .1) in
     omega arith
-
-enum-known-a-8 : tie.Need-enum-known-a-8
-enum-known-a-8 c = search needs
-
-add-t109 : tie.Need-add-t109
-add-t109 c = let r = u64-stop _ _ _ _ (sym (c .before .before .before .be-u642 .ensures) ∙ c .before .a8 .given .1) in omega arith
-
-enum-told-13 : tie.Need-enum-told-13
-enum-told-13 c = search needs
-
-parse-long-string-requires : tie.Need-parse-long-string-requires
-parse-long-string-requires c κs = search needs
-
-enum-known-p-2 : tie.Need-enum-known-p-2
-enum-known-p-2 c = search needs
-
-add-t112 : tie.Need-add-t112
-add-t112 c = let r = text-next 4 _ _ _ _ _ (sym (c .before .before .before .parse-long-string .ensures) ∙ c .before .p2 .given .1) in omega arith
-
-enum-known-a-9 : tie.Need-enum-known-a-9
-enum-known-a-9 c = search needs
-
-add-t115 : tie.Need-add-t115
-add-t115 c = let r = text-stop 4 _ _ _ _ (sym (c .before .before .before .parse-long-string .ensures) ∙ c .before .a9 .given .1) (omega arith) in omega arith
-
-enum-told-14 : tie.Need-enum-told-14
-enum-told-14 c = search needs
-
-enum-told-15 : tie.Need-enum-told-15
-enum-told-15 c = search needs
-
-add-t118 : tie.Need-add-t118
-add-t118 c = search needs
-
-enum-told-16 : tie.Need-enum-told-16
-enum-told-16 c = search needs
-
-parse-long-string-requires-2 : tie.Need-parse-long-string-requires-2
-parse-long-string-requires-2 c κs = search needs
-
-enum-known-p-3 : tie.Need-enum-known-p-3
-enum-known-p-3 c = search needs
-
-add-t121 : tie.Need-add-t121
-add-t121 c = let r = text-next 4 _ _ _ _ _ (sym (c .before .before .before .parse-long-string2 .ensures) ∙ c .before .p3 .given .1) in omega arith
-
-enum-known-a-10 : tie.Need-enum-known-a-10
-enum-known-a-10 c = search needs
-
-add-t124 : tie.Need-add-t124
-add-t124 c = let r = text-stop 4 _ _ _ _ (sym (c .before .before .before .parse-long-string2 .ensures) ∙ c .before .a10 .given .1) (omega arith) in omega arith
-
-enum-told-17 : tie.Need-enum-told-17
-enum-told-17 c = search needs
-
-parse-string-requires-2 : tie.Need-parse-string-requires-2
-parse-string-requires-2 c κs = search needs
-
-enum-known-p-4 : tie.Need-enum-known-p-4
-enum-known-p-4 c = search needs
-
-add-t127 : tie.Need-add-t127
-add-t127 c = let r = text-next 2 _ _ _ _ _ (sym (c .before .before .before .parse-string2 .ensures) ∙ c .before .p4 .given .1) in omega arith
-
-enum-known-a-11 : tie.Need-enum-known-a-11
-enum-known-a-11 c = search needs
-
-add-t130 : tie.Need-add-t130
-add-t130 c = let r = text-stop 2 _ _ _ _ (sym (c .before .before .before .parse-string2 .ensures) ∙ c .before .a11 .given .1) (omega arith) in omega arith
-
-enum-told-18 : tie.Need-enum-told-18
-enum-told-18 c = search needs
 
 returns : tie.Need-returns
 unfolding fieldsAt
@@ -415,107 +202,37 @@ returns-30 c = (rw (c .enum-told18 .given .1), fields-got (omega arith) (omega a
 
 pub parse-fields-spec : {M : Type 1} → statement M
 parse-fields-spec =
-    tie.close
-    (tie.spec
-    enum-told
-    be-u64-requires
-    enum-known-n
-    enum-known-a
-    add-t60
-    enum-told-2
-    be-u8-requires
-    enum-known-b
-    enum-known-a-2
-    add-t66
-    enum-told-3
-    parse-string-requires
-    enum-known-p
-    add-t69
-    enum-known-a-3
-    add-t72
-    enum-told-4
-    enum-told-5
-    add-t75
-    enum-told-6
-    enum-told-7
-    enum-told-8
-    be-u16-requires
-    enum-known-n-2
-    enum-known-a-4
-    add-t84
-    enum-told-9
-    be-u32-requires
-    enum-known-n-3
-    enum-known-a-5
-    add-t89
-    enum-told-10
-    add-t90
-    enum-told-11
-    be-u32-requires-2
-    enum-known-n-4
-    cast-if1
-    sub-if1
-    add-t100
-    enum-known-a-6
-    add-t101
-    enum-told-12
-    be-u64-requires-2
-    enum-known-n-5
-    be-u16-requires-2
-    enum-known-z
-    enum-known-a-7
-    add-t108
-    enum-known-a-8
-    add-t109
-    enum-told-13
-    parse-long-string-requires
-    enum-known-p-2
-    add-t112
-    enum-known-a-9
-    add-t115
-    enum-told-14
-    enum-told-15
-    add-t118
-    enum-told-16
-    parse-long-string-requires-2
-    enum-known-p-3
-    add-t121
-    enum-known-a-10
-    add-t124
-    enum-told-17
-    parse-string-requires-2
-    enum-known-p-4
-    add-t127
-    enum-known-a-11
-    add-t130
-    enum-told-18
-    returns
-    returns-2
-    returns-3
-    returns-4
-    returns-5
-    returns-6
-    returns-7
-    returns-8
-    returns-9
-    returns-10
-    returns-11
-    returns-12
-    returns-13
-    returns-14
-    returns-15
-    returns-16
-    returns-17
-    returns-18
-    returns-19
-    returns-20
-    returns-21
-    returns-22
-    returns-23
-    returns-24
-    returns-25
-    returns-26
-    returns-27
-    returns-28
-    returns-29
-    returns-30)
+    tie.close (tie.spec (λ c. search needs) (λ c κs. search needs) (λ c. search needs) (λ c. search needs)
+    (λ c. let r = u64-stop _ _ _ _ (sym (c .before .before .before .be-u64 .ensures) ∙ c .before .a .given .1) in omega arith) (λ c. search needs)
+    (λ c κs. search needs) (λ c. search needs) (λ c. search needs)
+    (λ c. let r = u8-stop _ _ _ _ (sym (c .before .before .before .be-u8 .ensures) ∙ c .before .a2 .given .1) in omega arith) (λ c. search needs)
+    (λ c κs. search needs) (λ c. search needs)
+    (λ c. let r = text-next 2 _ _ _ _ _ (sym (c .before .before .before .parse-string .ensures) ∙ c .before .p .given .1) in omega arith)
+    (λ c. search needs)
+    (λ c. let r = text-stop 2 _ _ _ _ (sym (c .before .before .before .parse-string .ensures) ∙ c .before .a3 .given .1) (omega arith) in omega arith)
+    (λ c. search needs) (λ c. search needs) (λ c. search needs) (λ c. search needs) (λ c. search needs) (λ c. search needs) (λ c κs. search needs)
+    (λ c. search needs) (λ c. search needs)
+    (λ c. let r = u16-stop _ _ _ _ (sym (c .before .before .before .be-u16 .ensures) ∙ c .before .a4 .given .1) in omega arith) (λ c. search needs)
+    (λ c κs. search needs) (λ c. search needs) (λ c. search needs)
+    (λ c. let r = u32-stop _ _ _ _ (sym (c .before .before .before .be-u32 .ensures) ∙ c .before .a5 .given .1) in omega arith) (λ c. search needs)
+    (λ c. search needs) (λ c. search needs) (λ c κs. search needs) (λ c. search needs) (λ c. search needs)
+    (λ c. let r = u32-next _ _ _ _ (sym (c .before .before .before .before .be-u322 .ensures) ∙ c .before .before .n4 .given .1) in omega arith)
+    (λ c. search needs) (λ c. search needs)
+    (λ c. let r = u32-stop _ _ _ _ (sym (c .before .before .before .be-u322 .ensures) ∙ c .before .a6 .given .1) in omega arith) (λ c. search needs)
+    (λ c κs. search needs) (λ c. search needs) (λ c κs. search needs) (λ c. search needs) (λ c. search needs) add-t108 (λ c. search needs)
+    (λ c. let r = u64-stop _ _ _ _ (sym (c .before .before .before .be-u642 .ensures) ∙ c .before .a8 .given .1) in omega arith) (λ c. search needs)
+    (λ c κs. search needs) (λ c. search needs)
+    (λ c. let r = text-next 4 _ _ _ _ _ (sym (c .before .before .before .parse-long-string .ensures) ∙ c .before .p2 .given .1) in omega arith)
+    (λ c. search needs)
+    (λ c. let r = text-stop 4 _ _ _ _ (sym (c .before .before .before .parse-long-string .ensures) ∙ c .before .a9 .given .1) (omega arith) in omega arith)
+    (λ c. search needs) (λ c. search needs) (λ c. search needs) (λ c. search needs) (λ c κs. search needs) (λ c. search needs)
+    (λ c. let r = text-next 4 _ _ _ _ _ (sym (c .before .before .before .parse-long-string2 .ensures) ∙ c .before .p3 .given .1) in omega arith)
+    (λ c. search needs)
+    (λ c. let r = text-stop 4 _ _ _ _ (sym (c .before .before .before .parse-long-string2 .ensures) ∙ c .before .a10 .given .1) (omega arith) in omega arith)
+    (λ c. search needs) (λ c κs. search needs) (λ c. search needs)
+    (λ c. let r = text-next 2 _ _ _ _ _ (sym (c .before .before .before .parse-string2 .ensures) ∙ c .before .p4 .given .1) in omega arith)
+    (λ c. search needs)
+    (λ c. let r = text-stop 2 _ _ _ _ (sym (c .before .before .before .parse-string2 .ensures) ∙ c .before .a11 .given .1) (omega arith) in omega arith)
+    (λ c. search needs) returns returns-2 returns-3 returns-4 returns-5 returns-6 returns-7 returns-8 returns-9 returns-10 returns-11 returns-12
+    returns-13 returns-14 returns-15 returns-16 returns-17 returns-18 returns-19 returns-20 returns-21 returns-22 returns-23 returns-24 returns-25
+    returns-26 returns-27 returns-28 returns-29 returns-30)

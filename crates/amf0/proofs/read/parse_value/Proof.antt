@@ -15,9 +15,6 @@ returns c =
     let a = c .before .before .before .args in
     (rw (part-over (a .how .base) (now (a .input)) (a .c .at) (omega arith)) (sym (run-stop _ _ _ _)), within-stop)
 
-sub-if2 : tie.Need-sub-if2
-sub-if2 c = search needs
-
 returns-2 : tie.Need-returns-2
 returns-2 c =
     let a = c .before .before .before .before .args in
@@ -28,30 +25,12 @@ returns-3 c =
     let a = c .before .before .before .before .before .args in
     (rw (part-past (a .how .base) (now (a .input)) (a .c .at) (omega arith) (omega arith)) (sym (run-stop _ _ _ _)), within-stop)
 
-be-u8-requires : tie.Need-be-u8-requires
-be-u8-requires c κs = search needs
-
-enum-known-a : tie.Need-enum-known-a
-enum-known-a c = search needs
-
-add-t16 : tie.Need-add-t16
-add-t16 c = let r = u8-stop _ _ _ _ (sym (c .before .before .before .be-u8 .ensures) ∙ c .before .a .given .1) in omega arith
-
-enum-known-m : tie.Need-enum-known-m
-enum-known-m c = search needs
-
-value-requires : tie.Need-value-requires
-value-requires c κs = (omega arith, u8-whole _ _ (sym (c .before .before .before .before .be-u8 .ensures) ∙ c .before .before .m .given .1))
-
 returns-4 : tie.Need-returns-4
 returns-4 c =
     let a = c .before .before .before .before .before .before .before .before .before .args in
     let s = now (a .input) in
     let e = value-cut s (a .c .at) levels (sym (c .before .before .before .be-u8 .ensures) ∙ c .before .a .given .1) in
     (rw (part-read (a .how .base) s (a .c .at) (omega arith) (omega arith), e) (sym (run-stop _ _ _ _)), within-stop)
-
-same-length : tie.Need-same-length
-same-length c = search needs
 
 returns-5 : tie.Need-returns-5
 returns-5 c =
@@ -60,17 +39,7 @@ returns-5 c =
 
 pub parse-value-spec : {M : Type 1} → statement M
 parse-value-spec =
-    tie.close
-    (tie.spec
-    returns
-    sub-if2
-    returns-2
-    returns-3
-    be-u8-requires
-    enum-known-a
-    add-t16
-    enum-known-m
-    value-requires
-    returns-4
-    same-length
-    returns-5)
+    tie.close (tie.spec returns (λ c. search needs) returns-2 returns-3 (λ c κs. search needs) (λ c. search needs)
+    (λ c. let r = u8-stop _ _ _ _ (sym (c .before .before .before .be-u8 .ensures) ∙ c .before .a .given .1) in omega arith) (λ c. search needs)
+    (λ c κs. (omega arith, u8-whole _ _ (sym (c .before .before .before .before .be-u8 .ensures) ∙ c .before .before .m .given .1))) returns-4
+    (λ c. search needs) returns-5)

@@ -16,9 +16,4 @@ returns c =
 
 pub bare-spec : {M : Type 1} → statement M
 bare-spec =
-    tie.close
-    (tie.spec
-    (λ c κs. search needs)
-    (λ c κs. search needs)
-    (λ c. search needs)
-    returns)
+    tie.close (tie.spec (λ c κs. search needs) (λ c κs. search needs) (λ c. search needs) returns)

@@ -4,26 +4,9 @@ use borrow.Author.Needs.{needs}
 use Rattle.amf0.proofs.write.due_at.Statement.{statement}
 use Rattle.amf0.proofs.write.due_at.Tie as tie
 
-returns-3 : tie.Need-returns-3
-returns-3 c = rw (c .before .due .given .1)
-
-returns-4 : tie.Need-returns-4
-returns-4 c = rw (c .before .before .enum-told3 .given .1, sym (c .before .value-at .ensures) ∙ c .if1 .taken)
-
-returns-5 : tie.Need-returns-5
-returns-5 c = rw (c .before .before .enum-told3 .given .1, sym (c .before .value-at .ensures) ∙ c .if1 .left)
-
 pub due-at-spec : {M : Type 1} → statement M
 due-at-spec =
-    tie.close
-    (tie.spec
-    (λ c. search needs)
-    (λ c. search needs)
-    (λ c. search needs)
-    (λ c. search needs)
-    (λ c κs. search needs)
-    (λ c. search needs)
-    (λ c. search needs)
-    returns-3
-    returns-4
-    returns-5)
+    tie.close (tie.spec (λ c. search needs) (λ c. search needs) (λ c. search needs) (λ c. search needs) (λ c κs. search needs) (λ c. search needs)
+    (λ c. search needs) (λ c. rw (c .before .due .given .1))
+    (λ c. rw (c .before .before .enum-told3 .given .1, sym (c .before .value-at .ensures) ∙ c .if1 .taken))
+    (λ c. rw (c .before .before .enum-told3 .given .1, sym (c .before .value-at .ensures) ∙ c .if1 .left)))

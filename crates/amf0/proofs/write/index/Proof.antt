@@ -9,27 +9,6 @@ use borrow.Author.Needs.{needs}
 use Rattle.amf0.proofs.write.index.Statement.{statement}
 use Rattle.amf0.proofs.write.index.Tie as tie
 
-decimal-width-requires : tie.Need-decimal-width-requires
-decimal-width-requires c κs = search needs
-
-write-number-requires : tie.Need-write-number-requires
-write-number-requires c κs = search needs
-
-add-write-decimal : tie.Need-add-write-decimal
-add-write-decimal c = search needs
-
-write-decimal-requires : tie.Need-write-decimal-requires
-write-decimal-requires c κs = search needs
-
-add-result : tie.Need-add-result
-add-result c = search needs
-
-add-result-2 : tie.Need-add-result-2
-add-result-2 c = search needs
-
-same-length : tie.Need-same-length
-same-length c = search needs
-
 returns : tie.Need-returns
 returns c =
     let a = c .before .before .before .before .before .before .before .before .before .before .args in
@@ -40,13 +19,5 @@ returns c =
 
 pub index-spec : {M : Type 1} → statement M
 index-spec =
-    tie.close
-    (tie.spec
-    decimal-width-requires
-    write-number-requires
-    add-write-decimal
-    write-decimal-requires
-    add-result
-    add-result-2
-    same-length
-    returns)
+    tie.close (tie.spec (λ c κs. search needs) (λ c κs. search needs) (λ c. search needs) (λ c κs. search needs) (λ c. search needs)
+    (λ c. search needs) (λ c. search needs) returns)

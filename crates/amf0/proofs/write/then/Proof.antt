@@ -3,17 +3,6 @@ use borrow.Author.Needs.{needs}
 use Rattle.amf0.proofs.write.then.Statement.{statement}
 use Rattle.amf0.proofs.write.then.Tie as tie
 
-returns : tie.Need-returns
-returns c = rw (c .before .x .given .1)
-
-returns-2 : tie.Need-returns-2
-returns-2 c = rw (c .before .x2 .given .1)
-
 pub then-spec : {M : Type 1} → statement M
 then-spec =
-    tie.close
-    (tie.spec
-    (λ c. search needs)
-    (λ c. search needs)
-    returns
-    returns-2)
+    tie.close (tie.spec (λ c. search needs) (λ c. search needs) (λ c. rw (c .before .x .given .1)) (λ c. rw (c .before .x2 .given .1)))

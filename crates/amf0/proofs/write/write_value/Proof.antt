@@ -10,30 +10,6 @@ use borrow.Author.Needs.{needs}
 use Rattle.amf0.proofs.write.write_value.Statement.{statement}
 use Rattle.amf0.proofs.write.write_value.Tie as tie
 
-slice-relend-prefix-pour-value : tie.Need-slice-relend-prefix-pour-value
-slice-relend-prefix-pour-value c = search needs
-
-slice-aggregate-pour-value : tie.Need-slice-aggregate-pour-value
-slice-aggregate-pour-value c = search needs
-
-pour-value-requires : tie.Need-pour-value-requires
-pour-value-requires c κs = search needs
-
-enum-known-a : tie.Need-enum-known-a
-enum-known-a c = search needs
-
-refused-requires : tie.Need-refused-requires
-refused-requires c κs = search needs
-
-enum-known-c : tie.Need-enum-known-c
-enum-known-c c = search needs
-
-refused-requires-2 : tie.Need-refused-requires-2
-refused-requires-2 c κs = search needs
-
-same-length : tie.Need-same-length
-same-length c = search needs
-
 returns : tie.Need-returns
 returns c =
     let a = c .before .before .before .before .before .before .before .before .before .before .before .before .before .args in
@@ -44,12 +20,6 @@ returns c =
     let f = rw (c .before .before .before .before .c .given .1) at (c .before .before .before .before .before .before .before .before .pour-value .ensures .0) in
     let e = write-past i x (length o) _ f (omega arith) in
     (c .refused2 .ensures ∙ rw e, rw (e, u))
-
-refused-requires-3 : tie.Need-refused-requires-3
-refused-requires-3 c κs = search needs
-
-same-length-2 : tie.Need-same-length-2
-same-length-2 c = search needs
 
 returns-2 : tie.Need-returns-2
 returns-2 c =
@@ -62,12 +32,6 @@ returns-2 c =
     let e = write-over i x (length o) _ f (omega arith) (omega arith) in
     (c .refused3 .ensures ∙ rw e, rw (e, u))
 
-refused-requires-4 : tie.Need-refused-requires-4
-refused-requires-4 c κs = search needs
-
-same-length-3 : tie.Need-same-length-3
-same-length-3 c = search needs
-
 returns-3 : tie.Need-returns-3
 returns-3 c =
     let a = c .before .before .before .before .before .before .before .before .before .before .before .before .before .before .before .args in
@@ -79,12 +43,6 @@ returns-3 c =
     let e = write-full i x (length o) _ f (omega arith) (omega arith) (omega (arith, ap length u)) in
     (c .refused4 .ensures ∙ rw e, rw (e, u))
 
-pour-value-requires-2 : tie.Need-pour-value-requires-2
-pour-value-requires-2 c κs = search needs
-
-same-length-4 : tie.Need-same-length-4
-same-length-4 c = search needs
-
 returns-4 : tie.Need-returns-4
 returns-4 c =
     let a = c .before .before .before .before .before .before .before .before .before .before .before .args in
@@ -94,9 +52,6 @@ returns-4 c =
     let u = no-room (c .before .before .before .before .before .before .pour-value .last .0) o (c .before .before .before .before .before .before .pour-value .kept .0) in
     let e = write-halt i x (length o) _ (rw (c .before .before .a .given .1) at (c .before .before .before .before .before .before .pour-value .ensures .0)) in
     (c .refused .ensures ∙ rw e, rw (e, u))
-
-same-length-5 : tie.Need-same-length-5
-same-length-5 c = search needs
 
 returns-5 : tie.Need-returns-5
 returns-5 c =
@@ -112,25 +67,6 @@ returns-5 c =
 
 pub write-value-spec : {M : Type 1} → statement M
 write-value-spec =
-    tie.close
-    (tie.spec
-    slice-relend-prefix-pour-value
-    slice-aggregate-pour-value
-    pour-value-requires
-    enum-known-a
-    refused-requires
-    enum-known-c
-    refused-requires-2
-    same-length
-    returns
-    refused-requires-3
-    same-length-2
-    returns-2
-    refused-requires-4
-    same-length-3
-    returns-3
-    pour-value-requires-2
-    same-length-4
-    returns-4
-    same-length-5
-    returns-5)
+    tie.close (tie.spec (λ c. search needs) (λ c. search needs) (λ c κs. search needs) (λ c. search needs) (λ c κs. search needs) (λ c. search needs)
+    (λ c κs. search needs) (λ c. search needs) returns (λ c κs. search needs) (λ c. search needs) returns-2 (λ c κs. search needs)
+    (λ c. search needs) returns-3 (λ c κs. search needs) (λ c. search needs) returns-4 (λ c. search needs) returns-5)

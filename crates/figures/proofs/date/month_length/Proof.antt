@@ -9,12 +9,6 @@ use borrow.Author.Needs.{needs}
 use Rattle.figures.proofs.date.month_length.Statement.{statement}
 use Rattle.figures.proofs.date.month_length.Tie as tie
 
-leap-day-requires : tie.Need-leap-day-requires
-leap-day-requires c κs = search needs
-
-add-result : tie.Need-add-result
-add-result c = omega (arith, c .leap-day .ensures .1)
-
 returns : tie.Need-returns
 unfolding monthLength
 returns c = (rw (c .before .match .keys1) (ap (λ (n : ℕ). 28 + n) (c .leap-day .ensures .0)), omega arith)
@@ -44,13 +38,4 @@ returns-6 c =
 
 pub month-length-spec : {M : Type 1} → statement M
 month-length-spec =
-    tie.close
-    (tie.spec
-    leap-day-requires
-    add-result
-    returns
-    returns-2
-    returns-3
-    returns-4
-    returns-5
-    returns-6)
+    tie.close (tie.spec (λ c κs. search needs) (λ c. omega (arith, c .leap-day .ensures .1)) returns returns-2 returns-3 returns-4 returns-5 returns-6)

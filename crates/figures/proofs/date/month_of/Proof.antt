@@ -14,33 +14,7 @@ Inv-loop year day month₀ left₀ month left = (day ≡ monthsDays year month +
 abbrev μ-loop : tie.MeasureT-loop
 μ-loop year day month₀ left₀ month left = left
 
-loop-holds : tie.Need-loop-holds Inv-loop μ-loop
-loop-holds c = search needs
-
-month-length-requires : tie.Need-month-length-requires Inv-loop μ-loop
-month-length-requires c κs = search needs
-
-returns : tie.Need-returns Inv-loop μ-loop
-returns c = search needs
-
-add-month : tie.Need-add-month Inv-loop μ-loop
-add-month c = search needs
-
-loop-less : tie.Need-loop-less Inv-loop μ-loop
-loop-less c = search needs
-
-loop-again : tie.Need-loop-again Inv-loop μ-loop
-loop-again c = (rw add-one (omega arith), omega arith)
-
 pub month-of-spec : {M : Type 1} → statement M
 month-of-spec =
-    tie.close
-    (tie.spec
-    Inv-loop
-    μ-loop
-    loop-holds
-    month-length-requires
-    returns
-    add-month
-    loop-less
-    loop-again)
+    tie.close (tie.spec Inv-loop μ-loop (λ c. search needs) (λ c κs. search needs) (λ c. search needs) (λ c. search needs) (λ c. search needs)
+    (λ c. (rw add-one (omega arith), omega arith)))

@@ -11,15 +11,6 @@ use Rattle.image.proofs.Laws.{small, laid-kind, laid-field, laid-record
 use Rattle.image.proofs.reading.put.Statement.{statement}
 use Rattle.image.proofs.reading.put.Tie as tie
 
-record-size-requires : tie.Need-record-size-requires
-record-size-requires c κs = search needs
-
-sub-if2 : tie.Need-sub-if2
-sub-if2 c = search needs
-
-layout-of-requires : tie.Need-layout-of-requires
-layout-of-requires c κs = search needs
-
 sized : (c : tie.After-layout-of) → sizeIn (c .layout-of .result) ≡ size (c .before .before .before .before .before .args .r)
 unfolding size
 sized c = ap sizeIn (c .layout-of .ensures)
@@ -27,23 +18,8 @@ sized c = ap sizeIn (c .layout-of .ensures)
 room : (c : tie.After-layout-of) → c .before .before .before .before .before .args .made + sizeIn (c .layout-of .result) ≤ length (now (c .before .before .before .before .before .args .image))
 room c = omega (arith, sized c, c .before .before .before .record-size .ensures)
 
-lay-requires : tie.Need-lay-requires
-lay-requires c κs = omega (arith, room (c .before))
-
-lay-requires-2 : tie.Need-lay-requires-2
-lay-requires-2 c κs = omega (arith, room (c .before .before .before .before .before))
-
-lay-requires-3 : tie.Need-lay-requires-3
-lay-requires-3 c κs = omega (arith, room (c .before .before .before .before .before .before .before .before .before))
-
-lay-requires-4 : tie.Need-lay-requires-4
-lay-requires-4 c κs = omega (arith, room (c .before .before .before .before .before .before .before .before .before .before .before .before .before))
-
 lay-requires-5 : tie.Need-lay-requires-5
 lay-requires-5 c κs = omega (arith, room (c .before .before .before .before .before .before .before .before .before .before .before .before .before .before .before .before .before))
-
-same-length : tie.Need-same-length
-same-length c = search needs
 
 returns : tie.Need-returns
 returns c =
@@ -73,17 +49,8 @@ returns-3 c =
 
 pub put-spec : {M : Type 1} → statement M
 put-spec =
-    tie.close
-    (tie.spec
-    record-size-requires
-    sub-if2
-    layout-of-requires
-    lay-requires
-    lay-requires-2
-    lay-requires-3
-    lay-requires-4
-    lay-requires-5
-    same-length
-    returns
-    returns-2
-    returns-3)
+    tie.close (tie.spec (λ c κs. search needs) (λ c. search needs) (λ c κs. search needs) (λ c κs. omega (arith, room (c .before)))
+    (λ c κs. omega (arith, room (c .before .before .before .before .before)))
+    (λ c κs. omega (arith, room (c .before .before .before .before .before .before .before .before .before)))
+    (λ c κs. omega (arith, room (c .before .before .before .before .before .before .before .before .before .before .before .before .before)))
+    lay-requires-5 (λ c. search needs) returns returns-2 returns-3)

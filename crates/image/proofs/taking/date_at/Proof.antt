@@ -9,17 +9,8 @@ use Rattle.image.proofs.taking.date_at.Tie as tie
 pub date-at-spec : {M : Type 1} → statement M
 unfolding bodyAt u64 flag u16 zoned
 date-at-spec =
-    tie.close
-    (tie.spec
-    (λ c κs. search needs)
-    (λ c. search needs)
-    (λ c κs. search needs)
-    (λ c. search needs)
-    (λ c κs. search needs)
-    (λ c. search needs)
-    (λ c. search needs)
-    (λ c. search needs)
-    (λ c. search needs)
+    tie.close (tie.spec (λ c κs. search needs) (λ c. search needs) (λ c κs. search needs) (λ c. search needs) (λ c κs. search needs)
+    (λ c. search needs) (λ c. search needs) (λ c. search needs) (λ c. search needs)
     (λ c. rw (sym (c .before .before .before .before .before .before .before .before .before .before .before .before .be-u64 .ensures) ∙ c .before .before .before .before .before .before .before .before .before .before .n .given .1, sym (c .before .before .before .before .before .before .before .before .flag-at .ensures) ∙ c .before .before .before .before .before .before .present .given .1, sym (c .before .before .before .before .be-u16 .ensures) ∙ c .before .before .zone .given .1, c .if1 .taken))
     (λ c. rw (sym (c .before .before .before .before .before .before .before .before .before .before .before .before .before .be-u64 .ensures) ∙ c .before .before .before .before .before .before .before .before .before .before .before .n .given .1, sym (c .before .before .before .before .before .before .before .before .before .flag-at .ensures) ∙ c .before .before .before .before .before .before .before .present .given .1, sym (c .before .before .before .before .before .be-u16 .ensures) ∙ c .before .before .before .zone .given .1, c .before .if1 .left, eq-eqb (c .before .before .before .zone .given .0 .0) 0 (c .if2 .taken)))
     (λ c. rw (sym (c .before .before .before .before .before .before .before .before .before .before .before .before .before .be-u64 .ensures) ∙ c .before .before .before .before .before .before .before .before .before .before .before .n .given .1, sym (c .before .before .before .before .before .before .before .before .before .flag-at .ensures) ∙ c .before .before .before .before .before .before .before .present .given .1, sym (c .before .before .before .before .before .be-u16 .ensures) ∙ c .before .before .before .zone .given .1, c .before .if1 .left, ne-eqb (c .before .before .before .zone .given .0 .0) 0 (c .if2 .left)))

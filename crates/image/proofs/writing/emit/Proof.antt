@@ -28,15 +28,6 @@ returns-4 c =
     let a = c .before .before .before .before .before .before .before .before .before .before .before .before .args in
     (rw (rowIn-b (a .count) (now (a .text)) (a .r) (a .place) (end (a .next .at)) (omega arith) (omega arith) (omega arith) (omega arith)) (sym (pour-stop _ _ _ _)), grown-stop)
 
-named-requires : tie.Need-named-requires
-named-requires c κs = search needs
-
-add-size : tie.Need-add-size
-add-size c = search needs
-
-add-size-2 : tie.Need-add-size-2
-add-size-2 c = search needs
-
 add-size-3 : tie.Need-add-size-3
 add-size-3 c =
     let a = c .before .before .before .before .before .before .before .before .before .before .before .before .before .before .before .before .before .before .args in
@@ -54,9 +45,6 @@ add-t14 c =
     let a = c .before .before .before .before .before .before .before .before .before .before .before .before .before .before .before .before .before .before .before .before .before .before .args in
     let i = inside (now (a .text)) (a .r) (sym (c .before .before .before .before .before .before .before .before .before .named .ensures) ∙ c .before .before .before .before .before .before .before .before .if5 .taken) in
     omega (arith, c .before .before .before .before .before .before .before .before .before .before .before .before .before .before .before .before .before .before .before .before .before .before .good)
-
-same-length : tie.Need-same-length
-same-length c = search needs
 
 returns-5 : tie.Need-returns-5
 returns-5 c =
@@ -78,18 +66,5 @@ returns-6 c =
 
 pub emit-spec : {M : Type 1} → statement M
 emit-spec =
-    tie.close
-    (tie.spec
-    returns
-    returns-2
-    returns-3
-    returns-4
-    named-requires
-    add-size
-    add-size-2
-    add-size-3
-    lay-row-requires
-    add-t14
-    same-length
-    returns-5
-    returns-6)
+    tie.close (tie.spec returns returns-2 returns-3 returns-4 (λ c κs. search needs) (λ c. search needs) (λ c. search needs) add-size-3
+    lay-row-requires add-t14 (λ c. search needs) returns-5 returns-6)

@@ -58,16 +58,5 @@ returns-5 c =
 
 pub emit-text-spec : {M : Type 1} → statement M
 emit-text-spec =
-    tie.close
-    (tie.spec
-    returns
-    returns-2
-    returns-3
-    (λ c κs. search needs)
-    lay-text-requires
-    (λ c. search needs)
-    (λ c. search needs)
-    add-size
-    (λ c. search needs)
-    returns-4
-    returns-5)
+    tie.close (tie.spec returns returns-2 returns-3 (λ c κs. search needs) lay-text-requires (λ c. search needs) (λ c. search needs) add-size
+    (λ c. search needs) returns-4 returns-5)

@@ -12,26 +12,11 @@ use borrow.Author.Needs.{needs}
 use Rattle.image.proofs.writing.lay_row.Statement.{statement}
 use Rattle.image.proofs.writing.lay_row.Tie as tie
 
-sub-if2 : tie.Need-sub-if2
-sub-if2 c = search needs
-
-lay-requires : tie.Need-lay-requires
-lay-requires c κs = omega (arith, length-row (now (c .before .before .before .before .before .args .text)) (c .before .before .before .before .before .args .r))
-
 lay-requires-2 : tie.Need-lay-requires-2
 lay-requires-2 c κs = omega (arith, length-row (now (c .before .before .before .before .before .before .before .before .before .args .text)) (c .before .before .before .before .before .before .before .before .before .args .r))
 
 lay-requires-3 : tie.Need-lay-requires-3
 lay-requires-3 c κs = omega (arith, length-row (now (c .before .before .before .before .before .before .before .before .before .before .before .before .before .args .text)) (c .before .before .before .before .before .before .before .before .before .before .before .before .before .args .r))
-
-part-requires : tie.Need-part-requires
-part-requires c κs = search needs
-
-write-bytes-requires : tie.Need-write-bytes-requires
-write-bytes-requires c κs = search needs
-
-same-length : tie.Need-same-length
-same-length c = search needs
 
 returns : tie.Need-returns
 returns c =
@@ -57,15 +42,6 @@ returns-3 c =
 
 pub lay-row-spec : {M : Type 1} → statement M
 lay-row-spec =
-    tie.close
-    (tie.spec
-    sub-if2
-    lay-requires
-    lay-requires-2
-    lay-requires-3
-    part-requires
-    write-bytes-requires
-    same-length
-    returns
-    returns-2
-    returns-3)
+    tie.close (tie.spec (λ c. search needs)
+    (λ c κs. omega (arith, length-row (now (c .before .before .before .before .before .args .text)) (c .before .before .before .before .before .args .r)))
+    lay-requires-2 lay-requires-3 (λ c κs. search needs) (λ c κs. search needs) (λ c. search needs) returns returns-2 returns-3)

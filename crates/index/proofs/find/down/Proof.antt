@@ -67,24 +67,6 @@ returns-4 c =
 
 pub down-spec : {M : Type 1} → statement M
 down-spec =
-    tie.close
-    (tie.spec
-    Inv-loop
-    μ-loop
-    (λ c. (omega arith, length (now (c .before .before .before .before .args .path)), omega arith, refl))
-    (λ c κs. search needs)
-    (λ c. search needs)
-    returns
-    (λ c. search needs)
-    (λ c. search needs)
-    (λ c κs. search needs)
-    (λ c κs. search needs)
-    (λ c κs. search needs)
-    (λ c. search needs)
-    returns-2
-    (λ c. search needs)
-    add-i
-    loop-less
-    loop-again
-    returns-3
-    returns-4)
+    tie.close (tie.spec Inv-loop μ-loop (λ c. (omega arith, length (now (c .before .before .before .before .args .path)), omega arith, refl))
+    (λ c κs. search needs) (λ c. search needs) returns (λ c. search needs) (λ c. search needs) (λ c κs. search needs) (λ c κs. search needs)
+    (λ c κs. search needs) (λ c. search needs) returns-2 (λ c. search needs) add-i loop-less loop-again returns-3 returns-4)

@@ -43,24 +43,8 @@ returns-7 c =
 pub leads-spec : {M : Type 1} → statement M
 unfolding leadsOf
 leads-spec =
-    tie.close
-    (tie.spec
-    (λ c. search needs)
+    tie.close (tie.spec (λ c. search needs)
     (λ c. let a = c .before .before .before .before .before .args in rw (ne-eqb (a .container) (a .m .container) (c .if1 .taken)))
-    (λ c. search needs)
-    (λ c κs. search needs)
-    (λ c. search needs)
-    (λ c κs. search needs)
-    (λ c. search needs)
-    (λ c. search needs)
-    returns-2
-    (λ c κs. search needs)
-    (λ c κs. search needs)
-    (λ c κs. search needs)
-    (λ c κs. search needs)
-    returns-3
-    (λ c. search needs)
-    returns-4
-    returns-5
-    returns-6
-    returns-7)
+    (λ c. search needs) (λ c κs. search needs) (λ c. search needs) (λ c κs. search needs) (λ c. search needs) (λ c. search needs) returns-2
+    (λ c κs. search needs) (λ c κs. search needs) (λ c κs. search needs) (λ c κs. search needs) returns-3 (λ c. search needs) returns-4 returns-5
+    returns-6 returns-7)

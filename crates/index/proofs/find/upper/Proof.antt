@@ -51,18 +51,6 @@ returns c =
 
 pub upper-spec : {M : Type 1} → statement M
 upper-spec =
-    tie.close
-    (tie.spec
-    Inv-loop
-    μ-loop
-    (λ c. (omega arith, omega arith, c .before .before .before .before .args .n, omega arith, refl))
-    (λ c. omega arith)
-    (λ c. omega arith)
-    (λ c κs. omega arith)
-    (λ c κs. search needs)
-    (λ c. omega arith)
-    loop-again
-    (λ c. omega arith)
-    (λ c. omega arith)
-    loop-again-2
-    returns)
+    tie.close (tie.spec Inv-loop μ-loop (λ c. (omega arith, omega arith, c .before .before .before .before .args .n, omega arith, refl))
+    (λ c. omega arith) (λ c. omega arith) (λ c κs. omega arith) (λ c κs. search needs) (λ c. omega arith) loop-again (λ c. omega arith)
+    (λ c. omega arith) loop-again-2 returns)

@@ -23,15 +23,5 @@ returns-4 c = rw (sym (c .before .before .record-at .ensures) ∙ c .enum-told .
 
 pub root-spec : {M : Type 1} → statement M
 root-spec =
-    tie.close
-    (tie.spec
-    (λ c κs. search needs)
-    (λ c. search needs)
-    (λ c κs. search needs)
-    (λ c. search needs)
-    (λ c κs. search needs)
-    returns
-    returns-2
-    (λ c. search needs)
-    returns-3
-    returns-4)
+    tie.close (tie.spec (λ c κs. search needs) (λ c. search needs) (λ c κs. search needs) (λ c. search needs) (λ c κs. search needs) returns returns-2
+    (λ c. search needs) returns-3 returns-4)

@@ -23,14 +23,6 @@ returns c =
 
 pub put-mark-spec : {M : Type 1} → statement M
 put-mark-spec =
-    tie.close
-    (tie.spec
-    (λ c. search needs)
-    (λ c. search needs)
-    (λ c κs. simp length-set (omega arith))
-    (λ c. search needs)
-    (λ c κs. omega (arith, simp length-set at (c .before .before .before .store4 .kept .0)))
-    (λ c. search needs)
-    store4-requires-3
-    same-length
+    tie.close (tie.spec (λ c. search needs) (λ c. search needs) (λ c κs. simp length-set (omega arith)) (λ c. search needs)
+    (λ c κs. omega (arith, simp length-set at (c .before .before .before .store4 .kept .0))) (λ c. search needs) store4-requires-3 same-length
     returns)

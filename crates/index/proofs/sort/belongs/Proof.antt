@@ -12,14 +12,5 @@ abbrev μ-loop : tie.MeasureT-loop
 
 pub belongs-spec : {M : Type 1} → statement M
 belongs-spec =
-    tie.close
-    (tie.spec
-    Inv-loop
-    μ-loop
-    (λ c. omega arith)
-    (λ c κs. (omega arith, omega arith))
-    (λ c. omega arith)
-    (λ c. omega arith)
-    (λ c. omega arith)
-    (λ c. omega arith)
-    (λ c. omega arith))
+    tie.close (tie.spec Inv-loop μ-loop (λ c. omega arith) (λ c κs. (omega arith, omega arith)) (λ c. omega arith) (λ c. omega arith)
+    (λ c. omega arith) (λ c. omega arith) (λ c. omega arith))

@@ -16,15 +16,6 @@ returns c =
 
 pub exchange-spec : {M : Type 1} → statement M
 exchange-spec =
-    tie.close
-    (tie.spec
-    (λ c. omega arith)
-    (λ c κs. omega arith)
-    (λ c. omega arith)
-    (λ c κs. omega arith)
-    (λ c. omega arith)
-    (λ c κs. omega arith)
-    (λ c. omega arith)
-    (λ c κs. omega (arith, c .before .before .before .put-mark .kept .0))
-    (λ c. c .before .before .put-mark2 .kept .0 ∙ c .before .before .before .before .before .before .put-mark .kept .0)
-    returns)
+    tie.close (tie.spec (λ c. omega arith) (λ c κs. omega arith) (λ c. omega arith) (λ c κs. omega arith) (λ c. omega arith) (λ c κs. omega arith)
+    (λ c. omega arith) (λ c κs. omega (arith, c .before .before .before .put-mark .kept .0))
+    (λ c. c .before .before .put-mark2 .kept .0 ∙ c .before .before .before .before .before .before .put-mark .kept .0) returns)

@@ -41,22 +41,9 @@ loop2-again c =
 
 pub heap-spec : {M : Type 1} → statement M
 heap-spec =
-    tie.close
-    (tie.spec
-    Inv-loop
-    μ-loop
-    Inv-loop2
-    μ-loop2
-    (λ c. (omega arith, refl, mixed-same _ _))
-    (λ c. omega arith)
-    (λ c κs. let l = c .before .before .loop in (omega (arith, l .inv .1), omega (arith, l .inv .0)))
-    (λ c. omega arith)
-    loop-again
-    (λ c. (omega arith, refl, mixed-same _ _))
-    (λ c. omega arith)
+    tie.close (tie.spec Inv-loop μ-loop Inv-loop2 μ-loop2 (λ c. (omega arith, refl, mixed-same _ _)) (λ c. omega arith)
+    (λ c κs. let l = c .before .before .loop in (omega (arith, l .inv .1), omega (arith, l .inv .0))) (λ c. omega arith) loop-again
+    (λ c. (omega arith, refl, mixed-same _ _)) (λ c. omega arith)
     (λ c κs. (omega arith, omega (arith, c .before .before .loop2 .inv .0, c .before .before .loop2 .inv .1, c .before .before .before .before .loop .inv .1)))
-    settle-requires-2
-    (λ c. omega arith)
-    loop2-again
-    (λ c. c .before .loop2 .inv .1 ∙ c .before .before .before .loop .inv .1)
+    settle-requires-2 (λ c. omega arith) loop2-again (λ c. c .before .loop2 .inv .1 ∙ c .before .before .before .loop .inv .1)
     (λ c. mixed-then (c .before .before .before .loop .inv .2) (c .before .loop2 .inv .2)))

@@ -23,14 +23,7 @@ loop-again c =
 
 pub pass-spec : {M : Type 1} → statement M
 pass-spec =
-    tie.close
-    (tie.spec
-    Inv-loop
-    μ-loop
-    (λ c. (omega arith, refl, record { mixed = mixed-same _ _; rising = λ k h. absurd (omega arith) }))
-    (λ c κs. let l = c .before .before .loop in (omega arith, omega arith, l .inv .2 .rising))
-    (λ c. omega arith)
-    (λ c. omega arith)
-    loop-again
+    tie.close (tie.spec Inv-loop μ-loop (λ c. (omega arith, refl, record { mixed = mixed-same _ _; rising = λ k h. absurd (omega arith) }))
+    (λ c κs. let l = c .before .before .loop in (omega arith, omega arith, l .inv .2 .rising)) (λ c. omega arith) (λ c. omega arith) loop-again
     (λ c. c .before .loop .inv .1)
     (λ c. let l = c .before .loop in record { mixed = l .inv .2 .mixed; rising = λ k h. l .inv .2 .rising k (omega arith) }))

@@ -22,16 +22,7 @@ loop-again c =
 
 pub settle-spec : {M : Type 1} → statement M
 settle-spec =
-    tie.close
-    (tie.spec
-    Inv-loop
-    μ-loop
-    (λ c κs. (omega arith, omega arith))
-    (λ c κs. (omega arith, omega arith, c .leaf .ensures))
+    tie.close (tie.spec Inv-loop μ-loop (λ c κs. (omega arith, omega arith)) (λ c κs. (omega arith, omega arith, c .leaf .ensures))
     (λ c. (c .belongs .ensures, refl, λ m h g. mixed-same m _))
-    (λ c κs. let l = c .before .before .loop in (omega arith, omega (arith, l .inv .0, l .inv .1)))
-    (λ c. omega arith)
-    (λ c. omega arith)
-    loop-again
-    (λ c. c .before .loop .inv .1)
-    (λ c. c .before .loop .inv .2))
+    (λ c κs. let l = c .before .before .loop in (omega arith, omega (arith, l .inv .0, l .inv .1))) (λ c. omega arith) (λ c. omega arith) loop-again
+    (λ c. c .before .loop .inv .1) (λ c. c .before .loop .inv .2))

@@ -82,28 +82,9 @@ returns-2 c =
 
 pub sink-spec : {M : Type 1} → statement M
 sink-spec =
-    tie.close
-    (tie.spec
-    Inv-loop
-    μ-loop
-    (λ c. omega arith)
-    (λ c κs. omega arith)
-    (λ c κs. search needs)
-    loop-holds
-    (λ c. omega arith)
-    (λ c. omega arith)
-    (λ c κs. omega arith)
-    (λ c κs. c .before .before .before .before .key-text .ensures)
-    (λ c. omega arith)
-    (λ c κs. omega arith)
-    (λ c. omega arith)
-    (λ c. omega arith)
-    loop-again
-    (λ c. omega arith)
-    (λ c κs. omega arith)
-    (λ c. c .before .before .put-mark2 .kept .0 ∙ c .before .before .before .before .before .before .before .before .before .loop .inv .0)
-    returns
-    (λ c. omega (arith, c .before .before .loop .inv .2 .low))
-    (λ c κs. omega (arith, c .before .before .loop .inv .2 .low))
-    (λ c. c .before .before .put-mark3 .kept .0 ∙ c .before .before .before .before .before .loop .inv .0)
-    returns-2)
+    tie.close (tie.spec Inv-loop μ-loop (λ c. omega arith) (λ c κs. omega arith) (λ c κs. search needs) loop-holds (λ c. omega arith)
+    (λ c. omega arith) (λ c κs. omega arith) (λ c κs. c .before .before .before .before .key-text .ensures) (λ c. omega arith) (λ c κs. omega arith)
+    (λ c. omega arith) (λ c. omega arith) loop-again (λ c. omega arith) (λ c κs. omega arith)
+    (λ c. c .before .before .put-mark2 .kept .0 ∙ c .before .before .before .before .before .before .before .before .before .loop .inv .0) returns
+    (λ c. omega (arith, c .before .before .loop .inv .2 .low)) (λ c κs. omega (arith, c .before .before .loop .inv .2 .low))
+    (λ c. c .before .before .put-mark3 .kept .0 ∙ c .before .before .before .before .before .loop .inv .0) returns-2)

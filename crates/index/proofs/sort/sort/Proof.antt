@@ -15,9 +15,5 @@ returns c =
 
 pub sort-spec : {M : Type 1} → statement M
 sort-spec =
-    tie.close
-    (tie.spec
-    (λ c κs. omega arith)
-    (λ c κs. omega (arith, c .before .before .before .heap .kept .1 .1 .0))
-    (λ c. c .before .before .pass .kept .1 .1 .0 ∙ c .before .before .before .before .before .before .heap .kept .1 .1 .0)
-    returns)
+    tie.close (tie.spec (λ c κs. omega arith) (λ c κs. omega (arith, c .before .before .before .heap .kept .1 .1 .0))
+    (λ c. c .before .before .pass .kept .1 .1 .0 ∙ c .before .before .before .before .before .before .heap .kept .1 .1 .0) returns)

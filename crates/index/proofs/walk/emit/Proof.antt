@@ -14,10 +14,5 @@ returns c =
 
 pub emit-spec : {M : Type 1} → statement M
 emit-spec =
-    tie.close
-    (tie.spec
-    (λ c. search needs)
-    (λ c κs. search needs)
-    (λ c. search needs)
-    returns
+    tie.close (tie.spec (λ c. search needs) (λ c κs. search needs) (λ c. search needs) returns
     (λ c. let a = c .before .before .args in sym (laid-none (markBytes (a .m)) (a .count) (now (a .index)) (omega arith))))

@@ -7,42 +7,15 @@ use Rattle.lso.proofs.Outcome.{whole-refused, whole-left, whole-used}
 use Rattle.lso.proofs.read.parse.Statement.{statement}
 use Rattle.lso.proofs.read.parse.Tie as tie
 
-parse-file-requires : tie.Need-parse-file-requires
-parse-file-requires c κs = search needs
-
-enum-known-a : tie.Need-enum-known-a
-enum-known-a c = search needs
-
-finish-requires : tie.Need-finish-requires
-finish-requires c κs = search needs
-
-enum-known-c : tie.Need-enum-known-c
-enum-known-c c = search needs
-
-finish-requires-2 : tie.Need-finish-requires-2
-finish-requires-2 c κs = search needs
-
-finish-requires-3 : tie.Need-finish-requires-3
-finish-requires-3 c κs = search needs
-
-same-length : tie.Need-same-length
-same-length c = search needs
-
 returns : tie.Need-returns
 returns c =
     let e = whole-refused _ _ _ (incomplete-ran _ _ (rw (c .before .before .before .before .before .a .given .1) at (c .before .before .before .before .before .before .before .before .before .parse-file .ensures .0))) in
     (rw (sym e) (c .before .before .finish .ensures .0), rw (sym e, sym (c .before .before .before .before .before .before .before .before .before .parse-file .kept .0)) (c .before .before .finish .ensures .1))
 
-same-length-2 : tie.Need-same-length-2
-same-length-2 c = search needs
-
 returns-2 : tie.Need-returns-2
 returns-2 c =
     let e = whole-left _ _ _ (incomplete-ran _ _ (rw (c .before .before .before .before .before .before .before .c .given .1) at (c .before .before .before .before .before .before .before .before .before .before .before .parse-file .ensures .0))) refl (omega arith) in
     (rw (sym e) (c .before .before .finish2 .ensures .0), rw (sym e, sym (c .before .before .before .before .before .before .before .before .before .before .before .parse-file .kept .0)) (c .before .before .finish2 .ensures .1))
-
-same-length-3 : tie.Need-same-length-3
-same-length-3 c = search needs
 
 returns-3 : tie.Need-returns-3
 returns-3 c =
@@ -51,17 +24,5 @@ returns-3 c =
 
 pub parse-spec : {M : Type 1} → statement M
 parse-spec =
-    tie.close
-    (tie.spec
-    parse-file-requires
-    enum-known-a
-    finish-requires
-    enum-known-c
-    finish-requires-2
-    finish-requires-3
-    same-length
-    returns
-    same-length-2
-    returns-2
-    same-length-3
-    returns-3)
+    tie.close (tie.spec (λ c κs. search needs) (λ c. search needs) (λ c κs. search needs) (λ c. search needs) (λ c κs. search needs)
+    (λ c κs. search needs) (λ c. search needs) returns (λ c. search needs) returns-2 (λ c. search needs) returns-3)

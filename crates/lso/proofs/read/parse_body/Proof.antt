@@ -26,15 +26,6 @@ Inv-loop image₀ s done c₀ made₀ image c made =
 abbrev μ-loop : tie.MeasureT-loop
 μ-loop image₀ s done c₀ made₀ image c made = length s - c .at
 
-loop-holds : tie.Need-loop-holds Inv-loop μ-loop
-loop-holds c = (le-refl _, omega arith, omega arith, refl, length (now (c .before .before .args .s)), omega arith, refl)
-
-parse-element-requires : tie.Need-parse-element-requires Inv-loop μ-loop
-parse-element-requires c κs = search needs
-
-enum-known-d : tie.Need-enum-known-d Inv-loop μ-loop
-enum-known-d c = search needs
-
 loop-less : tie.Need-loop-less Inv-loop μ-loop
 loop-less c = let v = c .before .d .given .0 in omega (arith, c .before .before .before .before .before .parse-element .ensures .1 .bounds (v .0) (v .1 .0) (c .before .d .given .1))
 
@@ -55,12 +46,6 @@ loop-again c =
       l .inv .6 ∙ body-next s (l .c .at) (l .inv .4) (l .inv .5) _ _ e (omega arith),
     )
 
-enum-known-a : tie.Need-enum-known-a Inv-loop μ-loop
-enum-known-a c = search needs
-
-same-length : tie.Need-same-length Inv-loop μ-loop
-same-length c = search needs
-
 returns : tie.Need-returns Inv-loop μ-loop
 returns c =
     let l = c .before .before .before .before .before .before .before .before .loop in
@@ -68,18 +53,12 @@ returns c =
     let n = c .before .before .before .before .before .before .parse-element .kept .0 in
     (sym (l .inv .6 ∙ body-ends _ (l .c .at) (l .inv .4) (l .inv .5) _ _ e (inl (c .if1 .taken))), within-next (omega arith) (omega arith) (omega arith))
 
-same-length-2 : tie.Need-same-length-2 Inv-loop μ-loop
-same-length-2 c = search needs
-
 returns-2 : tie.Need-returns-2 Inv-loop μ-loop
 returns-2 c =
     let l = c .before .before .before .before .before .before .before .before .before .loop in
     let e = rw (c .before .before .before .a .given .1) at (c .before .before .before .before .before .before .before .parse-element .ensures .0) in
     let n = c .before .before .before .before .before .before .before .parse-element .kept .0 in
     (sym (l .inv .6 ∙ body-ends _ (l .c .at) (l .inv .4) (l .inv .5) _ _ e (inr (c .if2 .taken))), within-next (omega arith) (omega arith) (omega arith))
-
-same-length-3 : tie.Need-same-length-3 Inv-loop μ-loop
-same-length-3 c = search needs
 
 returns-3 : tie.Need-returns-3 Inv-loop μ-loop
 returns-3 c =
@@ -89,19 +68,7 @@ returns-3 c =
 
 pub parse-body-spec : {M : Type 1} → statement M
 parse-body-spec =
-    tie.close
-    (tie.spec
-    Inv-loop
-    μ-loop
-    loop-holds
-    parse-element-requires
-    enum-known-d
-    loop-less
-    loop-again
-    enum-known-a
-    same-length
-    returns
-    same-length-2
-    returns-2
-    same-length-3
+    tie.close (tie.spec Inv-loop μ-loop
+    (λ c. (le-refl _, omega arith, omega arith, refl, length (now (c .before .before .args .s)), omega arith, refl)) (λ c κs. search needs)
+    (λ c. search needs) loop-less loop-again (λ c. search needs) (λ c. search needs) returns (λ c. search needs) returns-2 (λ c. search needs)
     returns-3)

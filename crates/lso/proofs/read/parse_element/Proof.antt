@@ -17,49 +17,10 @@ use Rattle.lso.proofs.Laws.{closing, element-cut, element-key}
 use Rattle.lso.proofs.read.parse_element.Statement.{statement}
 use Rattle.lso.proofs.read.parse_element.Tie as tie
 
-parse-string-requires : tie.Need-parse-string-requires
-parse-string-requires c κs = search needs
-
-enum-known-a : tie.Need-enum-known-a
-enum-known-a c = search needs
-
-enum-known-p : tie.Need-enum-known-p
-enum-known-p c = search needs
-
-put-requires : tie.Need-put-requires
-put-requires c κs = search needs
-
-enum-known-a-2 : tie.Need-enum-known-a-2
-enum-known-a-2 c = search needs
-
-enum-known-v : tie.Need-enum-known-v
-enum-known-v c = search needs
-
-parse-value-requires : tie.Need-parse-value-requires
-parse-value-requires c κs = search needs
-
-enum-known-a-3 : tie.Need-enum-known-a-3
-enum-known-a-3 c = search needs
-
-enum-known-e : tie.Need-enum-known-e
-enum-known-e c = search needs
-
-zero-requires : tie.Need-zero-requires
-zero-requires c κs = search needs
-
-enum-known-a-4 : tie.Need-enum-known-a-4
-enum-known-a-4 c = search needs
-
-enum-known-f : tie.Need-enum-known-f
-enum-known-f c = search needs
-
 returns : tie.Need-returns
 returns c =
     let e = sym (c .before .before .before .parse-string .ensures) ∙ c .before .a .given .1 in
     (rw (element-cut _ (c .before .before .before .before .before .before .args .c .at) e) (sym (run-stop _ _ _ _)), within-stop)
-
-same-length : tie.Need-same-length
-same-length c = search needs
 
 returns-2 : tie.Need-returns-2
 returns-2 c =
@@ -96,9 +57,6 @@ laid c =
       same = rw (element-key s (a .c .at) e) (run-then d more _ _ (rw (c .before .v .given .1) at (c .before .before .before .before .before .put .ensures .0)));
     }
 
-same-length-2 : tie.Need-same-length-2
-same-length-2 c = search needs
-
 returns-3 : tie.Need-returns-3
 returns-3 c =
     let a = c .before .before .before .before .before .before .before .before .before .before .before .before .before .before .before .before .before .before .before .before .args in
@@ -121,16 +79,10 @@ valued c =
     let p = part-read 0 s (v .0 .at) (omega (arith, c .before .before .before .before .before .before .before .before .before .before .before .before .before .before .before .before .before .before .before .before .pre .0)) (omega arith) ∙ based-zero (value levels s (v .0 .at)) in
     l .same ∙ run-then (value levels s (v .0 .at)) (closing s) _ _ (rw (c .before .e .given .1, p) at (c .before .before .before .before .before .parse-value .ensures .0))
 
-same-length-3 : tie.Need-same-length-3
-same-length-3 c = search needs
-
 returns-4 : tie.Need-returns-4
 returns-4 c =
     let e = sym (c .before .before .before .zero .ensures) ∙ c .before .a4 .given .1 in
     (rw (valued (c .before .before .before .before), e) (sym (run-stop _ _ _ _)), within-stop)
-
-same-length-4 : tie.Need-same-length-4
-same-length-4 c = search needs
 
 returns-5 : tie.Need-returns-5
 returns-5 c =
@@ -146,26 +98,6 @@ returns-5 c =
 
 pub parse-element-spec : {M : Type 1} → statement M
 parse-element-spec =
-    tie.close
-    (tie.spec
-    parse-string-requires
-    enum-known-a
-    enum-known-p
-    put-requires
-    enum-known-a-2
-    enum-known-v
-    parse-value-requires
-    enum-known-a-3
-    enum-known-e
-    zero-requires
-    enum-known-a-4
-    enum-known-f
-    returns
-    same-length
-    returns-2
-    same-length-2
-    returns-3
-    same-length-3
-    returns-4
-    same-length-4
-    returns-5)
+    tie.close (tie.spec (λ c κs. search needs) (λ c. search needs) (λ c. search needs) (λ c κs. search needs) (λ c. search needs) (λ c. search needs)
+    (λ c κs. search needs) (λ c. search needs) (λ c. search needs) (λ c κs. search needs) (λ c. search needs) (λ c. search needs) returns
+    (λ c. search needs) returns-2 (λ c. search needs) returns-3 (λ c. search needs) returns-4 (λ c. search needs) returns-5)

@@ -7,18 +7,6 @@ use Rattle.lso.proofs.Laws.{file-over, file-stops, file-body}
 use Rattle.lso.proofs.read.parse_file.Statement.{statement}
 use Rattle.lso.proofs.read.parse_file.Tie as tie
 
-returns : tie.Need-returns
-returns c = (sym (file-over _ _ (omega arith)), within-stop)
-
-parse-header-requires : tie.Need-parse-header-requires
-parse-header-requires c κs = search needs
-
-enum-known-a : tie.Need-enum-known-a
-enum-known-a c = search needs
-
-enum-known-c : tie.Need-enum-known-c
-enum-known-c c = search needs
-
 parse-body-requires : tie.Need-parse-body-requires
 parse-body-requires c κs =
     let v = c .before .before .c .given .0 in
@@ -26,14 +14,8 @@ parse-body-requires c κs =
     let n = c .before .before .before .before .before .before .parse-header .kept .0 in
     (omega arith, omega arith, omega arith)
 
-same-length : tie.Need-same-length
-same-length c = search needs
-
 returns-2 : tie.Need-returns-2
 returns-2 c = (sym (file-stops _ _ (omega arith) (rw (c .before .a .given .1) at (c .before .before .before .before .before .parse-header .ensures .0))), within-stop)
-
-same-length-2 : tie.Need-same-length-2
-same-length-2 c = search needs
 
 returns-3 : tie.Need-returns-3
 returns-3 c =
@@ -43,14 +25,5 @@ returns-3 c =
 
 pub parse-file-spec : {M : Type 1} → statement M
 parse-file-spec =
-    tie.close
-    (tie.spec
-    returns
-    parse-header-requires
-    enum-known-a
-    enum-known-c
-    parse-body-requires
-    same-length
-    returns-2
-    same-length-2
-    returns-3)
+    tie.close (tie.spec (λ c. (sym (file-over _ _ (omega arith)), within-stop)) (λ c κs. search needs) (λ c. search needs) (λ c. search needs)
+    parse-body-requires (λ c. search needs) returns-2 (λ c. search needs) returns-3)

@@ -34,60 +34,6 @@ name-at c = sym (c .before .before .before .parse-string .ensures) ∙ c .before
 zeros-at : (c : tie.After-known-told10) → zerosAt 4 (now (c .before .before .before .before .before .before .before .before .before .before .before .before .before .before .before .before .before .before .before .before .before .before .before .before .args .s)) (c .before .before .before .before .before .name .given .0 .1 .1 .0 .at) ≡ Tag.Past (c .before .h .given .0 .0)
 zeros-at c = sym (c .before .before .before .zeros .ensures) ∙ c .before .h .given .1
 
-slice-aggregate-tag : tie.Need-slice-aggregate-tag
-slice-aggregate-tag c = search needs
-
-tag-requires : tie.Need-tag-requires
-tag-requires c κs = search needs
-
-enum-known-a : tie.Need-enum-known-a
-enum-known-a c = search needs
-
-enum-known-d : tie.Need-enum-known-d
-enum-known-d c = search needs
-
-be-u32-requires : tie.Need-be-u32-requires
-be-u32-requires c κs = search needs
-
-enum-known-a-2 : tie.Need-enum-known-a-2
-enum-known-a-2 c = search needs
-
-enum-known-stored : tie.Need-enum-known-stored
-enum-known-stored c = search needs
-
-slice-aggregate-tag-2 : tie.Need-slice-aggregate-tag-2
-slice-aggregate-tag-2 c = search needs
-
-tag-requires-2 : tie.Need-tag-requires-2
-tag-requires-2 c κs = search needs
-
-enum-known-a-3 : tie.Need-enum-known-a-3
-enum-known-a-3 c = search needs
-
-enum-known-f : tie.Need-enum-known-f
-enum-known-f c = search needs
-
-parse-string-requires : tie.Need-parse-string-requires
-parse-string-requires c κs = search needs
-
-enum-known-a-4 : tie.Need-enum-known-a-4
-enum-known-a-4 c = search needs
-
-enum-known-name : tie.Need-enum-known-name
-enum-known-name c = search needs
-
-zeros-requires : tie.Need-zeros-requires
-zeros-requires c κs = search needs
-
-enum-known-a-5 : tie.Need-enum-known-a-5
-enum-known-a-5 c = search needs
-
-enum-known-h : tie.Need-enum-known-h
-enum-known-h c = search needs
-
-put-requires : tie.Need-put-requires
-put-requires c κs = search needs
-
 returns : tie.Need-returns
 unfolding headerAt
 returns c =
@@ -119,9 +65,6 @@ returns-5 c =
     let e = sym (c .before .before .before .zeros .ensures) ∙ c .before .a5 .given .1 in
     (rw (version-at (c .before .before .before .before .before .before .before .before .before .before .before .before .before .before .before .before .before), stored-at (c .before .before .before .before .before .before .before .before .before .before .before .before .before), signature-at (c .before .before .before .before .before .before .before .before), name-at (c .before .before .before .before), e) (sym (run-stop _ _ _ _)), within-stop)
 
-same-length : tie.Need-same-length
-same-length c = search needs
-
 returns-6 : tie.Need-returns-6
 unfolding headerAt
 returns-6 c =
@@ -134,30 +77,7 @@ returns-6 c =
 
 pub parse-header-spec : {M : Type 1} → statement M
 parse-header-spec =
-    tie.close
-    (tie.spec
-    slice-aggregate-tag
-    tag-requires
-    enum-known-a
-    enum-known-d
-    be-u32-requires
-    enum-known-a-2
-    enum-known-stored
-    slice-aggregate-tag-2
-    tag-requires-2
-    enum-known-a-3
-    enum-known-f
-    parse-string-requires
-    enum-known-a-4
-    enum-known-name
-    zeros-requires
-    enum-known-a-5
-    enum-known-h
-    put-requires
-    returns
-    returns-2
-    returns-3
-    returns-4
-    returns-5
-    same-length
-    returns-6)
+    tie.close (tie.spec (λ c. search needs) (λ c κs. search needs) (λ c. search needs) (λ c. search needs) (λ c κs. search needs) (λ c. search needs)
+    (λ c. search needs) (λ c. search needs) (λ c κs. search needs) (λ c. search needs) (λ c. search needs) (λ c κs. search needs)
+    (λ c. search needs) (λ c. search needs) (λ c κs. search needs) (λ c. search needs) (λ c. search needs) (λ c κs. search needs) returns returns-2
+    returns-3 returns-4 returns-5 (λ c. search needs) returns-6)

@@ -36,12 +36,6 @@ write-element-requires c κs =
     let l = c .before .before .before .loop in
     (p .0, p .1, l .inv .0, l .inv .1)
 
-enum-known-a : tie.Need-enum-known-a Inv-loop μ-loop
-enum-known-a c = search needs
-
-same-length : tie.Need-same-length Inv-loop μ-loop
-same-length c = search needs
-
 returns : tie.Need-returns Inv-loop μ-loop
 returns c =
     let a = c .before .before .before .before .before .before .before .before .before .before .before .before .before .args in
@@ -51,9 +45,6 @@ returns c =
     let j = l .inv in
     rw (j .5, body-more i x (l .c .at) (j .3) (omega arith) (c .before .before .before .before .before .before .before .if1 .taken))
     (sym (pour-halt (element i x (l .c .at)) (body i x (j .3 - 1)) _ _ (rw (c .before .a .given .1) at (c .before .before .before .before .before .write-element .ensures .0))))
-
-enum-known-d : tie.Need-enum-known-d Inv-loop μ-loop
-enum-known-d c = search needs
 
 loop-less : tie.Need-loop-less Inv-loop μ-loop
 loop-less c =
@@ -78,9 +69,6 @@ loop-again c =
           (pour-then (element i x (l .c .at)) (body i x (j .3 - 1)) _ _ (rw (c .before .d .given .1) at (c .before .before .before .before .before .write-element .ensures .0))),
     )
 
-same-length-2 : tie.Need-same-length-2 Inv-loop μ-loop
-same-length-2 c = search needs
-
 returns-2 : tie.Need-returns-2 Inv-loop μ-loop
 returns-2 c =
     let a = c .before .before .before .before .before .before .args in
@@ -90,17 +78,5 @@ returns-2 c =
 
 pub write-body-spec : {M : Type 1} → statement M
 write-body-spec =
-    tie.close
-    (tie.spec
-    Inv-loop
-    μ-loop
-    loop-holds
-    write-element-requires
-    enum-known-a
-    same-length
-    returns
-    enum-known-d
-    loop-less
-    loop-again
-    same-length-2
-    returns-2)
+    tie.close (tie.spec Inv-loop μ-loop loop-holds write-element-requires (λ c. search needs) (λ c. search needs) returns (λ c. search needs)
+    loop-less loop-again (λ c. search needs) returns-2)

@@ -14,18 +14,6 @@ use borrow.Author.Needs.{needs}
 use Rattle.lso.proofs.write.write_file.Statement.{statement}
 use Rattle.lso.proofs.write.write_file.Tie as tie
 
-record-at-requires : tie.Need-record-at-requires
-record-at-requires c κs = search needs
-
-enum-told : tie.Need-enum-told
-enum-told c = search needs
-
-enum-known-r : tie.Need-enum-known-r
-enum-known-r c = search needs
-
-part-of-requires : tie.Need-part-of-requires
-part-of-requires c κs = search needs
-
 -- the part that a record is, and the file from there on
 record Shown (c : tie.After-part-of) : Type 0 where
   from : 1 ≤ c .before .before .r .given .0 .1 .0 .at
@@ -44,24 +32,6 @@ shown c =
     let p = past i (λ n. c .before .before .before .before .before .before .shared-slice-known .given n .fits) 0 e in
     record { from = p .from; fits = p .fits; same = λ y h. file-parted (λ name body. a .stored) i (now (a .text)) e (sym (c .part-of .ensures) ∙ h) }
 
-enum-told-2 : tie.Need-enum-told-2
-enum-told-2 c = search needs
-
-enum-told-3 : tie.Need-enum-told-3
-enum-told-3 c = search needs
-
-enum-known-part : tie.Need-enum-known-part
-enum-known-part c = search needs
-
-write-header-requires : tie.Need-write-header-requires
-write-header-requires c κs = search needs
-
-enum-known-a : tie.Need-enum-known-a
-enum-known-a c = search needs
-
-enum-known-e : tie.Need-enum-known-e
-enum-known-e c = search needs
-
 write-body-requires : tie.Need-write-body-requires
 write-body-requires c κs =
     let p = c .before .before .before .before .before .before .before .before .before .before .before .before .before .before .before .before .before .before .before .pre in
@@ -76,15 +46,6 @@ returns c =
     let a = c .before .before .before .before .before .before .args in
     rw (file-bad (λ name body. a .stored) (now (a .image)) (now (a .text)) (sym (c .before .before .record-at .ensures) ∙ c .enum-told .given .1)) (sym (pour-stop _ _ _ _))
 
-returns-2 : tie.Need-returns-2
-returns-2 c = rw (shown (c .before .before) .same _ (c .enum-told2 .given .1)) (sym (pour-stop _ _ _ _))
-
-returns-3 : tie.Need-returns-3
-returns-3 c = rw (shown (c .before .before) .same _ (c .enum-told3 .given .1)) (sym (pour-stop _ _ _ _))
-
-same-length : tie.Need-same-length
-same-length c = search needs
-
 returns-4 : tie.Need-returns-4
 returns-4 c =
     let a = c .before .before .before .before .before .before .before .before .before .before .before .before .before .before .before .before .before .before .args in
@@ -94,9 +55,6 @@ returns-4 c =
     let q = c .before .before .before .before .before .before .before .before .before .before .before .before .r .given .0 .1 .0 in
     rw (shown (c .before .before .before .before .before .before .before .before .before .before) .same _ (c .before .before .before .before .before .before .before .before .part .given .1), header-bind (a .stored) x (w .0) (w .1 .0) (q .at) (body i x (length i)))
     (sym (pour-halt (header (a .stored) x (w .0) (w .1 .0) (end (q .at))) (body i x (length i)) 0 (now (a .out)) (rw (c .before .a .given .1) at (c .before .before .before .before .before .write-header .ensures .0))))
-
-same-length-2 : tie.Need-same-length-2
-same-length-2 c = search needs
 
 returns-5 : tie.Need-returns-5
 returns-5 c =
@@ -110,23 +68,8 @@ returns-5 c =
 
 pub write-file-spec : {M : Type 1} → statement M
 write-file-spec =
-    tie.close
-    (tie.spec
-    record-at-requires
-    enum-told
-    enum-known-r
-    part-of-requires
-    enum-told-2
-    enum-told-3
-    enum-known-part
-    write-header-requires
-    enum-known-a
-    enum-known-e
-    write-body-requires
-    returns
-    returns-2
-    returns-3
-    same-length
-    returns-4
-    same-length-2
-    returns-5)
+    tie.close (tie.spec (λ c κs. search needs) (λ c. search needs) (λ c. search needs) (λ c κs. search needs) (λ c. search needs) (λ c. search needs)
+    (λ c. search needs) (λ c κs. search needs) (λ c. search needs) (λ c. search needs) write-body-requires returns
+    (λ c. rw (shown (c .before .before) .same _ (c .enum-told2 .given .1)) (sym (pour-stop _ _ _ _)))
+    (λ c. rw (shown (c .before .before) .same _ (c .enum-told3 .given .1)) (sym (pour-stop _ _ _ _))) (λ c. search needs) returns-4
+    (λ c. search needs) returns-5)

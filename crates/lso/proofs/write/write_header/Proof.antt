@@ -13,18 +13,6 @@ use borrow.Author.Needs.{needs}
 use Rattle.lso.proofs.write.write_header.Statement.{statement}
 use Rattle.lso.proofs.write.write_header.Tie as tie
 
-row-requires : tie.Need-row-requires
-row-requires c κs = search needs
-
-emit-requires : tie.Need-emit-requires
-emit-requires c κs = search needs
-
-enum-known-a : tie.Need-enum-known-a
-enum-known-a c = search needs
-
-enum-known-c : tie.Need-enum-known-c
-enum-known-c c = search needs
-
 -- the first row is put out, and the others are left
 record Opened (c : tie.After-known-told2) : Type 0 where
   next : c .before .c .given .0 .0 .at ≡ c .before .before .before .before .before .before .before .before .before .before .args .next .at
@@ -48,18 +36,6 @@ opened c =
       most = omega arith;
       same = row-then x (opening (a .stored)) 0 (a .next .at) 0 (now (a .out)) (omega arith) (omega arith) more (rw (c .before .before .before .before .before .before .row .ensures, c .before .c .given .1) at (c .before .before .before .before .before .emit .ensures .0));
     }
-
-row-requires-2 : tie.Need-row-requires-2
-row-requires-2 c κs = search needs
-
-emit-requires-2 : tie.Need-emit-requires-2
-emit-requires-2 c κs = search needs
-
-enum-known-a-2 : tie.Need-enum-known-a-2
-enum-known-a-2 c = search needs
-
-enum-known-d : tie.Need-enum-known-d
-enum-known-d c = search needs
 
 -- the second row is put out too
 record Named (c : tie.After-known-told4) : Type 0 where
@@ -88,24 +64,12 @@ named c =
       same = k .same ∙ row-then x (naming (a .p) (a .n)) 0 (u .0 .at) (u .1 .0) (c .before .before .before .before .before .before .before .before .before .before .before .before .before .emit .last .0) (omega arith) (omega arith) more (rw (c .before .before .before .before .before .before .row2 .ensures, c .before .d .given .1) at (c .before .before .before .before .before .emit2 .ensures .0));
     }
 
-row-requires-3 : tie.Need-row-requires-3
-row-requires-3 c κs = search needs
-
-emit-requires-3 : tie.Need-emit-requires-3
-emit-requires-3 c κs = search needs
-
-same-length : tie.Need-same-length
-same-length c = search needs
-
 returns : tie.Need-returns
 returns c =
     let a = c .before .before .before .before .before .before .before .before .before .before .args in
     let x = now (a .text) in
     let more : ℕ → Out = λ z. row x (naming (a .p) (a .n)) 0 (row x closing 0 (end z)) in
     (sym (row-halt x (opening (a .stored)) 0 (a .next .at) 0 (now (a .out)) (omega arith) (omega arith) more (rw (c .before .before .before .before .before .before .row .ensures, c .before .a .given .1) at (c .before .before .before .before .before .emit .ensures .0))), grown-stop)
-
-same-length-2 : tie.Need-same-length-2
-same-length-2 c = search needs
 
 returns-2 : tie.Need-returns-2
 returns-2 c =
@@ -131,21 +95,6 @@ returns-3 c =
 
 pub write-header-spec : {M : Type 1} → statement M
 write-header-spec =
-    tie.close
-    (tie.spec
-    row-requires
-    emit-requires
-    enum-known-a
-    enum-known-c
-    row-requires-2
-    emit-requires-2
-    enum-known-a-2
-    enum-known-d
-    row-requires-3
-    emit-requires-3
-    same-length
-    returns
-    same-length-2
-    returns-2
-    same-length-3
-    returns-3)
+    tie.close (tie.spec (λ c κs. search needs) (λ c κs. search needs) (λ c. search needs) (λ c. search needs) (λ c κs. search needs)
+    (λ c κs. search needs) (λ c. search needs) (λ c. search needs) (λ c κs. search needs) (λ c κs. search needs) (λ c. search needs) returns
+    (λ c. search needs) returns-2 same-length-3 returns-3)

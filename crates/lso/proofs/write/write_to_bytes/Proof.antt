@@ -11,47 +11,17 @@ use borrow.Author.Needs.{needs}
 use Rattle.lso.proofs.write.write_to_bytes.Statement.{statement}
 use Rattle.lso.proofs.write.write_to_bytes.Tie as tie
 
-refused-requires : tie.Need-refused-requires
-refused-requires c κs = search needs
-
 returns : tie.Need-returns
 returns c =
     let a = c .before .before .before .before .before .args in
     let e = write-text (now (a .image)) (now (a .text)) (length (now (a .out))) (c .before .if1 .taken) in
     (c .refused .ensures ∙ rw e, rw e)
 
-refused-requires-2 : tie.Need-refused-requires-2
-refused-requires-2 c κs = search needs
-
 returns-2 : tie.Need-returns-2
 returns-2 c =
     let a = c .before .before .before .before .before .before .args in
     let e = write-image (now (a .image)) (now (a .text)) (length (now (a .out))) (omega arith) (c .before .if2 .taken) in
     (c .refused2 .ensures ∙ rw e, rw e)
-
-slice-relend-prefix-write-file : tie.Need-slice-relend-prefix-write-file
-slice-relend-prefix-write-file c = search needs
-
-slice-aggregate-write-file : tie.Need-slice-aggregate-write-file
-slice-aggregate-write-file c = search needs
-
-write-file-requires : tie.Need-write-file-requires
-write-file-requires c κs = search needs
-
-enum-known-a : tie.Need-enum-known-a
-enum-known-a c = search needs
-
-refused-requires-3 : tie.Need-refused-requires-3
-refused-requires-3 c κs = search needs
-
-enum-known-n : tie.Need-enum-known-n
-enum-known-n c = search needs
-
-refused-requires-4 : tie.Need-refused-requires-4
-refused-requires-4 c κs = search needs
-
-same-length : tie.Need-same-length
-same-length c = search needs
 
 returns-3 : tie.Need-returns-3
 returns-3 c =
@@ -63,12 +33,6 @@ returns-3 c =
     let f = rw (c .before .before .before .n .given .1) at (c .before .before .before .before .before .before .before .write-file .ensures) in
     let e = write-over i x (length o) (omega arith) (omega arith) [] refl f (omega arith) in
     (c .refused4 .ensures ∙ rw e, rw (e, u))
-
-refused-requires-5 : tie.Need-refused-requires-5
-refused-requires-5 c κs = search needs
-
-same-length-2 : tie.Need-same-length-2
-same-length-2 c = search needs
 
 returns-4 : tie.Need-returns-4
 returns-4 c =
@@ -88,12 +52,6 @@ sub-write-file c =
     let k = write-fixed (now (a .image)) (now (a .text)) 0 (omega arith) (omega arith) [] refl f .enough in
     omega arith
 
-write-file-requires-2 : tie.Need-write-file-requires-2
-write-file-requires-2 c κs = search needs
-
-same-length-3 : tie.Need-same-length-3
-same-length-3 c = search needs
-
 returns-5 : tie.Need-returns-5
 returns-5 c =
     let a = c .before .before .before .before .before .before .before .before .before .before .before .before .before .args in
@@ -103,9 +61,6 @@ returns-5 c =
     let u = no-room (c .before .before .before .before .before .before .write-file .last .0) o (c .before .before .before .before .before .before .write-file .kept .0) in
     let e = write-halt i x (length o) (omega arith) (omega arith) [] refl (rw (c .before .before .a .given .1) at (c .before .before .before .before .before .before .write-file .ensures)) in
     (c .refused3 .ensures ∙ rw e, rw (e, u))
-
-same-length-4 : tie.Need-same-length-4
-same-length-4 c = search needs
 
 returns-6 : tie.Need-returns-6
 returns-6 c =
@@ -122,27 +77,6 @@ returns-6 c =
 
 pub write-to-bytes-spec : {M : Type 1} → statement M
 write-to-bytes-spec =
-    tie.close
-    (tie.spec
-    refused-requires
-    returns
-    refused-requires-2
-    returns-2
-    slice-relend-prefix-write-file
-    slice-aggregate-write-file
-    write-file-requires
-    enum-known-a
-    refused-requires-3
-    enum-known-n
-    refused-requires-4
-    same-length
-    returns-3
-    refused-requires-5
-    same-length-2
-    returns-4
-    sub-write-file
-    write-file-requires-2
-    same-length-3
-    returns-5
-    same-length-4
-    returns-6)
+    tie.close (tie.spec (λ c κs. search needs) returns (λ c κs. search needs) returns-2 (λ c. search needs) (λ c. search needs) (λ c κs. search needs)
+    (λ c. search needs) (λ c κs. search needs) (λ c. search needs) (λ c κs. search needs) (λ c. search needs) returns-3 (λ c κs. search needs)
+    (λ c. search needs) returns-4 sub-write-file (λ c κs. search needs) (λ c. search needs) returns-5 (λ c. search needs) returns-6)

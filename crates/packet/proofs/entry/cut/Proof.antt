@@ -20,39 +20,12 @@ Inv-loop s list₀ w₀ n₀ list w n = (length list ≡ length list₀) × (n �
 abbrev μ-loop : tie.MeasureT-loop
 μ-loop s list₀ w₀ n₀ list w n = length list₀ - n
 
-begin-requires : tie.Need-begin-requires Inv-loop μ-loop
-begin-requires c κs = search needs
-
 loop-holds : tie.Need-loop-holds Inv-loop μ-loop
 loop-holds c = (refl, omega arith, sym (aheads-none (c .before .before .args .list .now) (restOf (c .before .before .args .packet .now) (c .begin .result)) ∙ c .begin .ensures))
-
-below-requires : tie.Need-below-requires Inv-loop μ-loop
-below-requires c κs = search needs
-
-step-requires : tie.Need-step-requires Inv-loop μ-loop
-step-requires c κs = search needs
-
-entry-in-requires : tie.Need-entry-in-requires Inv-loop μ-loop
-entry-in-requires c κs = search needs
 
 -- there is an entry, and a place for it
 more : (c : tie.Then1 Inv-loop μ-loop) → let l = c .before .before .loop in (l .n < length (l .list)) × (goesOn (l .w) ≡ true)
 more c = let l = c .before .before .loop in below-true (l .w) (l .n) (length (l .list)) (sym (c .before .below .ensures) ∙ c .if1 .taken)
-
-mul-e : tie.Need-mul-e Inv-loop μ-loop
-mul-e c = search needs
-
-slice-set-from-e : tie.Need-slice-set-from-e Inv-loop μ-loop
-slice-set-from-e c = more (c .before .before) .0
-
-walk-in-requires : tie.Need-walk-in-requires Inv-loop μ-loop
-walk-in-requires c κs = search needs
-
-add-n : tie.Need-add-n Inv-loop μ-loop
-add-n c = search needs
-
-loop-less : tie.Need-loop-less Inv-loop μ-loop
-loop-less c = omega (arith, more (c .before .before .before) .0, c .before .before .before .before .before .loop .inv .0)
 
 loop-again : tie.Need-loop-again Inv-loop μ-loop
 loop-again c =
@@ -64,18 +37,6 @@ loop-again c =
       omega (arith, m .0, l .inv .0),
       l .inv .2 ∙ rw (c .before .before .step .ensures .0 (m .1), c .walk-in .ensures, c .before .entry-in .ensures) (aheads-more (l .list) (l .n) (x .entry) (restOf s (x .walk)) (m .0)),
     )
-
-counted-requires : tie.Need-counted-requires Inv-loop μ-loop
-counted-requires c κs = search needs
-
-count-in-requires : tie.Need-count-in-requires Inv-loop μ-loop
-count-in-requires c κs = search needs
-
-clear-requires : tie.Need-clear-requires Inv-loop μ-loop
-clear-requires c κs = search needs
-
-same-length : tie.Need-same-length Inv-loop μ-loop
-same-length c = search needs
 
 returns : tie.Need-returns Inv-loop μ-loop
 unfolding listOf
@@ -93,23 +54,7 @@ returns c =
 
 pub cut-spec : {M : Type 1} → statement M
 cut-spec =
-    tie.close
-    (tie.spec
-    Inv-loop
-    μ-loop
-    begin-requires
-    loop-holds
-    below-requires
-    step-requires
-    entry-in-requires
-    mul-e
-    slice-set-from-e
-    walk-in-requires
-    add-n
-    loop-less
-    loop-again
-    counted-requires
-    count-in-requires
-    clear-requires
-    same-length
-    returns)
+    tie.close (tie.spec Inv-loop μ-loop (λ c κs. search needs) loop-holds (λ c κs. search needs) (λ c κs. search needs) (λ c κs. search needs)
+    (λ c. search needs) (λ c. more (c .before .before) .0) (λ c κs. search needs) (λ c. search needs)
+    (λ c. omega (arith, more (c .before .before .before) .0, c .before .before .before .before .before .loop .inv .0)) loop-again
+    (λ c κs. search needs) (λ c κs. search needs) (λ c κs. search needs) (λ c. search needs) returns)

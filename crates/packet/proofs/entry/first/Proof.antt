@@ -7,42 +7,6 @@ use borrow.Author.Needs.{needs}
 use Rattle.packet.proofs.entry.first.Statement.{statement}
 use Rattle.packet.proofs.entry.first.Tie as tie
 
-enum-known-w : tie.Need-enum-known-w
-enum-known-w c = search needs
-
-enum-told : tie.Need-enum-told
-enum-told c = search needs
-
-enum-told-2 : tie.Need-enum-told-2
-enum-told-2 c = search needs
-
-step-requires : tie.Need-step-requires
-step-requires c κs = search needs
-
-entry-in-requires : tie.Need-entry-in-requires
-entry-in-requires c κs = search needs
-
-walk-in-requires : tie.Need-walk-in-requires
-walk-in-requires c κs = search needs
-
-run-out-requires : tie.Need-run-out-requires
-run-out-requires c κs = search needs
-
-enum-known-a : tie.Need-enum-known-a
-enum-known-a c = search needs
-
-enum-told-3 : tie.Need-enum-told-3
-enum-told-3 c = search needs
-
-enum-told-4 : tie.Need-enum-told-4
-enum-told-4 c = search needs
-
-returns : tie.Need-returns
-returns c = rw (c .before .w .given .1)
-
-returns-2 : tie.Need-returns-2
-returns-2 c = search needs
-
 returns-3 : tie.Need-returns-3
 returns-3 c =
     let a = c .before .before .before .before .before .before .before .before .before .before .args in
@@ -64,20 +28,6 @@ returns-5 c = absurd (end-never (restOf (now (c .before .before .before .before 
 
 pub first-spec : {M : Type 1} → statement M
 first-spec =
-    tie.close
-    (tie.spec
-    enum-known-w
-    enum-told
-    enum-told-2
-    step-requires
-    entry-in-requires
-    walk-in-requires
-    run-out-requires
-    enum-known-a
-    enum-told-3
-    enum-told-4
-    returns
-    returns-2
-    returns-3
-    returns-4
-    returns-5)
+    tie.close (tie.spec (λ c. search needs) (λ c. search needs) (λ c. search needs) (λ c κs. search needs) (λ c κs. search needs)
+    (λ c κs. search needs) (λ c κs. search needs) (λ c. search needs) (λ c. search needs) (λ c. search needs) (λ c. rw (c .before .w .given .1))
+    (λ c. search needs) returns-3 returns-4 returns-5)

@@ -8,33 +8,12 @@ use borrow.Author.Needs.{needs}
 use Rattle.packet.proofs.entry.parse_entry.Statement.{statement}
 use Rattle.packet.proofs.entry.parse_entry.Tie as tie
 
-nth-requires : tie.Need-nth-requires
-nth-requires c κs = search needs
-
-enum-known-a : tie.Need-enum-known-a
-enum-known-a c = search needs
-
-finish-requires : tie.Need-finish-requires
-finish-requires c κs = search needs
-
-enum-known-e : tie.Need-enum-known-e
-enum-known-e c = search needs
-
-parse-span-requires : tie.Need-parse-span-requires
-parse-span-requires c κs = search needs
-
-same-length : tie.Need-same-length
-same-length c = search needs
-
 returns : tie.Need-returns
 unfolding readEntry
 returns c =
     let a = c .before .before .before .before .before .before .before .before .before .before .args in
     let e = entry-none (now (a .packet)) (a .number) (length (now (a .image))) (cutOf (now (a .packet))) (sym (c .before .before .before .before .before .a .given .1) ∙ c .before .before .before .before .before .before .before .nth .ensures) in
     (rw e (c .before .before .finish .ensures .0), rw e (c .before .before .finish .ensures .1))
-
-same-length-2 : tie.Need-same-length-2
-same-length-2 c = search needs
 
 returns-2 : tie.Need-returns-2
 unfolding readEntry
@@ -48,14 +27,5 @@ returns-2 c =
 
 pub parse-entry-spec : {M : Type 1} → statement M
 parse-entry-spec =
-    tie.close
-    (tie.spec
-    nth-requires
-    enum-known-a
-    finish-requires
-    enum-known-e
-    parse-span-requires
-    same-length
-    returns
-    same-length-2
-    returns-2)
+    tie.close (tie.spec (λ c κs. search needs) (λ c. search needs) (λ c κs. search needs) (λ c. search needs) (λ c κs. search needs)
+    (λ c. search needs) returns (λ c. search needs) returns-2)

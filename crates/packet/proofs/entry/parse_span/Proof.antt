@@ -15,51 +15,15 @@ use borrow.Author.Needs.{needs}
 use Rattle.packet.proofs.entry.parse_span.Statement.{statement}
 use Rattle.packet.proofs.entry.parse_span.Tie as tie
 
-finish-requires : tie.Need-finish-requires
-finish-requires c κs = search needs
-
-same-length : tie.Need-same-length
-same-length c = search needs
-
 returns : tie.Need-returns
 returns c =
     let a = c .before .before .before .before .before .before .before .args in
     let e = span-over (now (a .packet)) (a .place) (a .size) (length (now (a .image))) (omega arith) in
     (rw e (c .before .before .finish .ensures .0), rw e (c .before .before .finish .ensures .1))
 
-inside-requires : tie.Need-inside-requires
-inside-requires c κs = search needs
-
 -- the span is inside the packet
 fits : (c : tie.Then2) → let a = c .before .before .before .before .before .args in a .place + a .size ≤ length (now (a .packet))
 fits c = leb-true _ _ (sym (c .before .inside .ensures) ∙ c .if2 .taken)
-
-add-to : tie.Need-add-to
-add-to c = let h = fits c in omega arith
-
-sub-part : tie.Need-sub-part
-sub-part c = search needs
-
-part-part-start : tie.Need-part-part-start
-part-part-start c = search needs
-
-part-part-end : tie.Need-part-part-end
-part-part-end c = let h = fits c in omega arith
-
-parse-value-requires : tie.Need-parse-value-requires
-parse-value-requires c κs = search needs
-
-judged-requires : tie.Need-judged-requires
-judged-requires c κs = let h = fits (c .before .before .before .before .before .before) in simp (length-take, length-drop) (omega arith)
-
-finish-requires-2 : tie.Need-finish-requires-2
-finish-requires-2 c κs = search needs
-
-finish-requires-3 : tie.Need-finish-requires-3
-finish-requires-3 c κs = search needs
-
-same-length-2 : tie.Need-same-length-2
-same-length-2 c = search needs
 
 returns-2 : tie.Need-returns-2
 returns-2 c =
@@ -76,9 +40,6 @@ returns-2 c =
     in
     (rw w (c .before .before .finish2 .ensures .0), rw (w, sym (v .kept .0)) (c .before .before .finish2 .ensures .1))
 
-same-length-3 : tie.Need-same-length-3
-same-length-3 c = search needs
-
 returns-3 : tie.Need-returns-3
 returns-3 c =
     let a = c .before .before .before .before .before .before .before .before .before .args in
@@ -87,21 +48,7 @@ returns-3 c =
 
 pub parse-span-spec : {M : Type 1} → statement M
 parse-span-spec =
-    tie.close
-    (tie.spec
-    finish-requires
-    same-length
-    returns
-    inside-requires
-    add-to
-    sub-part
-    part-part-start
-    part-part-end
-    parse-value-requires
-    judged-requires
-    finish-requires-2
-    finish-requires-3
-    same-length-2
-    returns-2
-    same-length-3
-    returns-3)
+    tie.close (tie.spec (λ c κs. search needs) (λ c. search needs) returns (λ c κs. search needs) (λ c. let h = fits c in omega arith)
+    (λ c. search needs) (λ c. search needs) (λ c. let h = fits c in omega arith) (λ c κs. search needs)
+    (λ c κs. let h = fits (c .before .before .before .before .before .before) in simp (length-take, length-drop) (omega arith))
+    (λ c κs. search needs) (λ c κs. search needs) (λ c. search needs) returns-2 (λ c. search needs) returns-3)

@@ -5,39 +5,6 @@ use borrow.Author.Needs.{needs}
 use Rattle.packet.proofs.head.header.Statement.{statement}
 use Rattle.packet.proofs.head.header.Tie as tie
 
-parse-string-requires : tie.Need-parse-string-requires
-parse-string-requires c κs = search needs
-
-enum-known-a : tie.Need-enum-known-a
-enum-known-a c = search needs
-
-enum-known-p : tie.Need-enum-known-p
-enum-known-p c = search needs
-
-be-u8-requires : tie.Need-be-u8-requires
-be-u8-requires c κs = search needs
-
-enum-known-a-2 : tie.Need-enum-known-a-2
-enum-known-a-2 c = search needs
-
-enum-known-f : tie.Need-enum-known-f
-enum-known-f c = search needs
-
-be-u32-requires : tie.Need-be-u32-requires
-be-u32-requires c κs = search needs
-
-enum-known-a-3 : tie.Need-enum-known-a-3
-enum-known-a-3 c = search needs
-
-enum-known-l : tie.Need-enum-known-l
-enum-known-l c = search needs
-
-bit-requires : tie.Need-bit-requires
-bit-requires c κs = search needs
-
-cast-t23 : tie.Need-cast-t23
-cast-t23 c = search needs
-
 returns : tie.Need-returns
 unfolding headerAt
 returns c = rw (sym (c .before .before .before .parse-string .ensures) ∙ c .before .a .given .1)
@@ -67,20 +34,5 @@ returns-4 c =
 
 pub header-spec : {M : Type 1} → statement M
 header-spec =
-    tie.close
-    (tie.spec
-    parse-string-requires
-    enum-known-a
-    enum-known-p
-    be-u8-requires
-    enum-known-a-2
-    enum-known-f
-    be-u32-requires
-    enum-known-a-3
-    enum-known-l
-    bit-requires
-    cast-t23
-    returns
-    returns-2
-    returns-3
-    returns-4)
+    tie.close (tie.spec (λ c κs. search needs) (λ c. search needs) (λ c. search needs) (λ c κs. search needs) (λ c. search needs) (λ c. search needs)
+    (λ c κs. search needs) (λ c. search needs) (λ c. search needs) (λ c κs. search needs) (λ c. search needs) returns returns-2 returns-3 returns-4)

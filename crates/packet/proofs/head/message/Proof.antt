@@ -5,36 +5,6 @@ use borrow.Author.Needs.{needs}
 use Rattle.packet.proofs.head.message.Statement.{statement}
 use Rattle.packet.proofs.head.message.Tie as tie
 
-parse-string-requires : tie.Need-parse-string-requires
-parse-string-requires c κs = search needs
-
-enum-known-a : tie.Need-enum-known-a
-enum-known-a c = search needs
-
-enum-known-p : tie.Need-enum-known-p
-enum-known-p c = search needs
-
-parse-string-requires-2 : tie.Need-parse-string-requires-2
-parse-string-requires-2 c κs = search needs
-
-enum-known-a-2 : tie.Need-enum-known-a-2
-enum-known-a-2 c = search needs
-
-enum-known-q : tie.Need-enum-known-q
-enum-known-q c = search needs
-
-be-u32-requires : tie.Need-be-u32-requires
-be-u32-requires c κs = search needs
-
-enum-known-a-3 : tie.Need-enum-known-a-3
-enum-known-a-3 c = search needs
-
-enum-known-l : tie.Need-enum-known-l
-enum-known-l c = search needs
-
-cast-t23 : tie.Need-cast-t23
-cast-t23 c = search needs
-
 returns : tie.Need-returns
 unfolding messageAt
 returns c = rw (sym (c .before .before .before .parse-string .ensures) ∙ c .before .a .given .1)
@@ -64,19 +34,5 @@ returns-4 c =
 
 pub message-spec : {M : Type 1} → statement M
 message-spec =
-    tie.close
-    (tie.spec
-    parse-string-requires
-    enum-known-a
-    enum-known-p
-    parse-string-requires-2
-    enum-known-a-2
-    enum-known-q
-    be-u32-requires
-    enum-known-a-3
-    enum-known-l
-    cast-t23
-    returns
-    returns-2
-    returns-3
-    returns-4)
+    tie.close (tie.spec (λ c κs. search needs) (λ c. search needs) (λ c. search needs) (λ c κs. search needs) (λ c. search needs) (λ c. search needs)
+    (λ c κs. search needs) (λ c. search needs) (λ c. search needs) (λ c. search needs) returns returns-2 returns-3 returns-4)

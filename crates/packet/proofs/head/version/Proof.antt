@@ -6,27 +6,6 @@ use borrow.Author.Needs.{needs}
 use Rattle.packet.proofs.head.version.Statement.{statement}
 use Rattle.packet.proofs.head.version.Tie as tie
 
-slice-aggregate-tag : tie.Need-slice-aggregate-tag
-slice-aggregate-tag c = search needs
-
-tag-requires : tie.Need-tag-requires
-tag-requires c κs = search needs
-
-enum-known-a : tie.Need-enum-known-a
-enum-known-a c = search needs
-
-enum-known-d : tie.Need-enum-known-d
-enum-known-d c = search needs
-
-be-u8-requires : tie.Need-be-u8-requires
-be-u8-requires c κs = search needs
-
-enum-known-a-2 : tie.Need-enum-known-a-2
-enum-known-a-2 c = search needs
-
-enum-known-v : tie.Need-enum-known-v
-enum-known-v c = search needs
-
 returns : tie.Need-returns
 unfolding versionAt
 returns c = rw (sym (c .before .before .before .tag .ensures) ∙ c .before .a .given .1)
@@ -63,17 +42,5 @@ returns-5 c =
 
 pub version-spec : {M : Type 1} → statement M
 version-spec =
-    tie.close
-    (tie.spec
-    slice-aggregate-tag
-    tag-requires
-    enum-known-a
-    enum-known-d
-    be-u8-requires
-    enum-known-a-2
-    enum-known-v
-    returns
-    returns-2
-    returns-3
-    returns-4
-    returns-5)
+    tie.close (tie.spec (λ c. search needs) (λ c κs. search needs) (λ c. search needs) (λ c. search needs) (λ c κs. search needs) (λ c. search needs)
+    (λ c. search needs) returns returns-2 returns-3 returns-4 returns-5)

@@ -6,27 +6,6 @@ use borrow.Author.Needs.{needs}
 use Rattle.packet.proofs.read.parse.Statement.{statement}
 use Rattle.packet.proofs.read.parse.Tie as tie
 
-parse-packet-requires : tie.Need-parse-packet-requires
-parse-packet-requires c κs = search needs
-
-enum-known-a : tie.Need-enum-known-a
-enum-known-a c = search needs
-
-finish-requires : tie.Need-finish-requires
-finish-requires c κs = search needs
-
-enum-known-c : tie.Need-enum-known-c
-enum-known-c c = search needs
-
-finish-requires-2 : tie.Need-finish-requires-2
-finish-requires-2 c κs = search needs
-
-finish-requires-3 : tie.Need-finish-requires-3
-finish-requires-3 c κs = search needs
-
-same-length : tie.Need-same-length
-same-length c = search needs
-
 returns : tie.Need-returns
 returns c =
     let a = c .before .before .before .before .before .before .before .before .before .before .before .before .before .args in
@@ -34,18 +13,12 @@ returns c =
     let e = whole-stop (now (a .input)) (now (a .image)) k in
     (rw e (c .before .before .finish .ensures .0), rw (e, sym (c .before .before .before .before .before .before .before .before .before .parse-packet .kept .0)) (c .before .before .finish .ensures .1))
 
-same-length-2 : tie.Need-same-length-2
-same-length-2 c = search needs
-
 returns-2 : tie.Need-returns-2
 returns-2 c =
     let a = c .before .before .before .before .before .before .before .before .before .before .before .before .before .before .before .args in
     let k = rw (c .before .before .before .before .before .before .before .c .given .1) at (c .before .before .before .before .before .before .before .before .before .before .before .parse-packet .ensures .0) in
     let e = whole-more (now (a .input)) (now (a .image)) k (c .before .before .before .before .if1 .taken) in
     (rw e (c .before .before .finish2 .ensures .0), rw (e, sym (c .before .before .before .before .before .before .before .before .before .before .before .parse-packet .kept .0)) (c .before .before .finish2 .ensures .1))
-
-same-length-3 : tie.Need-same-length-3
-same-length-3 c = search needs
 
 returns-3 : tie.Need-returns-3
 returns-3 c =
@@ -56,17 +29,5 @@ returns-3 c =
 
 pub parse-spec : {M : Type 1} → statement M
 parse-spec =
-    tie.close
-    (tie.spec
-    parse-packet-requires
-    enum-known-a
-    finish-requires
-    enum-known-c
-    finish-requires-2
-    finish-requires-3
-    same-length
-    returns
-    same-length-2
-    returns-2
-    same-length-3
-    returns-3)
+    tie.close (tie.spec (λ c κs. search needs) (λ c. search needs) (λ c κs. search needs) (λ c. search needs) (λ c κs. search needs)
+    (λ c κs. search needs) (λ c. search needs) returns (λ c. search needs) returns-2 (λ c. search needs) returns-3)

@@ -27,39 +27,12 @@ Inv-loop image₀ s kind done n c₀ made₀ k₀ image c made k =
 abbrev μ-loop : tie.MeasureT-loop
 μ-loop image₀ s kind done n c₀ made₀ k₀ image c made k = k
 
-loop-holds : tie.Need-loop-holds Inv-loop μ-loop
-loop-holds c = let p = c .before .before .pre in (le-refl _, p .1, p .2, refl, refl)
-
-head-at-requires : tie.Need-head-at-requires Inv-loop μ-loop
-head-at-requires c κs = search needs
-
-enum-known-a : tie.Need-enum-known-a Inv-loop μ-loop
-enum-known-a c = search needs
-
-same-length : tie.Need-same-length Inv-loop μ-loop
-same-length c = search needs
-
 returns : tie.Need-returns Inv-loop μ-loop
 returns c =
     let a = c .before .before .before .before .before .before .before .before .args in
     let l = c .before .before .before .before .before .loop in
     let e = sym (c .before .before .before .head-at .ensures) ∙ c .before .a .given .1 in
     (rw (l .inv .4, entries-cut (a .kind) (now (a .s)) (l .k) (l .c .at) (c .before .before .before .before .loop-test .taken) e) (sym (run-stop _ _ _ _)), within-stop)
-
-enum-known-e : tie.Need-enum-known-e Inv-loop μ-loop
-enum-known-e c = search needs
-
-record-of-requires : tie.Need-record-of-requires Inv-loop μ-loop
-record-of-requires c κs = search needs
-
-put-requires : tie.Need-put-requires Inv-loop μ-loop
-put-requires c κs = search needs
-
-enum-known-a-2 : tie.Need-enum-known-a-2 Inv-loop μ-loop
-enum-known-a-2 c = search needs
-
-same-length-2 : tie.Need-same-length-2 Inv-loop μ-loop
-same-length-2 c = search needs
 
 returns-2 : tie.Need-returns-2 Inv-loop μ-loop
 returns-2 c =
@@ -74,18 +47,6 @@ returns-2 c =
           (sym (run-halt d k _ _ (rw (c .before .before .before .before .before .before .record-of .ensures, c .before .a2 .given .1) at (c .before .before .before .before .before .put .ensures .0)))),
       within-stop,
     )
-
-enum-known-v : tie.Need-enum-known-v Inv-loop μ-loop
-enum-known-v c = search needs
-
-parse-value-requires : tie.Need-parse-value-requires Inv-loop μ-loop
-parse-value-requires c κs = search needs
-
-enum-known-a-3 : tie.Need-enum-known-a-3 Inv-loop μ-loop
-enum-known-a-3 c = search needs
-
-same-length-3 : tie.Need-same-length-3 Inv-loop μ-loop
-same-length-3 c = search needs
 
 -- the entry's record is laid, and its value and the other entries are left to read
 record Laid (c : tie.After-known-told4 Inv-loop μ-loop) : Type 0 where
@@ -128,15 +89,6 @@ returns-3 c =
     let r = rw (w, c .before .a3 .given .1) at (c .before .before .before .before .before .parse-value .ensures .0) in
     (rw (k .same) (sym (run-halt d (entriesAt (a .kind) s (c .before .before .before .before .before .before .before .before .before .before .before .before .before .before .before .before .before .before .before .before .loop .k - 1)) _ _ r)), within-stop)
 
-enum-known-f : tie.Need-enum-known-f Inv-loop μ-loop
-enum-known-f c = search needs
-
-sub-k : tie.Need-sub-k Inv-loop μ-loop
-sub-k c = search needs
-
-loop-less : tie.Need-loop-less Inv-loop μ-loop
-loop-less c = search needs
-
 loop-again : tie.Need-loop-again Inv-loop μ-loop
 loop-again c =
     let a = c .before .before .before .before .before .before .before .before .before .before .before .before .before .before .before .before .before .before .before .before .before .before .before .args in
@@ -158,9 +110,6 @@ loop-again c =
       rw (k .same) (run-then d (entriesAt (a .kind) s (l .k - 1)) _ _ r),
     )
 
-same-length-4 : tie.Need-same-length-4 Inv-loop μ-loop
-same-length-4 c = search needs
-
 returns-4 : tie.Need-returns-4 Inv-loop μ-loop
 returns-4 c =
     let a = c .before .before .before .before .args in
@@ -169,29 +118,7 @@ returns-4 c =
 
 pub parse-entries-spec : {M : Type 1} → statement M
 parse-entries-spec =
-    tie.close
-    (tie.spec
-    Inv-loop
-    μ-loop
-    loop-holds
-    head-at-requires
-    enum-known-a
-    same-length
-    returns
-    enum-known-e
-    record-of-requires
-    put-requires
-    enum-known-a-2
-    same-length-2
-    returns-2
-    enum-known-v
-    parse-value-requires
-    enum-known-a-3
-    same-length-3
-    returns-3
-    enum-known-f
-    sub-k
-    loop-less
-    loop-again
-    same-length-4
-    returns-4)
+    tie.close (tie.spec Inv-loop μ-loop (λ c. let p = c .before .before .pre in (le-refl _, p .1, p .2, refl, refl)) (λ c κs. search needs)
+    (λ c. search needs) (λ c. search needs) returns (λ c. search needs) (λ c κs. search needs) (λ c κs. search needs) (λ c. search needs)
+    (λ c. search needs) returns-2 (λ c. search needs) (λ c κs. search needs) (λ c. search needs) (λ c. search needs) returns-3 (λ c. search needs)
+    (λ c. search needs) (λ c. search needs) loop-again (λ c. search needs) returns-4)

@@ -8,33 +8,12 @@ use borrow.Author.Needs.{needs}
 use Rattle.packet.proofs.read.parse_messages.Statement.{statement}
 use Rattle.packet.proofs.read.parse_messages.Tie as tie
 
-be-u16-requires : tie.Need-be-u16-requires
-be-u16-requires c κs = search needs
-
-enum-known-a : tie.Need-enum-known-a
-enum-known-a c = search needs
-
-enum-known-m : tie.Need-enum-known-m
-enum-known-m c = search needs
-
-cast-write-number : tie.Need-cast-write-number
-cast-write-number c = search needs
-
-write-number-requires : tie.Need-write-number-requires
-write-number-requires c κs = search needs
-
 parse-entries-requires : tie.Need-parse-entries-requires
 parse-entries-requires c κs =
     let a = c .before .before .before .before .before .before .before .before .before .before .before .args in
     let r = u16-next (now (a .s)) (a .c .at) _ _ (sym (c .before .before .before .before .before .before .before .before .be-u16 .ensures) ∙ c .before .before .before .before .before .before .m .given .1) in
     let n = c .before .before .before .write-number .kept .0 in
     (c .before .before .before .before .before .before .before .before .before .before .before .pre .0, omega arith, omega arith)
-
-returns : tie.Need-returns
-returns c = (rw (sym (c .before .before .before .be-u16 .ensures) ∙ c .before .a .given .1), within-stop)
-
-same-length : tie.Need-same-length
-same-length c = search needs
 
 returns-2 : tie.Need-returns-2
 returns-2 c =
@@ -48,14 +27,6 @@ returns-2 c =
 
 pub parse-messages-spec : {M : Type 1} → statement M
 parse-messages-spec =
-    tie.close
-    (tie.spec
-    be-u16-requires
-    enum-known-a
-    enum-known-m
-    cast-write-number
-    write-number-requires
-    parse-entries-requires
-    returns
-    same-length
+    tie.close (tie.spec (λ c κs. search needs) (λ c. search needs) (λ c. search needs) (λ c. search needs) (λ c κs. search needs)
+    parse-entries-requires (λ c. (rw (sym (c .before .before .before .be-u16 .ensures) ∙ c .before .a .given .1), within-stop)) (λ c. search needs)
     returns-2)

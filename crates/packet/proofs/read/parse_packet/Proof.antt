@@ -27,33 +27,6 @@ returns : tie.Need-returns
 unfolding packetAt
 returns c = (packed-none _ _ (rw (lt-leb _ _ (c .if1 .taken))), within-stop)
 
-version-requires : tie.Need-version-requires
-version-requires c κs = search needs
-
-enum-known-a : tie.Need-enum-known-a
-enum-known-a c = search needs
-
-enum-known-c : tie.Need-enum-known-c
-enum-known-c c = search needs
-
-be-u16-requires : tie.Need-be-u16-requires
-be-u16-requires c κs = search needs
-
-enum-known-a-2 : tie.Need-enum-known-a-2
-enum-known-a-2 c = search needs
-
-enum-known-h : tie.Need-enum-known-h
-enum-known-h c = search needs
-
-put-requires : tie.Need-put-requires
-put-requires c κs = search needs
-
-enum-known-a-3 : tie.Need-enum-known-a-3
-enum-known-a-3 c = search needs
-
-enum-known-e : tie.Need-enum-known-e
-enum-known-e c = search needs
-
 -- what stands before the packet's record was read
 record Opened (c : tie.After-known-told4) : Type 0 where
   short : length (now (c .before .before .before .before .before .before .before .before .before .before .before .args .s)) ≤ bytes
@@ -104,15 +77,6 @@ begun c =
       same = run-then (bare (c .before .before .before .before .before .before .before)) (λ v. headers (c .before .before .before .before .before .before .before) v >>= messagesAt s) _ _ p;
     }
 
-parse-entries-requires : tie.Need-parse-entries-requires
-parse-entries-requires c κs = let b = begun (c .before) in (opened (c .before .before .before .before .before .before .before .before) .short, b .within, b .room)
-
-enum-known-a-4 : tie.Need-enum-known-a-4
-enum-known-a-4 c = search needs
-
-enum-known-f : tie.Need-enum-known-f
-enum-known-f c = search needs
-
 parse-messages-requires : tie.Need-parse-messages-requires
 parse-messages-requires c κs =
     let b = begun (c .before .before .before .before .before .before .before .before) in
@@ -139,9 +103,6 @@ returns-3 c =
     let v = sym (c .before .before .before .before .before .before .before .version .ensures) ∙ c .before .before .before .before .before .c .given .1 in
     (packed-none (now (a .s)) (now (a .image)) (rw (l, v, sym (c .before .before .before .be-u16 .ensures) ∙ c .before .a2 .given .1)), within-stop)
 
-same-length : tie.Need-same-length
-same-length c = search needs
-
 returns-4 : tie.Need-returns-4
 returns-4 c =
     let a = c .before .before .before .before .before .before .before .before .before .before .before .before .before .before .before .before .before .before .args in
@@ -149,9 +110,6 @@ returns-4 c =
     let o = opened (c .before .before .before .before .before .before .before) in
     let r = rw (c .before .a3 .given .1) at (c .before .before .before .before .before .put .ensures .0) in
     (packed-stop s (now (a .image)) (o .short) (o .version) (o .count) (run-halt (bare (c .before .before .before .before .before .before .before)) (λ v. headers (c .before .before .before .before .before .before .before) v >>= messagesAt s) _ _ r), within-stop)
-
-same-length-2 : tie.Need-same-length-2
-same-length-2 c = search needs
 
 returns-5 : tie.Need-returns-5
 returns-5 c =
@@ -162,9 +120,6 @@ returns-5 c =
     let r = rw (c .before .a4 .given .1) at (c .before .before .before .before .before .parse-entries .ensures .0) in
     let h = run-halt (headers (c .before .before .before .before .before .before .before .before .before .before .before .before .before .before) (c .before .before .before .before .before .before .before .before .e .given .0 .0 .at)) (messagesAt s) _ _ r in
     (packed-stop s (now (a .image)) (o .short) (o .version) (o .count) (b .same ∙ h), within-stop)
-
-same-length-3 : tie.Need-same-length-3
-same-length-3 c = search needs
 
 returns-6 : tie.Need-returns-6
 returns-6 c =
@@ -188,27 +143,8 @@ returns-6 c =
 
 pub parse-packet-spec : {M : Type 1} → statement M
 parse-packet-spec =
-    tie.close
-    (tie.spec
-    returns
-    version-requires
-    enum-known-a
-    enum-known-c
-    be-u16-requires
-    enum-known-a-2
-    enum-known-h
-    put-requires
-    enum-known-a-3
-    enum-known-e
-    parse-entries-requires
-    enum-known-a-4
-    enum-known-f
-    parse-messages-requires
-    returns-2
-    returns-3
-    same-length
-    returns-4
-    same-length-2
-    returns-5
-    same-length-3
-    returns-6)
+    tie.close (tie.spec returns (λ c κs. search needs) (λ c. search needs) (λ c. search needs) (λ c κs. search needs) (λ c. search needs)
+    (λ c. search needs) (λ c κs. search needs) (λ c. search needs) (λ c. search needs)
+    (λ c κs. let b = begun (c .before) in (opened (c .before .before .before .before .before .before .before .before) .short, b .within, b .room))
+    (λ c. search needs) (λ c. search needs) parse-messages-requires returns-2 returns-3 (λ c. search needs) returns-4 (λ c. search needs) returns-5
+    (λ c. search needs) returns-6)

@@ -22,19 +22,10 @@ Inv-loop s row₀ room w₀ n₀ row w n = (length row ≡ length row₀) × (n 
 abbrev μ-loop : tie.MeasureT-loop
 μ-loop s row₀ room w₀ n₀ row w n = room - n
 
-begin-requires : tie.Need-begin-requires Inv-loop μ-loop
-begin-requires c κs = search needs
-
 loop-holds : tie.Need-loop-holds Inv-loop μ-loop
 loop-holds c =
     let a = c .before .before .before .args in
     (refl, omega arith, rw (c .begin .ensures) (rowed-none (now (a .row)) (cutOf (now (a .packet)))))
-
-below-requires : tie.Need-below-requires Inv-loop μ-loop
-below-requires c κs = search needs
-
-step-requires : tie.Need-step-requires Inv-loop μ-loop
-step-requires c κs = search needs
 
 -- there is an entry, and a place for it
 more : (c : tie.Then1 Inv-loop μ-loop) →
@@ -45,24 +36,6 @@ more c =
     let l = c .before .before .loop in
     let a = c .before .before .before .before .before .before .args in
     below-true (l .w) (l .n) (length (now (a .row)) / 8) (sym (c .before .below .ensures) ∙ c .if1 .taken)
-
-mul-put : tie.Need-mul-put Inv-loop μ-loop
-mul-put c = omega (arith, more (c .before .before) .0)
-
-entry-in-requires : tie.Need-entry-in-requires Inv-loop μ-loop
-entry-in-requires c κs = search needs
-
-put-requires : tie.Need-put-requires Inv-loop μ-loop
-put-requires c κs = omega (arith, more (c .before .before .before) .0, c .before .before .before .before .before .loop .inv .0)
-
-walk-in-requires : tie.Need-walk-in-requires Inv-loop μ-loop
-walk-in-requires c κs = search needs
-
-add-n : tie.Need-add-n Inv-loop μ-loop
-add-n c = search needs
-
-loop-less : tie.Need-loop-less Inv-loop μ-loop
-loop-less c = omega (arith, more (c .before .before .before .before .before .before .before) .0)
 
 loop-again : tie.Need-loop-again Inv-loop μ-loop
 loop-again c =
@@ -78,9 +51,6 @@ loop-again c =
       rw (p, c .walk-in .ensures, c .before .before .before .before .entry-in .ensures) (rowed-more (l .row) (l .n) (x .entry) (restOf s (x .walk)) h i),
     )
 
-counted-requires : tie.Need-counted-requires Inv-loop μ-loop
-counted-requires c κs = search needs
-
 mul-clear : tie.Need-mul-clear Inv-loop μ-loop
 mul-clear c =
     let l = c .before .before .before .before .before .loop in
@@ -88,12 +58,6 @@ mul-clear c =
     let k = counted-most (restOf (now (a .packet)) (l .w)) (l .n) in
     let e = ap (λ (r : Cutting). r .count) (c .before .before .counted .ensures) in
     omega (arith, k, e, l .inv .1)
-
-clear-requires : tie.Need-clear-requires Inv-loop μ-loop
-clear-requires c κs = search needs
-
-same-length : tie.Need-same-length Inv-loop μ-loop
-same-length c = search needs
 
 returns : tie.Need-returns Inv-loop μ-loop
 unfolding listOf
@@ -107,23 +71,8 @@ returns c =
 
 pub cut-spec : {M : Type 1} → statement M
 cut-spec =
-    tie.close
-    (tie.spec
-    Inv-loop
-    μ-loop
-    begin-requires
-    loop-holds
-    below-requires
-    step-requires
-    mul-put
-    entry-in-requires
-    put-requires
-    walk-in-requires
-    add-n
-    loop-less
-    loop-again
-    counted-requires
-    mul-clear
-    clear-requires
-    same-length
-    returns)
+    tie.close (tie.spec Inv-loop μ-loop (λ c κs. search needs) loop-holds (λ c κs. search needs) (λ c κs. search needs)
+    (λ c. omega (arith, more (c .before .before) .0)) (λ c κs. search needs)
+    (λ c κs. omega (arith, more (c .before .before .before) .0, c .before .before .before .before .before .loop .inv .0)) (λ c κs. search needs)
+    (λ c. search needs) (λ c. omega (arith, more (c .before .before .before .before .before .before .before) .0)) loop-again (λ c κs. search needs)
+    mul-clear (λ c κs. search needs) (λ c. search needs) returns)

@@ -13,27 +13,6 @@ returns : tie.Need-returns
 unfolding cutOf
 returns c = rw (lt-leb _ _ (c .if1 .taken))
 
-version-requires : tie.Need-version-requires
-version-requires c κs = search needs
-
-enum-known-a : tie.Need-enum-known-a
-enum-known-a c = search needs
-
-enum-known-c : tie.Need-enum-known-c
-enum-known-c c = search needs
-
-be-u16-requires : tie.Need-be-u16-requires
-be-u16-requires c κs = search needs
-
-enum-known-a-2 : tie.Need-enum-known-a-2
-enum-known-a-2 c = search needs
-
-enum-known-h : tie.Need-enum-known-h
-enum-known-h c = search needs
-
-onward-requires : tie.Need-onward-requires
-onward-requires c κs = search needs
-
 returns-2 : tie.Need-returns-2
 unfolding cutOf
 returns-2 c =
@@ -57,16 +36,5 @@ returns-4 c =
 
 pub begin-spec : {M : Type 1} → statement M
 begin-spec =
-    tie.close
-    (tie.spec
-    returns
-    version-requires
-    enum-known-a
-    enum-known-c
-    be-u16-requires
-    enum-known-a-2
-    enum-known-h
-    onward-requires
-    returns-2
-    returns-3
-    returns-4)
+    tie.close (tie.spec returns (λ c κs. search needs) (λ c. search needs) (λ c. search needs) (λ c κs. search needs) (λ c. search needs)
+    (λ c. search needs) (λ c κs. search needs) returns-2 returns-3 returns-4)

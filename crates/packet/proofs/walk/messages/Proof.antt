@@ -8,18 +8,6 @@ use borrow.Author.Needs.{needs}
 use Rattle.packet.proofs.walk.messages.Statement.{statement}
 use Rattle.packet.proofs.walk.messages.Tie as tie
 
-be-u16-requires : tie.Need-be-u16-requires
-be-u16-requires c κs = search needs
-
-enum-known-a : tie.Need-enum-known-a
-enum-known-a c = search needs
-
-enum-known-m : tie.Need-enum-known-m
-enum-known-m c = search needs
-
-sub-t10 : tie.Need-sub-t10
-sub-t10 c = search needs
-
 returns : tie.Need-returns
 returns c =
     let a = c .before .before .before .before .before .before .args in
@@ -27,9 +15,6 @@ returns c =
     let e = sym (c .before .before .before .before .be-u16 .ensures) ∙ c .before .before .m .given .1 in
     let r = u16-next s _ _ _ e in
     (rw (e, one-more _ (c .if1 .taken)), omega arith)
-
-end-requires : tie.Need-end-requires
-end-requires c κs = search needs
 
 returns-2 : tie.Need-returns-2
 returns-2 c =
@@ -45,13 +30,5 @@ returns-3 c =
 
 pub messages-spec : {M : Type 1} → statement M
 messages-spec =
-    tie.close
-    (tie.spec
-    be-u16-requires
-    enum-known-a
-    enum-known-m
-    sub-t10
-    returns
-    end-requires
-    returns-2
+    tie.close (tie.spec (λ c κs. search needs) (λ c. search needs) (λ c. search needs) (λ c. search needs) returns (λ c κs. search needs) returns-2
     returns-3)

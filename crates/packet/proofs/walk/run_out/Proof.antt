@@ -13,21 +13,6 @@ Inv-loop s w₀ w = endOf (restOf s w₀) ≡ endOf (restOf s w)
 abbrev μ-loop : tie.MeasureT-loop
 μ-loop s w₀ w = leftOf s w
 
-loop-holds : tie.Need-loop-holds Inv-loop μ-loop
-loop-holds c = refl
-
-going-requires : tie.Need-going-requires Inv-loop μ-loop
-going-requires c κs = search needs
-
-step-requires : tie.Need-step-requires Inv-loop μ-loop
-step-requires c κs = search needs
-
-walk-in-requires : tie.Need-walk-in-requires Inv-loop μ-loop
-walk-in-requires c κs = search needs
-
-loop-less : tie.Need-loop-less Inv-loop μ-loop
-loop-less c = rw (c .walk-in .ensures) (c .before .step .ensures .1 (sym (c .before .before .before .going .ensures) ∙ c .before .before .if1 .taken))
-
 loop-again : tie.Need-loop-again Inv-loop μ-loop
 loop-again c =
     let a = c .before .before .before .before .before .before .args in
@@ -43,14 +28,6 @@ returns c =
 
 pub run-out-spec : {M : Type 1} → statement M
 run-out-spec =
-    tie.close
-    (tie.spec
-    Inv-loop
-    μ-loop
-    loop-holds
-    going-requires
-    step-requires
-    walk-in-requires
-    loop-less
-    loop-again
-    returns)
+    tie.close (tie.spec Inv-loop μ-loop (λ c. refl) (λ c κs. search needs) (λ c κs. search needs) (λ c κs. search needs)
+    (λ c. rw (c .walk-in .ensures) (c .before .step .ensures .1 (sym (c .before .before .before .going .ensures) ∙ c .before .before .if1 .taken)))
+    loop-again returns)

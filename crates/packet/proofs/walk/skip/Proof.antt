@@ -16,18 +16,6 @@ Inv-loop s n w₀ k₀ w k = (k ≤ n) × (without n (restOf s w₀) ≡ without
 abbrev μ-loop : tie.MeasureT-loop
 μ-loop s n w₀ k₀ w k = n - k
 
-loop-holds : tie.Need-loop-holds Inv-loop μ-loop
-loop-holds c = (omega arith, rw sub-zero)
-
-below-requires : tie.Need-below-requires Inv-loop μ-loop
-below-requires c κs = search needs
-
-step-requires : tie.Need-step-requires Inv-loop μ-loop
-step-requires c κs = search needs
-
-walk-in-requires : tie.Need-walk-in-requires Inv-loop μ-loop
-walk-in-requires c κs = search needs
-
 add-k : tie.Need-add-k Inv-loop μ-loop
 add-k c = let h = below-true (c .before .before .before .before .loop .w) (c .before .before .before .before .loop .k) (c .before .before .before .before .before .before .args .n) (sym (c .before .before .before .below .ensures) ∙ c .before .before .if1 .taken) in omega (arith, h .0)
 
@@ -54,15 +42,5 @@ returns c =
 
 pub skip-spec : {M : Type 1} → statement M
 skip-spec =
-    tie.close
-    (tie.spec
-    Inv-loop
-    μ-loop
-    loop-holds
-    below-requires
-    step-requires
-    walk-in-requires
-    add-k
-    loop-less
-    loop-again
-    returns)
+    tie.close (tie.spec Inv-loop μ-loop (λ c. (omega arith, rw sub-zero)) (λ c κs. search needs) (λ c κs. search needs) (λ c κs. search needs) add-k
+    loop-less loop-again returns)

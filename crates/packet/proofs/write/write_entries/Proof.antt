@@ -26,21 +26,12 @@ Inv-loop out₀ image text kind exact done n c₀ count₀ k₀ out c count k =
 abbrev μ-loop : tie.MeasureT-loop
 μ-loop out₀ image text kind exact done n c₀ count₀ k₀ out c count k = k
 
-loop-holds : tie.Need-loop-holds Inv-loop μ-loop
-loop-holds c = let p = c .before .before .before .pre in (le-refl _, p .2, le-refl _, refl, refl)
-
 write-entry-requires : tie.Need-write-entry-requires Inv-loop μ-loop
 write-entry-requires c κs =
     let p = c .before .before .before .before .before .before .pre in
     let j = c .before .before .loop .inv in
     let m = p .3 in
     (p .0, p .1, j .1, omega arith)
-
-enum-known-a : tie.Need-enum-known-a Inv-loop μ-loop
-enum-known-a c = search needs
-
-same-length : tie.Need-same-length Inv-loop μ-loop
-same-length c = search needs
 
 returns : tie.Need-returns Inv-loop μ-loop
 returns c =
@@ -51,15 +42,6 @@ returns c =
     let d = entry (a .kind) (a .exact) i x (l .c .at) in
     let h = pour-halt d (entries (a .kind) (a .exact) i x (l .k - 1)) (l .count) (l .out) (halted (rw (c .before .a .given .1) at (c .before .before .before .before .before .write-entry .ensures .0))) in
     (carried-stop (ap (λ (y : Poured). y .step) (l .inv .4 ∙ ap (λ (e : Out). pour e (l .count) (l .out)) (entries-entry (a .kind) (a .exact) i x (l .k) (l .c .at) (c .before .before .before .before .before .before .before .loop-test .taken)) ∙ h)), ahead-stop)
-
-enum-known-d : tie.Need-enum-known-d Inv-loop μ-loop
-enum-known-d c = search needs
-
-sub-k : tie.Need-sub-k Inv-loop μ-loop
-sub-k c = search needs
-
-loop-less : tie.Need-loop-less Inv-loop μ-loop
-loop-less c = search needs
 
 loop-again : tie.Need-loop-again Inv-loop μ-loop
 loop-again c =
@@ -74,9 +56,6 @@ loop-again c =
     let h = pour-then d (entries (a .kind) (a .exact) i x (l .k - 1)) (l .count) (l .out) (went-on (rw (c .before .d .given .1) at (c .before .before .before .before .before .write-entry .ensures .0))) in
     (omega arith, b .1, omega arith, c .before .before .before .before .before .write-entry .kept .0 ∙ j .3, j .4 ∙ rw (entries-entry (a .kind) (a .exact) i x (l .k) (l .c .at) (c .before .before .before .before .before .before .before .loop-test .taken)) h)
 
-same-length-2 : tie.Need-same-length-2 Inv-loop μ-loop
-same-length-2 c = search needs
-
 returns-2 : tie.Need-returns-2 Inv-loop μ-loop
 returns-2 c =
     let a = c .before .before .before .before .before .args in
@@ -86,18 +65,6 @@ returns-2 c =
 
 pub write-entries-spec : {M : Type 1} → statement M
 write-entries-spec =
-    tie.close
-    (tie.spec
-    Inv-loop
-    μ-loop
-    loop-holds
-    write-entry-requires
-    enum-known-a
-    same-length
-    returns
-    enum-known-d
-    sub-k
-    loop-less
-    loop-again
-    same-length-2
+    tie.close (tie.spec Inv-loop μ-loop (λ c. let p = c .before .before .before .pre in (le-refl _, p .2, le-refl _, refl, refl)) write-entry-requires
+    (λ c. search needs) (λ c. search needs) returns (λ c. search needs) (λ c. search needs) (λ c. search needs) loop-again (λ c. search needs)
     returns-2)

@@ -18,15 +18,6 @@ use borrow.Author.Needs.{needs}
 use Rattle.packet.proofs.write.write_entry.Statement.{statement}
 use Rattle.packet.proofs.write.write_entry.Tie as tie
 
-write-label-requires : tie.Need-write-label-requires
-write-label-requires c κs = search needs
-
-enum-known-a : tie.Need-enum-known-a
-enum-known-a c = search needs
-
-enum-known-d : tie.Need-enum-known-d
-enum-known-d c = search needs
-
 -- the label is put out, and the length and the value are left
 record Told (c : tie.After-known-told2) : Type 0 where
   from : c .before .before .before .before .before .before .before .before .before .before .args .c .at + 1 ≤ c .before .d .given .0 .0 .at
@@ -68,18 +59,6 @@ told c =
       step = ap (λ (y : Poured). y .step) e ∙ size-step x (value limit.levels i x (v .0 .at)) (a .c .at) _ 0xFFFFFFFF (v .1 .0) (c .before .before .before .before .before .write-label .last .0);
     }
 
-row-requires : tie.Need-row-requires
-row-requires c κs = search needs
-
-emit-requires : tie.Need-emit-requires
-emit-requires c κs = search needs
-
-enum-known-a-2 : tie.Need-enum-known-a-2
-enum-known-a-2 c = search needs
-
-enum-known-e : tie.Need-enum-known-e
-enum-known-e c = search needs
-
 -- a length is put out, and the value is left
 record Sized (c : tie.After-known-told4) : Type 0 where
   place : c .before .e .given .0 .0 .at ≡ c .before .before .before .before .before .before .before .before .before .d .given .0 .0 .at
@@ -116,15 +95,6 @@ sized c =
       same = row-then x (sizing 0xFFFFFFFF) (a .c .at) (u .0 .at) (u .1 .0) (c .before .before .before .before .before .before .before .before .before .before .before .before .before .write-label .last .0) (omega arith) (omega arith) (value limit.levels i x) (rw (c .before .before .before .before .before .before .row .ensures, c .before .e .given .1) at (c .before .before .before .before .before .emit .ensures .0));
       inner = λ o. ap (λ (d : Out). pour d (v .1 .0) o) (in-value i x (v .1 .0) (v .0 .at) t s (omega arith) (omega arith));
     }
-
-pour-value-requires : tie.Need-pour-value-requires
-pour-value-requires c κs = search needs
-
-enum-known-a-3 : tie.Need-enum-known-a-3
-enum-known-a-3 c = search needs
-
-enum-known-f : tie.Need-enum-known-f
-enum-known-f c = search needs
 
 -- the value is put out behind the length
 record Valued (c : tie.After-known-told6) : Type 0 where
@@ -164,15 +134,6 @@ valued c =
       same = e ∙ sym (l .same);
     }
 
-sub-write-number : tie.Need-sub-write-number
-sub-write-number c = let k = valued (c .before .before) .size in omega arith
-
-write-number-requires : tie.Need-write-number-requires
-write-number-requires c κs = search needs
-
-same-length : tie.Need-same-length
-same-length c = search needs
-
 returns : tie.Need-returns
 returns c =
     let a = c .before .before .before .before .before .before .before .before .before .before .args in
@@ -182,9 +143,6 @@ returns c =
           (sym (pour-halt (label (a .kind) i x (a .c .at)) (following (a .kind) i x (a .c .at) (a .exact)) (a .count) (now (a .out)) (rw (c .before .a .given .1) at (c .before .before .before .before .before .write-label .ensures .0))))),
       ahead-stop,
     )
-
-same-length-2 : tie.Need-same-length-2
-same-length-2 c = search needs
 
 returns-2 : tie.Need-returns-2
 returns-2 c =
@@ -241,27 +199,7 @@ returns-5 c =
 
 pub write-entry-spec : {M : Type 1} → statement M
 write-entry-spec =
-    tie.close
-    (tie.spec
-    write-label-requires
-    enum-known-a
-    enum-known-d
-    row-requires
-    emit-requires
-    enum-known-a-2
-    enum-known-e
-    pour-value-requires
-    enum-known-a-3
-    enum-known-f
-    sub-write-number
-    write-number-requires
-    same-length
-    returns
-    same-length-2
-    returns-2
-    same-length-3
-    returns-3
-    same-length-4
-    returns-4
-    same-length-5
-    returns-5)
+    tie.close (tie.spec (λ c κs. search needs) (λ c. search needs) (λ c. search needs) (λ c κs. search needs) (λ c κs. search needs)
+    (λ c. search needs) (λ c. search needs) (λ c κs. search needs) (λ c. search needs) (λ c. search needs)
+    (λ c. let k = valued (c .before .before) .size in omega arith) (λ c κs. search needs) (λ c. search needs) returns (λ c. search needs) returns-2
+    same-length-3 returns-3 same-length-4 returns-4 same-length-5 returns-5)

@@ -11,24 +11,6 @@ use borrow.Author.Needs.{needs}
 use Rattle.packet.proofs.write.write_head.Statement.{statement}
 use Rattle.packet.proofs.write.write_head.Tie as tie
 
-row-requires : tie.Need-row-requires
-row-requires c κs = search needs
-
-emit-requires : tie.Need-emit-requires
-emit-requires c κs = search needs
-
-enum-known-a : tie.Need-enum-known-a
-enum-known-a c = search needs
-
-enum-known-c : tie.Need-enum-known-c
-enum-known-c c = search needs
-
-emit-requires-2 : tie.Need-emit-requires-2
-emit-requires-2 c κs = search needs
-
-same-length : tie.Need-same-length
-same-length c = search needs
-
 returns : tie.Need-returns
 returns c =
     let a = c .before .before .before .before .before .before .before .before .before .before .args in
@@ -37,9 +19,6 @@ returns c =
     let m = p .1 in
     let more : ℕ → Out = λ z. row x (a .tail) (a .at) (end z) in
     (sym (row-halt x (naming (a .p) (a .n)) (a .at) (a .next .at) (a .count) (now (a .out)) (omega arith) (omega arith) more (rw (c .before .before .before .before .before .before .row .ensures, c .before .a .given .1) at (c .before .before .before .before .before .emit .ensures .0))), grown-stop)
-
-same-length-2 : tie.Need-same-length-2
-same-length-2 c = search needs
 
 returns-2 : tie.Need-returns-2
 returns-2 c =
@@ -61,14 +40,5 @@ returns-2 c =
 
 pub write-head-spec : {M : Type 1} → statement M
 write-head-spec =
-    tie.close
-    (tie.spec
-    row-requires
-    emit-requires
-    enum-known-a
-    enum-known-c
-    emit-requires-2
-    same-length
-    returns
-    same-length-2
-    returns-2)
+    tie.close (tie.spec (λ c κs. search needs) (λ c κs. search needs) (λ c. search needs) (λ c. search needs) (λ c κs. search needs)
+    (λ c. search needs) returns (λ c. search needs) returns-2)

@@ -15,18 +15,6 @@ use borrow.Author.Needs.{needs}
 use Rattle.packet.proofs.write.write_label.Statement.{statement}
 use Rattle.packet.proofs.write.write_label.Tie as tie
 
-record-at-requires : tie.Need-record-at-requires
-record-at-requires c κs = search needs
-
-enum-told : tie.Need-enum-told
-enum-told c = search needs
-
-enum-known-r : tie.Need-enum-known-r
-enum-known-r c = search needs
-
-part-of-requires : tie.Need-part-of-requires
-part-of-requires c κs = search needs
-
 -- the part that a record is, and the label from there on
 record Shown (c : tie.After-part-of) : Type 0 where
   from : c .before .before .before .before .before .before .before .before .args .c .at + 1 ≤ c .before .before .r .given .0 .1 .0 .at
@@ -44,21 +32,6 @@ shown c =
     let p = past i (λ n. c .before .before .before .before .before .before .shared-slice-known .given n .fits) (a .c .at) e in
     record { from = p .from; fits = p .fits; same = λ y h. label-parted (a .kind) i (now (a .text)) (a .c .at) e (sym (c .part-of .ensures) ∙ h) }
 
-enum-told-2 : tie.Need-enum-told-2
-enum-told-2 c = search needs
-
-enum-told-3 : tie.Need-enum-told-3
-enum-told-3 c = search needs
-
-enum-known-part : tie.Need-enum-known-part
-enum-known-part c = search needs
-
-bit-requires : tie.Need-bit-requires
-bit-requires c κs = search needs
-
-row-requires : tie.Need-row-requires
-row-requires c κs = search needs
-
 write-head-requires : tie.Need-write-head-requires
 write-head-requires c κs =
     let p = c .before .before .before .before .before .before .before .before .before .before .before .before .before .before .before .pre in
@@ -66,12 +39,6 @@ write-head-requires c κs =
     let l = p .2 in
     let i = p .1 in
     (p .0, omega arith, rw (c .row .ensures) (omega arith), rw (c .row .ensures) (omega arith), rw (c .row .ensures) (omega arith))
-
-enum-known-part-2 : tie.Need-enum-known-part-2
-enum-known-part-2 c = search needs
-
-row-requires-2 : tie.Need-row-requires-2
-row-requires-2 c κs = search needs
 
 write-head-requires-2 : tie.Need-write-head-requires-2
 write-head-requires-2 c κs =
@@ -86,15 +53,6 @@ returns c =
     let a = c .before .before .before .before .before .before .args in
     (rw (label-bad (a .kind) (now (a .image)) (now (a .text)) (a .c .at) (sym (c .before .before .record-at .ensures) ∙ c .enum-told .given .1)) (sym (pour-stop _ _ _ _)), ahead-stop)
 
-returns-2 : tie.Need-returns-2
-returns-2 c = (rw (shown (c .before .before) .same _ (c .enum-told2 .given .1)) (sym (pour-stop _ _ _ _)), ahead-stop)
-
-returns-3 : tie.Need-returns-3
-returns-3 c = (rw (shown (c .before .before) .same _ (c .enum-told3 .given .1)) (sym (pour-stop _ _ _ _)), ahead-stop)
-
-same-length : tie.Need-same-length
-same-length c = search needs
-
 returns-4 : tie.Need-returns-4
 returns-4 c =
     let k = shown (c .before .before .before .before .before .before .before .before .before .before) in
@@ -106,9 +64,6 @@ returns-4 c =
 
 returns-5 : tie.Need-returns-5
 returns-5 c = (rw (shown (c .before .before .before .before) .same _ (c .before .before .part .given .1), ne-eqb _ 0x31 (c .if1 .left)) (sym (pour-stop _ _ _ _)), ahead-stop)
-
-same-length-2 : tie.Need-same-length-2
-same-length-2 c = search needs
 
 returns-6 : tie.Need-returns-6
 returns-6 c =
@@ -124,27 +79,8 @@ returns-7 c = (rw (shown (c .before .before .before .before) .same _ (c .before 
 
 pub write-label-spec : {M : Type 1} → statement M
 write-label-spec =
-    tie.close
-    (tie.spec
-    record-at-requires
-    enum-told
-    enum-known-r
-    part-of-requires
-    enum-told-2
-    enum-told-3
-    enum-known-part
-    bit-requires
-    row-requires
-    write-head-requires
-    enum-known-part-2
-    row-requires-2
-    write-head-requires-2
-    returns
-    returns-2
-    returns-3
-    same-length
-    returns-4
-    returns-5
-    same-length-2
-    returns-6
-    returns-7)
+    tie.close (tie.spec (λ c κs. search needs) (λ c. search needs) (λ c. search needs) (λ c κs. search needs) (λ c. search needs) (λ c. search needs)
+    (λ c. search needs) (λ c κs. search needs) (λ c κs. search needs) write-head-requires (λ c. search needs) (λ c κs. search needs)
+    write-head-requires-2 returns (λ c. (rw (shown (c .before .before) .same _ (c .enum-told2 .given .1)) (sym (pour-stop _ _ _ _)), ahead-stop))
+    (λ c. (rw (shown (c .before .before) .same _ (c .enum-told3 .given .1)) (sym (pour-stop _ _ _ _)), ahead-stop)) (λ c. search needs) returns-4
+    returns-5 (λ c. search needs) returns-6 returns-7)

@@ -15,18 +15,6 @@ use borrow.Author.Needs.{needs}
 use Rattle.packet.proofs.write.write_packet.Statement.{statement}
 use Rattle.packet.proofs.write.write_packet.Tie as tie
 
-record-at-requires : tie.Need-record-at-requires
-record-at-requires c κs = search needs
-
-enum-told : tie.Need-enum-told
-enum-told c = search needs
-
-enum-known-r : tie.Need-enum-known-r
-enum-known-r c = search needs
-
-part-of-requires : tie.Need-part-of-requires
-part-of-requires c κs = search needs
-
 -- the part that a record is, and the packet from there on
 record Shown (c : tie.After-part-of) : Type 0 where
   from : 1 ≤ c .before .before .r .given .0 .1 .0 .at
@@ -43,33 +31,6 @@ shown c =
     let e = sym (c .before .before .before .before .record-at .ensures) ∙ c .before .before .r .given .1 in
     let p = past i (λ n. c .before .before .before .before .before .before .shared-slice-known .given n .fits) 0 e in
     record { from = p .from; fits = p .fits; same = λ y h. packet-parted (a .exact) i (now (a .text)) e (sym (c .part-of .ensures) ∙ h) }
-
-enum-told-2 : tie.Need-enum-told-2
-enum-told-2 c = search needs
-
-enum-told-3 : tie.Need-enum-told-3
-enum-told-3 c = search needs
-
-enum-told-4 : tie.Need-enum-told-4
-enum-told-4 c = search needs
-
-enum-known-part : tie.Need-enum-known-part
-enum-known-part c = search needs
-
-cast-row : tie.Need-cast-row
-cast-row c = search needs
-
-row-requires : tie.Need-row-requires
-row-requires c κs = search needs
-
-emit-requires : tie.Need-emit-requires
-emit-requires c κs = search needs
-
-enum-known-a : tie.Need-enum-known-a
-enum-known-a c = search needs
-
-enum-known-e : tie.Need-enum-known-e
-enum-known-e c = search needs
 
 -- the head is put out, and the headers and the messages are left
 record Opened (c : tie.After-known-told4) : Type 0 where
@@ -111,12 +72,6 @@ write-entries-requires c κs =
     let m = k .most in
     (p .0, p .1, k .fits, omega arith)
 
-enum-known-a-2 : tie.Need-enum-known-a-2
-enum-known-a-2 c = search needs
-
-enum-known-f : tie.Need-enum-known-f
-enum-known-f c = search needs
-
 -- the headers are put out too
 record Headed (c : tie.After-known-told6) : Type 0 where
   fits : c .before .f .given .0 .0 .at ≤ length (now (c .before .before .before .before .before .before .before .before .before .before .before .before .before .before .before .before .before .before .before .before .before .before .before .before .before .before .args .image))
@@ -148,18 +103,6 @@ headed c =
 cast-row-2 : tie.Need-cast-row-2
 cast-row-2 c = let k = c .before .before .before .before .before .before .before .before .before .before .before .before .before .before .before .before .known-told2 .given in omega arith
 
-row-requires-2 : tie.Need-row-requires-2
-row-requires-2 c κs = search needs
-
-emit-requires-2 : tie.Need-emit-requires-2
-emit-requires-2 c κs = search needs
-
-enum-known-a-3 : tie.Need-enum-known-a-3
-enum-known-a-3 c = search needs
-
-enum-known-g : tie.Need-enum-known-g
-enum-known-g c = search needs
-
 write-entries-requires-2 : tie.Need-write-entries-requires-2
 write-entries-requires-2 c κs =
     let p = c .before .before .before .before .before .before .before .before .before .before .before .before .before .before .before .before .before .before .before .before .before .before .before .before .before .before .before .before .before .before .before .before .before .before .before .pre in
@@ -176,18 +119,6 @@ returns c =
     let a = c .before .before .before .before .before .before .args in
     carried (rw (packet-bad (a .exact) (now (a .image)) (now (a .text)) (sym (c .before .before .record-at .ensures) ∙ c .enum-told .given .1)) (sym (pour-stop _ _ _ _)))
 
-returns-2 : tie.Need-returns-2
-returns-2 c = carried (rw (shown (c .before .before) .same _ (c .enum-told2 .given .1)) (sym (pour-stop _ _ _ _)))
-
-returns-3 : tie.Need-returns-3
-returns-3 c = carried (rw (shown (c .before .before) .same _ (c .enum-told3 .given .1)) (sym (pour-stop _ _ _ _)))
-
-returns-4 : tie.Need-returns-4
-returns-4 c = carried (rw (shown (c .before .before) .same _ (c .enum-told4 .given .1)) (sym (pour-stop _ _ _ _)))
-
-same-length : tie.Need-same-length
-same-length c = search needs
-
 returns-5 : tie.Need-returns-5
 returns-5 c =
     let a = c .before .before .before .before .before .before .before .before .before .before .before .before .before .before .before .before .before .before .before .args in
@@ -195,9 +126,6 @@ returns-5 c =
     let q = c .before .before .before .before .before .before .before .before .before .before .before .before .before .r .given .0 .1 .0 in
     carried (rw (shown (c .before .before .before .before .before .before .before .before .before .before .before) .same _ (c .before .before .before .before .before .before .before .before .before .part .given .1))
     (sym (row-halt (now (a .text)) (heading (w .0)) 0 (q .at) 0 (now (a .out)) (omega arith) (omega arith) (contents (a .exact) (now (a .image)) (now (a .text)) (w .0) (w .1 .0)) (rw (c .before .before .before .before .before .before .row .ensures, c .before .a .given .1) at (c .before .before .before .before .before .emit .ensures .0)))))
-
-same-length-2 : tie.Need-same-length-2
-same-length-2 c = search needs
 
 returns-6 : tie.Need-returns-6
 returns-6 c =
@@ -242,39 +170,11 @@ returns-8 c =
 
 pub write-packet-spec : {M : Type 1} → statement M
 write-packet-spec =
-    tie.close
-    (tie.spec
-    record-at-requires
-    enum-told
-    enum-known-r
-    part-of-requires
-    enum-told-2
-    enum-told-3
-    enum-told-4
-    enum-known-part
-    cast-row
-    row-requires
-    emit-requires
-    enum-known-a
-    enum-known-e
-    write-entries-requires
-    enum-known-a-2
-    enum-known-f
-    cast-row-2
-    row-requires-2
-    emit-requires-2
-    enum-known-a-3
-    enum-known-g
-    write-entries-requires-2
-    returns
-    returns-2
-    returns-3
-    returns-4
-    same-length
-    returns-5
-    same-length-2
-    returns-6
-    same-length-3
-    returns-7
-    same-length-4
-    returns-8)
+    tie.close (tie.spec (λ c κs. search needs) (λ c. search needs) (λ c. search needs) (λ c κs. search needs) (λ c. search needs) (λ c. search needs)
+    (λ c. search needs) (λ c. search needs) (λ c. search needs) (λ c κs. search needs) (λ c κs. search needs) (λ c. search needs)
+    (λ c. search needs) write-entries-requires (λ c. search needs) (λ c. search needs) cast-row-2 (λ c κs. search needs) (λ c κs. search needs)
+    (λ c. search needs) (λ c. search needs) write-entries-requires-2 returns
+    (λ c. carried (rw (shown (c .before .before) .same _ (c .enum-told2 .given .1)) (sym (pour-stop _ _ _ _))))
+    (λ c. carried (rw (shown (c .before .before) .same _ (c .enum-told3 .given .1)) (sym (pour-stop _ _ _ _))))
+    (λ c. carried (rw (shown (c .before .before) .same _ (c .enum-told4 .given .1)) (sym (pour-stop _ _ _ _)))) (λ c. search needs) returns-5
+    (λ c. search needs) returns-6 same-length-3 returns-7 same-length-4 returns-8)

@@ -16,9 +16,6 @@ Inv-loop out₀ at row last i₀ out i = (i ≤ length row) × (length out ≡ l
 abbrev μ-loop : tie.MeasureT-loop
 μ-loop out₀ at row last i₀ out i = length row - i
 
-loop-holds : tie.Need-loop-holds Inv-loop μ-loop
-loop-holds c = (omega arith, refl, refl)
-
 loop-again : tie.Need-loop-again Inv-loop μ-loop
 loop-again c =
     let l = c .before .before .before .before .before .loop in
@@ -26,9 +23,6 @@ loop-again c =
     let e = c .before .before .copy8 .ensures in
     let on = laid-on (now (a .row)) 8 (l .i) (l .i) (a .at) (now (a .out)) (omega arith) (omega arith) (omega arith) in
     (omega arith, rw e (simp length-sets (l .inv .1)), rw (e, l .inv .2) on)
-
-same-length : tie.Need-same-length Inv-loop μ-loop
-same-length c = rw (c .before .before .copy82 .ensures) (simp length-sets (c .before .before .before .before .before .loop .inv .1))
 
 returns : tie.Need-returns Inv-loop μ-loop
 returns c =
@@ -40,16 +34,6 @@ returns c =
 
 pub copy-eights-spec : {M : Type 1} → statement M
 copy-eights-spec =
-    tie.close
-    (tie.spec
-    Inv-loop
-    μ-loop
-    (λ c. search needs)
-    loop-holds
-    (λ c κs. search needs)
-    (λ c. search needs)
-    (λ c. search needs)
-    loop-again
-    (λ c κs. search needs)
-    same-length
-    returns)
+    tie.close (tie.spec Inv-loop μ-loop (λ c. search needs) (λ c. (omega arith, refl, refl)) (λ c κs. search needs) (λ c. search needs)
+    (λ c. search needs) loop-again (λ c κs. search needs)
+    (λ c. rw (c .before .before .copy82 .ensures) (simp length-sets (c .before .before .before .before .before .loop .inv .1))) returns)

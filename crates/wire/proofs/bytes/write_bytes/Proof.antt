@@ -17,46 +17,16 @@ Inv-loop out₀ at row i₀ out i = (i ≤ length row) × (length out ≡ length
 abbrev μ-loop : tie.MeasureT-loop
 μ-loop out₀ at row i₀ out i = length row - i
 
-sub-if2 : tie.Need-sub-if2 Inv-loop μ-loop
-sub-if2 c = search needs
-
-copy-short-requires : tie.Need-copy-short-requires Inv-loop μ-loop
-copy-short-requires c κs = search needs
-
-same-length : tie.Need-same-length Inv-loop μ-loop
-same-length c = search needs
-
 returns : tie.Need-returns Inv-loop μ-loop
 returns c =
     let a = c .before .before .before .before .before .before .before .before .before .args in
     (refl, c .before .before .copy-short .ensures ∙ sym (laid-room (now (a .row)) (a .at) (now (a .out)) (omega arith)))
-
-loop-holds : tie.Need-loop-holds Inv-loop μ-loop
-loop-holds c = (omega arith, refl, rw add-zero)
-
-shared-slice-read-out : tie.Need-shared-slice-read-out Inv-loop μ-loop
-shared-slice-read-out c = search needs
-
-add-out : tie.Need-add-out Inv-loop μ-loop
-add-out c = search needs
-
-slice-write-out : tie.Need-slice-write-out Inv-loop μ-loop
-slice-write-out c = search needs
-
-add-i : tie.Need-add-i Inv-loop μ-loop
-add-i c = search needs
-
-loop-less : tie.Need-loop-less Inv-loop μ-loop
-loop-less c = search needs
 
 loop-again : tie.Need-loop-again Inv-loop μ-loop
 loop-again c =
     let l = c .before .before .loop in
     let a = c .before .before .before .before .before .before .before .before .args in
     (omega arith, simp length-set (l .inv .1), l .inv .2 ∙ sets-next (l .out) (a .at) (now (a .row)) (l .i) (omega arith))
-
-same-length-2 : tie.Need-same-length-2 Inv-loop μ-loop
-same-length-2 c = search needs
 
 returns-2 : tie.Need-returns-2 Inv-loop μ-loop
 returns-2 c =
@@ -76,22 +46,6 @@ returns-4 c =
 
 pub write-bytes-spec : {M : Type 1} → statement M
 write-bytes-spec =
-    tie.close
-    (tie.spec
-    Inv-loop
-    μ-loop
-    sub-if2
-    copy-short-requires
-    same-length
-    returns
-    loop-holds
-    shared-slice-read-out
-    add-out
-    slice-write-out
-    add-i
-    loop-less
-    loop-again
-    same-length-2
-    returns-2
-    returns-3
-    returns-4)
+    tie.close (tie.spec Inv-loop μ-loop (λ c. search needs) (λ c κs. search needs) (λ c. search needs) returns (λ c. (omega arith, refl, rw add-zero))
+    (λ c. search needs) (λ c. search needs) (λ c. search needs) (λ c. search needs) (λ c. search needs) loop-again (λ c. search needs) returns-2
+    returns-3 returns-4)

@@ -18,41 +18,11 @@ Inv-loop out₀ at n w rest₀ k₀ out rest k = (k ≤ w) × (length out ≡ le
 abbrev μ-loop : tie.MeasureT-loop
 μ-loop out₀ at n w rest₀ k₀ out rest k = k
 
-decimal-width-requires : tie.Need-decimal-width-requires Inv-loop μ-loop
-decimal-width-requires c κs = search needs
-
-sub-if2 : tie.Need-sub-if2 Inv-loop μ-loop
-sub-if2 c = search needs
-
-loop-holds : tie.Need-loop-holds Inv-loop μ-loop
-loop-holds c = (omega arith, refl, refl)
-
-sub-k : tie.Need-sub-k Inv-loop μ-loop
-sub-k c = search needs
-
-add-out : tie.Need-add-out Inv-loop μ-loop
-add-out c = search needs
-
-cast-out : tie.Need-cast-out Inv-loop μ-loop
-cast-out c = search needs
-
-add-out-2 : tie.Need-add-out-2 Inv-loop μ-loop
-add-out-2 c = search needs
-
-slice-write-out : tie.Need-slice-write-out Inv-loop μ-loop
-slice-write-out c = search needs
-
-loop-less : tie.Need-loop-less Inv-loop μ-loop
-loop-less c = search needs
-
 loop-again : tie.Need-loop-again Inv-loop μ-loop
 loop-again c =
     let l = c .before .loop in
     let a = c .before .before .before .before .before .before .args in
     (omega arith, simp length-set (l .inv .1), l .inv .2 ∙ tens-last (l .out) (a .at) (l .k) (l .rest) (omega arith))
-
-same-length : tie.Need-same-length Inv-loop μ-loop
-same-length c = c .before .loop .inv .1
 
 returns : tie.Need-returns Inv-loop μ-loop
 returns c =
@@ -77,21 +47,6 @@ returns-3 c =
 
 pub write-decimal-spec : {M : Type 1} → statement M
 write-decimal-spec =
-    tie.close
-    (tie.spec
-    Inv-loop
-    μ-loop
-    decimal-width-requires
-    sub-if2
-    loop-holds
-    sub-k
-    add-out
-    cast-out
-    add-out-2
-    slice-write-out
-    loop-less
-    loop-again
-    same-length
-    returns
-    returns-2
-    returns-3)
+    tie.close (tie.spec Inv-loop μ-loop (λ c κs. search needs) (λ c. search needs) (λ c. (omega arith, refl, refl)) (λ c. search needs)
+    (λ c. search needs) (λ c. search needs) (λ c. search needs) (λ c. search needs) (λ c. search needs) loop-again (λ c. c .before .loop .inv .1)
+    returns returns-2 returns-3)

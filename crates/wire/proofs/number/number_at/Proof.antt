@@ -24,32 +24,11 @@ abbrev μ-loop : tie.MeasureT-loop
 small : (i n : ℕ) → i < 8 → n < 256 ^ i → n < 256 ^ 7
 small i n h l = le-trans l (pow-le-pow-right (lit< tt) {j = 7} (omega arith))
 
-loop-holds : tie.Need-loop-holds Inv-loop μ-loop
-loop-holds c = (omega arith, refl, lit< tt)
-
-mul-n : tie.Need-mul-n Inv-loop μ-loop
-mul-n c = omega (arith, small (c .before .loop .i) (c .before .loop .n) (omega arith) (c .before .loop .inv .2))
-
-add-n : tie.Need-add-n Inv-loop μ-loop
-add-n c = search needs
-
-shared-slice-read-n : tie.Need-shared-slice-read-n Inv-loop μ-loop
-shared-slice-read-n c = search needs
-
-cast-n : tie.Need-cast-n Inv-loop μ-loop
-cast-n c = omega (arith, c .shared-slice-known .given (c .before .before .before .args .at + c .before .before .loop .i))
-
 add-n-2 : tie.Need-add-n-2 Inv-loop μ-loop
 add-n-2 c =
     let a = c .before .before .before .args in
     let l = c .before .before .loop in
     omega (arith, small (l .i) (l .n) (omega arith) (l .inv .2), c .shared-slice-known .given (a .at + l .i))
-
-add-i : tie.Need-add-i Inv-loop μ-loop
-add-i c = search needs
-
-loop-less : tie.Need-loop-less Inv-loop μ-loop
-loop-less c = search needs
 
 loop-again : tie.Need-loop-again Inv-loop μ-loop
 loop-again c =
@@ -66,17 +45,7 @@ returns c =
 
 pub number-at-spec : {M : Type 1} → statement M
 number-at-spec =
-    tie.close
-    (tie.spec
-    Inv-loop
-    μ-loop
-    loop-holds
-    mul-n
-    add-n
-    shared-slice-read-n
-    cast-n
-    add-n-2
-    add-i
-    loop-less
-    loop-again
-    returns)
+    tie.close (tie.spec Inv-loop μ-loop (λ c. (omega arith, refl, lit< tt))
+    (λ c. omega (arith, small (c .before .loop .i) (c .before .loop .n) (omega arith) (c .before .loop .inv .2))) (λ c. search needs)
+    (λ c. search needs) (λ c. omega (arith, c .shared-slice-known .given (c .before .before .before .args .at + c .before .before .loop .i)))
+    add-n-2 (λ c. search needs) (λ c. search needs) loop-again returns)

@@ -5,14 +5,6 @@ use borrow.Author.Needs.{needs}
 use Rattle.wire.proofs.number.store1.Statement.{statement}
 use Rattle.wire.proofs.number.store1.Tie as tie
 
-returns : tie.Need-returns
-returns c = simp (div-one, towards-suc)
-
 pub store1-spec : {M : Type 1} → statement M
 store1-spec =
-    tie.close
-    (tie.spec
-    (λ c. search needs)
-    (λ c. search needs)
-    (λ c. search needs)
-    returns)
+    tie.close (tie.spec (λ c. search needs) (λ c. search needs) (λ c. search needs) (λ c. simp (div-one, towards-suc)))

@@ -7,17 +7,7 @@ use borrow.Author.Needs.{needs}
 use Rattle.wire.proofs.number.store2.Statement.{statement}
 use Rattle.wire.proofs.number.store2.Tie as tie
 
-returns : tie.Need-returns
-returns c = simp (div-one, towards-suc)
-
 pub store2-spec : {M : Type 1} → statement M
 store2-spec =
-    tie.close
-    (tie.spec
-    (λ c. search needs)
-    (λ c. search needs)
-    (λ c. search needs)
-    (λ c. search needs)
-    (λ c. simp length-set (omega arith))
-    (λ c. search needs)
-    returns)
+    tie.close (tie.spec (λ c. search needs) (λ c. search needs) (λ c. search needs) (λ c. search needs) (λ c. simp length-set (omega arith))
+    (λ c. search needs) (λ c. simp (div-one, towards-suc)))

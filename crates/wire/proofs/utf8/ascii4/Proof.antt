@@ -6,18 +6,7 @@ use Rattle.wire.proofs.Steps.{plain-ored}
 use Rattle.wire.proofs.utf8.ascii4.Statement.{statement}
 use Rattle.wire.proofs.utf8.ascii4.Tie as tie
 
-returns : tie.Need-returns
-returns c t = plain-ored _ (c .before .before .before .before .args .i) 3 _ (omega arith) (omega arith) (ltb-true _ _ t)
-
 pub ascii4-spec : {M : Type 1} → statement M
 ascii4-spec =
-    tie.close
-    (tie.spec
-    (λ c. search needs)
-    (λ c. search needs)
-    (λ c. search needs)
-    (λ c. search needs)
-    (λ c. search needs)
-    (λ c. search needs)
-    (λ c. search needs)
-    returns)
+    tie.close (tie.spec (λ c. search needs) (λ c. search needs) (λ c. search needs) (λ c. search needs) (λ c. search needs) (λ c. search needs)
+    (λ c. search needs) (λ c t. plain-ored _ (c .before .before .before .before .args .i) 3 _ (omega arith) (omega arith) (ltb-true _ _ t)))

@@ -15,9 +15,6 @@ Inv-loop s i all₀ k₀ all k = (k ≤ 64) × (all < 0x80 → Plain s i (i + k)
 abbrev μ-loop : tie.MeasureT-loop
 μ-loop s i all₀ k₀ all k = 64 - k
 
-loop-holds : tie.Need-loop-holds Inv-loop μ-loop
-loop-holds c = (omega arith, λ h. plain-none _ _ _ (omega arith) (omega arith))
-
 loop-again : tie.Need-loop-again Inv-loop μ-loop
 loop-again c =
     let l = c .before .before .loop in
@@ -32,14 +29,5 @@ returns c t =
 
 pub ascii64-spec : {M : Type 1} → statement M
 ascii64-spec =
-    tie.close
-    (tie.spec
-    Inv-loop
-    μ-loop
-    loop-holds
-    (λ c. search needs)
-    (λ c. search needs)
-    (λ c. search needs)
-    (λ c. search needs)
-    loop-again
-    returns)
+    tie.close (tie.spec Inv-loop μ-loop (λ c. (omega arith, λ h. plain-none _ _ _ (omega arith) (omega arith))) (λ c. search needs)
+    (λ c. search needs) (λ c. search needs) (λ c. search needs) loop-again returns)

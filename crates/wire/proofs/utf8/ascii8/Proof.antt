@@ -6,26 +6,9 @@ use Rattle.wire.proofs.Steps.{plain-ored}
 use Rattle.wire.proofs.utf8.ascii8.Statement.{statement}
 use Rattle.wire.proofs.utf8.ascii8.Tie as tie
 
-returns : tie.Need-returns
-returns c t = plain-ored _ (c .before .before .before .before .before .before .before .before .args .i) 7 _ (omega arith) (omega arith) (ltb-true _ _ t)
-
 pub ascii8-spec : {M : Type 1} → statement M
 ascii8-spec =
-    tie.close
-    (tie.spec
-    (λ c. search needs)
-    (λ c. search needs)
-    (λ c. search needs)
-    (λ c. search needs)
-    (λ c. search needs)
-    (λ c. search needs)
-    (λ c. search needs)
-    (λ c. search needs)
-    (λ c. search needs)
-    (λ c. search needs)
-    (λ c. search needs)
-    (λ c. search needs)
-    (λ c. search needs)
-    (λ c. search needs)
-    (λ c. search needs)
-    returns)
+    tie.close (tie.spec (λ c. search needs) (λ c. search needs) (λ c. search needs) (λ c. search needs) (λ c. search needs) (λ c. search needs)
+    (λ c. search needs) (λ c. search needs) (λ c. search needs) (λ c. search needs) (λ c. search needs) (λ c. search needs) (λ c. search needs)
+    (λ c. search needs) (λ c. search needs)
+    (λ c t. plain-ored _ (c .before .before .before .before .before .before .before .before .args .i) 7 _ (omega arith) (omega arith) (ltb-true _ _ t)))

@@ -15,9 +15,6 @@ Inv-loop s start i₀ i = Run s start i
 abbrev μ-loop : tie.MeasureT-loop
 μ-loop s start i₀ i = length s - i
 
-loop-less : tie.Need-loop-less Inv-loop μ-loop
-loop-less c = omega (arith, rw (c .before .next .given .1) at (c .before .before .before .after .ensures .ahead))
-
 loop-again : tie.Need-loop-again Inv-loop μ-loop
 loop-again c =
     run-on (c .before .before .before .before .before .loop .inv)
@@ -27,20 +24,8 @@ returns : tie.Need-returns Inv-loop μ-loop
 returns c =
     sym (c .before .before .before .before .loop .inv .same ∙ rw (c .enum-told .given .1) at (c .before .before .after .ensures .same))
 
-returns-2 : tie.Need-returns-2 Inv-loop μ-loop
-returns-2 c = sym (run-end (c .before .loop .inv) (omega arith))
-
 pub characters-spec : {M : Type 1} → statement M
 characters-spec =
-    tie.close
-    (tie.spec
-    Inv-loop
-    μ-loop
-    (λ c. search needs)
-    (λ c κs. search needs)
-    (λ c. search needs)
-    loop-less
-    loop-again
-    (λ c. search needs)
-    returns
-    returns-2)
+    tie.close (tie.spec Inv-loop μ-loop (λ c. search needs) (λ c κs. search needs) (λ c. search needs)
+    (λ c. omega (arith, rw (c .before .next .given .1) at (c .before .before .before .after .ensures .ahead))) loop-again (λ c. search needs)
+    returns (λ c. sym (run-end (c .before .loop .inv) (omega arith))))

@@ -15,32 +15,12 @@ Inv-loop s n i₀ i = (8 ≤ i) × Plain s 0 (i - 8)
 abbrev μ-loop : tie.MeasureT-loop
 μ-loop s n i₀ i = length s - i
 
-loop-holds : tie.Need-loop-holds Inv-loop μ-loop
-loop-holds c = (omega arith, plain-none _ _ _ (omega arith) (omega arith))
-
 loop-again : tie.Need-loop-again Inv-loop μ-loop
 loop-again c =
     (omega arith, plain-join _ (c .before .before .before .loop .inv .1) (c .before .ascii8 .ensures (c .if1 .taken)) (omega arith) (omega arith))
 
-returns : tie.Need-returns Inv-loop μ-loop
-returns c t = absurd (false-true t)
-
-returns-2 : tie.Need-returns-2 Inv-loop μ-loop
-returns-2 c t = plain-join _ (c .before .before .loop .inv .1) (c .ascii82 .ensures t) (omega arith) (omega arith)
-
 pub eights-spec : {M : Type 1} → statement M
 eights-spec =
-    tie.close
-    (tie.spec
-    Inv-loop
-    μ-loop
-    loop-holds
-    (λ c. search needs)
-    (λ c κs. search needs)
-    (λ c. search needs)
-    (λ c. search needs)
-    loop-again
-    returns
-    (λ c. search needs)
-    (λ c κs. search needs)
-    returns-2)
+    tie.close (tie.spec Inv-loop μ-loop (λ c. (omega arith, plain-none _ _ _ (omega arith) (omega arith))) (λ c. search needs) (λ c κs. search needs)
+    (λ c. search needs) (λ c. search needs) loop-again (λ c t. absurd (false-true t)) (λ c. search needs) (λ c κs. search needs)
+    (λ c t. plain-join _ (c .before .before .loop .inv .1) (c .ascii82 .ensures t) (omega arith) (omega arith)))

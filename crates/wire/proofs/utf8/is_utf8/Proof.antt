@@ -6,20 +6,8 @@ use Rattle.wire.proofs.Steps.{plain-run, run-end}
 use Rattle.wire.proofs.utf8.is_utf8.Statement.{statement}
 use Rattle.wire.proofs.utf8.is_utf8.Tie as tie
 
-returns : tie.Need-returns
-returns c = sym (run-end (plain-run (c .before .short-ascii .ensures (c .if2 .taken)) (omega arith)) (omega arith))
-
-returns-3 : tie.Need-returns-3
-returns-3 c = c .characters2 .ensures ∙ sym (c .before .wide .ensures .same)
-
 pub is-utf8-spec : {M : Type 1} → statement M
 is-utf8-spec =
-    tie.close
-    (tie.spec
-    (λ c κs. search needs)
-    (λ c κs. search needs)
-    (λ c κs. search needs)
-    (λ c κs. search needs)
-    returns
-    (λ c. search needs)
-    returns-3)
+    tie.close (tie.spec (λ c κs. search needs) (λ c κs. search needs) (λ c κs. search needs) (λ c κs. search needs)
+    (λ c. sym (run-end (plain-run (c .before .short-ascii .ensures (c .if2 .taken)) (omega arith)) (omega arith))) (λ c. search needs)
+    (λ c. c .characters2 .ensures ∙ sym (c .before .wide .ensures .same)))

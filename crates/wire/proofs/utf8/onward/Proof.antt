@@ -12,20 +12,9 @@ returns-6 c =
 
 pub onward-spec : {M : Type 1} → statement M
 onward-spec =
-    tie.close
-    (tie.spec
-    (λ c. search needs)
-    (λ c. rw (c .before .before .at .given .1) onward-none)
-    (λ c. rw (c .before .before .before .at .given .1) onward-none)
-    (λ c. search needs)
-    (λ c. rw (c .before .before .before .before .at .given .1) onward-none)
-    (λ c. search needs)
-    (λ c. search needs)
-    (λ c. rw (c .before .before .before .before .before .before .at .given .1) onward-none)
-    (λ c. search needs)
-    (λ c. rw (c .before .before .before .before .before .before .before .before .at .given .1) onward-none)
-    (λ c κs. search needs)
-    (λ c κs. search needs)
-    returns-6
-    (λ c. search needs)
-    (λ c. rw (c .enum-told .given .1) onward-none))
+    tie.close (tie.spec (λ c. search needs) (λ c. rw (c .before .before .at .given .1) onward-none)
+    (λ c. rw (c .before .before .before .at .given .1) onward-none) (λ c. search needs)
+    (λ c. rw (c .before .before .before .before .at .given .1) onward-none) (λ c. search needs) (λ c. search needs)
+    (λ c. rw (c .before .before .before .before .before .before .at .given .1) onward-none) (λ c. search needs)
+    (λ c. rw (c .before .before .before .before .before .before .before .before .at .given .1) onward-none) (λ c κs. search needs)
+    (λ c κs. search needs) returns-6 (λ c. search needs) (λ c. rw (c .enum-told .given .1) onward-none))

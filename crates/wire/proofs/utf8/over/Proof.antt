@@ -6,9 +6,6 @@ use Rattle.wire.proofs.Steps.{over-in, over-out, over-end, over-stuck}
 use Rattle.wire.proofs.utf8.over.Statement.{statement}
 use Rattle.wire.proofs.utf8.over.Tie as tie
 
-returns : tie.Need-returns
-returns c = rw (c .before .before .at .given .1) (over-end _ _ _ _ (c .if1 .taken))
-
 returns-2 : tie.Need-returns-2
 returns-2 c =
     rw (c .before .before .before .before .before .at .given .1)
@@ -19,18 +16,7 @@ returns-3 c =
     rw (c .before .before .before .before .at .given .1)
     (over-out _ _ (c .before .before .if1 .left) _ _ (⊎-elim (λ w. inl (leb-false _ _ (w .1 .left))) (λ w. inr (w .left)) (c .if2 .came)))
 
-returns-4 : tie.Need-returns-4
-returns-4 c = rw (c .enum-told .given .1) over-stuck
-
 pub over-spec : {M : Type 1} → statement M
 over-spec =
-    tie.close
-    (tie.spec
-    (λ c. search needs)
-    returns
-    (λ c. search needs)
-    (λ c. search needs)
-    returns-2
-    (λ c. search needs)
-    returns-3
-    returns-4)
+    tie.close (tie.spec (λ c. search needs) (λ c. rw (c .before .before .at .given .1) (over-end _ _ _ _ (c .if1 .taken))) (λ c. search needs)
+    (λ c. search needs) returns-2 (λ c. search needs) returns-3 (λ c. rw (c .enum-told .given .1) over-stuck))

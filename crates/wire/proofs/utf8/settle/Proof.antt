@@ -5,21 +5,6 @@ use Rattle.wire.proofs.Steps.{paid-none, paid-last, paid-pair, paid-e0,
 use Rattle.wire.proofs.utf8.settle.Statement.{statement}
 use Rattle.wire.proofs.utf8.settle.Tie as tie
 
-returns : tie.Need-returns
-returns c = paid-none _ _ (omega arith) (c .before .if1 .taken) (c .if2 .taken)
-
-returns-2 : tie.Need-returns-2
-returns-2 c = paid-last _ _ (omega arith) (c .before .before .if1 .taken) (c .before .if2 .left) (c .tail .ensures)
-
-returns-3 : tie.Need-returns-3
-returns-3 c = paid-pair _ _ (omega arith) (c .before .before .if1 .left) (c .before .if3 .taken) (c .tail2 .ensures)
-
-returns-4 : tie.Need-returns-4
-returns-4 c = paid-e0 _ _ (omega arith) (c .before .before .if4 .taken) (c .before .over .ensures) (c .tail3 .ensures)
-
-returns-5 : tie.Need-returns-5
-returns-5 c = paid-ed _ _ (omega arith) (c .before .before .if5 .taken) (c .before .over2 .ensures) (c .tail4 .ensures)
-
 returns-6 : tie.Need-returns-6
 returns-6 c =
     paid-three _ _ (omega arith) (c .before .before .before .before .if3 .left) (c .before .before .before .if4 .left) (c .before .before .if5 .left)
@@ -28,23 +13,11 @@ returns-6 c =
 
 pub settle-spec : {M : Type 1} → statement M
 settle-spec =
-    tie.close
-    (tie.spec
-    (λ c. search needs)
-    (λ c. search needs)
-    (λ c. search needs)
-    (λ c. search needs)
-    returns
-    (λ c κs. search needs)
-    returns-2
-    (λ c κs. search needs)
-    returns-3
-    (λ c κs. search needs)
-    (λ c κs. search needs)
-    returns-4
-    (λ c κs. search needs)
-    (λ c κs. search needs)
-    returns-5
-    (λ c κs. search needs)
-    (λ c κs. search needs)
-    returns-6)
+    tie.close (tie.spec (λ c. search needs) (λ c. search needs) (λ c. search needs) (λ c. search needs)
+    (λ c. paid-none _ _ (omega arith) (c .before .if1 .taken) (c .if2 .taken)) (λ c κs. search needs)
+    (λ c. paid-last _ _ (omega arith) (c .before .before .if1 .taken) (c .before .if2 .left) (c .tail .ensures)) (λ c κs. search needs)
+    (λ c. paid-pair _ _ (omega arith) (c .before .before .if1 .left) (c .before .if3 .taken) (c .tail2 .ensures)) (λ c κs. search needs)
+    (λ c κs. search needs) (λ c. paid-e0 _ _ (omega arith) (c .before .before .if4 .taken) (c .before .over .ensures) (c .tail3 .ensures))
+    (λ c κs. search needs) (λ c κs. search needs)
+    (λ c. paid-ed _ _ (omega arith) (c .before .before .if5 .taken) (c .before .over2 .ensures) (c .tail4 .ensures)) (λ c κs. search needs)
+    (λ c κs. search needs) returns-6)

@@ -20,14 +20,5 @@ loop-again c =
 
 pub singles-spec : {M : Type 1} → statement M
 singles-spec =
-    tie.close
-    (tie.spec
-    Inv-loop
-    μ-loop
-    (λ c. search needs)
-    (λ c. search needs)
-    (λ c. c .before .before .before .loop .inv)
-    (λ c. search needs)
-    (λ c. search needs)
-    loop-again
-    (λ c. c .before .loop .inv))
+    tie.close (tie.spec Inv-loop μ-loop (λ c. search needs) (λ c. search needs) (λ c. c .before .before .before .loop .inv) (λ c. search needs)
+    (λ c. search needs) loop-again (λ c. c .before .loop .inv))

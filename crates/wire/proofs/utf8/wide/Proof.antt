@@ -14,20 +14,8 @@ Inv-loop s from i₀ i = Run s from i
 abbrev μ-loop : tie.MeasureT-loop
 μ-loop s from i₀ i = length s - i
 
-loop-again : tie.Need-loop-again Inv-loop μ-loop
-loop-again c = run-on (c .before .before .before .loop .inv) (plain-run (c .before .ascii64 .ensures (c .if1 .taken)) (omega arith))
-
 pub wide-spec : {M : Type 1} → statement M
 wide-spec =
-    tie.close
-    (tie.spec
-    Inv-loop
-    μ-loop
-    (λ c. search needs)
-    (λ c. search needs)
-    (λ c κs. search needs)
-    (λ c. search needs)
-    (λ c. search needs)
-    loop-again
-    (λ c. c .before .before .before .loop .inv)
-    (λ c. c .before .loop .inv))
+    tie.close (tie.spec Inv-loop μ-loop (λ c. search needs) (λ c. search needs) (λ c κs. search needs) (λ c. search needs) (λ c. search needs)
+    (λ c. run-on (c .before .before .before .loop .inv) (plain-run (c .before .ascii64 .ensures (c .if1 .taken)) (omega arith)))
+    (λ c. c .before .before .before .loop .inv) (λ c. c .before .loop .inv))

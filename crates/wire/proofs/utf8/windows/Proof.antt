@@ -15,23 +15,8 @@ Inv-loop s from i₀ i = Owed s from i
 abbrev μ-loop : tie.MeasureT-loop
 μ-loop s from i₀ i = length s - i
 
-loop-holds : tie.Need-loop-holds Inv-loop μ-loop
-loop-holds c = owed-none _ _ _ refl (omega arith)
-
-loop-again : tie.Need-loop-again Inv-loop μ-loop
-loop-again c = owed-trans (c .before .before .before .loop .inv) (c .before .fits32 .ensures (c .if1 .taken))
-
 pub windows-spec : {M : Type 1} → statement M
 windows-spec =
-    tie.close
-    (tie.spec
-    Inv-loop
-    μ-loop
-    loop-holds
-    (λ c. search needs)
-    (λ c κs. search needs)
-    (λ c. search needs)
-    (λ c. search needs)
-    loop-again
-    (λ c. c .before .before .before .loop .inv)
-    (λ c. c .before .loop .inv))
+    tie.close (tie.spec Inv-loop μ-loop (λ c. owed-none _ _ _ refl (omega arith)) (λ c. search needs) (λ c κs. search needs) (λ c. search needs)
+    (λ c. search needs) (λ c. owed-trans (c .before .before .before .loop .inv) (c .before .fits32 .ensures (c .if1 .taken)))
+    (λ c. c .before .before .before .loop .inv) (λ c. c .before .loop .inv))
