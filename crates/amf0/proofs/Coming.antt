@@ -1,11 +1,5 @@
 -- What is still to come where values follow: the laws of the loop over them.
-use Prim.Native.Nat.{ℕ, zero, suc, _+_, _-_, _≤_, _<_}
-use mathlib.Core.Path.{_≡_, refl}
-use mathlib.Core.List.{List}
-use mathlib.Core.Bool.{Bool, true, false}
-use native.Mathlib.Omega.{arith}
-use lib.ListN.{length}
-use borrow.Author.Tests.{lt-leb}
+use Rattle.wire.proofs.Kit.{ℕ, zero, suc, _+_, _-_, _≤_, _<_, _≡_, refl, List, Bool, true, false, arith, length, lt-leb}
 use Rattle.wire.specs.Field.{u8At}
 use Rattle.image.specs.declared.taking.Taken.the-variants.{Bad}
 use Rattle.image.specs.Taking.{recordAt}

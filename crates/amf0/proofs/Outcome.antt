@@ -1,11 +1,5 @@
 -- What the public call comes to, from how its reading ends.
-use Prim.Native.Nat.{ℕ, _+_, _*_, _≤_, _<_}
-use mathlib.Core.Path.{_≡_, refl, sym, ap, _∙_}
-use mathlib.Core.List.{List}
-use native.Mathlib.Omega.{arith}
-use lib.ListN.{length}
-use lib.Dec.{leb}
-use borrow.Author.Tests.{leb-true, leb-false}
+use Rattle.wire.proofs.Kit.{ℕ, _+_, _*_, _≤_, _<_, _≡_, refl, sym, ap, _∙_, List, arith, length, leb, leb-true, leb-false}
 use Rattle.wire.specs.Limit as limit
 use Rattle.wire.proofs.Laws.{picked, pick-yes}
 use Rattle.image.specs.Record.{bytesOf}

@@ -1,13 +1,6 @@
 -- The laws of the writing, step by step, that the functions' proofs cite.
-use Prim.Native.Nat.{ℕ, zero, suc, _+_, _-_, _*_, _≤_, _<_}
-use mathlib.Core.Path.{_≡_, refl, sym, ap, _∙_}
-use mathlib.Core.List.{List, [], _∷_}
-use mathlib.Core.Bool.{true, false}
-use native.Mathlib.Numerals.{sub-one}
-use native.Mathlib.Omega.{arith}
-use lib.ListN.{length, getD}
-use lib.Dec.{leb}
-use borrow.Author.Tests.{leb-true, leb-false}
+use Rattle.wire.proofs.Kit.{ℕ, zero, suc, _+_, _-_, _*_, _≤_, _<_, _≡_, refl, sym, ap, _∙_, List, [], _∷_, true, false, sub-one, arith, length, getD, leb}
+use Rattle.wire.proofs.Kit.{leb-true, leb-false}
 use Rattle.wire.specs.Choice.{pick}
 use Rattle.wire.specs.Number.{digits, Bytes}
 use Rattle.wire.specs.Bytes.{laid, decimal}

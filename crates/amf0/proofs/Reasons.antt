@@ -1,12 +1,6 @@
 -- A reading goes forward and ends inside the input, lays at most three bytes for each byte that it reads, and is refused with 2, 3 or 5, at a
 -- place inside the input.
-use Prim.Native.Nat.{ℕ, zero, suc, _+_, _*_, _≤_, _<_}
-use mathlib.Core.Logic.{_≢_}
-use mathlib.Core.List.{List}
-use native.Mathlib.Nat.{le-refl}
-use native.Mathlib.Omega.{arith}
-use lib.ListN.{length, getD, length-append}
-use lib.Dec.{leb, eqb}
+use Rattle.wire.proofs.Kit.{ℕ, zero, suc, _+_, _*_, _≤_, _<_, _≢_, List, le-refl, arith, length, getD, length-append, leb, eqb}
 use Rattle.wire.specs.Number.{number}
 use Rattle.wire.specs.Field.{bytesAt, textAt, gotText}
 use Rattle.wire.proofs.Laws.{picked}

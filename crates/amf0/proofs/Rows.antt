@@ -1,12 +1,7 @@
 -- A marker and its fields are read as the standard's row, and what was read of them is a row.
-use Prim.Native.Nat.{ℕ, zero, suc, _+_, _^_, _≤_, _<_, zero-le, suc-le-suc}
-use mathlib.Core.Path.{_≡_, refl, sym, ap, _∙_}
-use mathlib.Core.List.{List, [], _∷_, _++_}
-use mathlib.Core.Bool.{Bool, true, false}
-use native.Mathlib.Omega.{arith}
-use lib.ListN.{length, getD, List·getD-eq-default}
-use lib.Dec.{leb, ltb, eqb}
-use borrow.Author.Tests.{le-leb, lt-ltb, ne-eqb, leb-true, leb-false}
+use Rattle.wire.proofs.Kit.{ℕ, zero, suc, _+_, _^_, _≤_, _<_, _≡_, refl, sym, ap, _∙_, List, [], _∷_, _++_, Bool, true, false, arith, length, getD}
+use Rattle.wire.proofs.Kit.{List·getD-eq-default, leb, ltb, eqb, le-leb, lt-ltb, ne-eqb, leb-true, leb-false}
+use Prim.Native.Nat.{zero-le, suc-le-suc}
 use Rattle.wire.specs.Number.{digits, number, Bytes}
 use Rattle.wire.specs.Utf8.{utf8}
 use Rattle.wire.specs.Field.{u8At, textAt, got8, gotText}

@@ -1,9 +1,5 @@
 -- What the reader's steps tell each other besides what they read.
-use Prim.Native.Nat.{ℕ, _+_, _*_, _≤_}
-use mathlib.Core.Path.{_≡_}
-use mathlib.Core.List.{List}
-use mathlib.Core.Bool.{Bool, true, false}
-use lib.Dec.{eqb}
+use Rattle.wire.specs.Kit.{ℕ, _+_, _*_, _≤_, _≡_, List, Bool, true, false, eqb}
 use Rattle.wire.specs.Choice.{pick}
 use Rattle.wire.specs.Limit as limit
 use Rattle.wire.specs.declared.cursor.Cursor.{Cursor}

@@ -1,9 +1,5 @@
 -- What stands behind each marker: the value's own fields, the record that they make, and what follows them.
-use Prim.Native.Nat.{ℕ, _+_}
-use mathlib.Core.List.{List}
-use mathlib.Core.Bool.{true}
-use lib.ListN.{length}
-use lib.Dec.{leb, ltb, eqb}
+use Rattle.wire.specs.Kit.{ℕ, _+_, List, true, length, leb, ltb, eqb}
 use Rattle.wire.specs.Choice.{pick}
 use Rattle.wire.specs.Field.{to, u8At, u16At, u32At, u64At, textAt, got8, got16, got32, got64, gotText}
 use Rattle.image.specs.declared.record.Record.{Record}

@@ -1,7 +1,5 @@
 -- The type markers, in the order of their numbers.
-use Prim.Native.Nat.{ℕ}
-use mathlib.Core.List.{List, [], _∷_}
-use lib.ListN.{getD}
+use Rattle.wire.specs.Kit.{ℕ, List, [], _∷_, getD}
 use Rattle.amf0.specs.declared.type_marker.TypeMarker.{TypeMarker}
 use Rattle.amf0.specs.declared.type_marker.TypeMarker.the-variants.{Number, Boolean, String, Object, MovieClip, Null, Undefined, Reference, EcmaArray, ObjectEnd, StrictArray, Date, LongString, Unsupported, RecordSet, Xml, TypedObject, Amf3}
 

@@ -1,8 +1,5 @@
 -- What reading a value finds, from a place of an input on: document 01, "Reading one value". `left` is how many levels are left.
-use Prim.Native.Nat.{ℕ, zero, suc, _+_}
-use mathlib.Core.List.{List}
-use lib.ListN.{length}
-use lib.Dec.{leb, eqb}
+use Rattle.wire.specs.Kit.{ℕ, zero, suc, _+_, List, length, leb, eqb}
 use Rattle.wire.specs.Choice.{pick}
 use Rattle.wire.specs.Field.{u8At, textAt, got8, gotText}
 use Rattle.wire.specs.Limit as limit

@@ -1,9 +1,5 @@
 -- What the records of a reading show: a tree told from left to right, its texts taken out of the input.
-use Prim.Native.Nat.{ℕ, _+_, _≤_}
-use mathlib.Core.Path.{_≡_}
-use mathlib.Core.List.{List, [], _∷_, _++_}
-use mathlib.Core.Bool.{true}
-use lib.ListN.{length}
+use Rattle.wire.specs.Kit.{ℕ, _+_, _≤_, _≡_, List, [], _∷_, _++_, true, length}
 use Rattle.image.specs.declared.record.Record.{Record}
 use Rattle.image.specs.declared.record.Record.the-variants.{Number, Boolean, Text, Object, Null, Undefined, Reference, EcmaArray, ObjectEnd, StrictArray, Date, Unsupported, Xml, TypedObject, Key, Packet, Header, Message, Lso}
 use Rattle.image.specs.Record.{bytesOf}

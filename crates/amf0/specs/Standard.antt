@@ -1,10 +1,7 @@
 -- AMF 0 as Adobe's document has it ("Action Message Format -- AMF 0", 2007): values as trees, and the rows of bytes that encode them. Texts are their
 -- bytes, numbers their bits. Where a form is allowed that the document does not have, or more widely than it has it, its name begins with `departure`.
-use Prim.Native.Nat.{ℕ, zero, suc, max, _^_, _<_, _≤_}
-use mathlib.Core.Path.{_≡_}
-use mathlib.Core.List.{List, [], _∷_, _++_}
-use mathlib.Core.Bool.{Bool, true, false}
-use lib.ListN.{length}
+use Rattle.wire.specs.Kit.{ℕ, zero, suc, _^_, _<_, _≤_, _≡_, List, [], _∷_, _++_, Bool, true, false, length}
+use Prim.Native.Nat.{max}
 use Rattle.wire.specs.Number.{digits}
 use Rattle.wire.specs.Utf8.{utf8}
 

@@ -1,9 +1,5 @@
 -- What writing a value puts out, from a place of an image on: document 01, "A write checks first". `left` is how many levels are left.
-use Prim.Native.Nat.{ℕ, zero, suc, _+_}
-use mathlib.Core.List.{List, [], _∷_}
-use mathlib.Core.Bool.{Bool, true, false}
-use lib.ListN.{length}
-use lib.Dec.{leb, eqb}
+use Rattle.wire.specs.Kit.{ℕ, zero, suc, _+_, List, [], _∷_, Bool, true, false, length, leb, eqb}
 use Rattle.wire.specs.Choice.{pick}
 use Rattle.wire.specs.Number.{digits}
 use Rattle.wire.specs.Bytes.{decimal}

@@ -1,9 +1,5 @@
 -- What the records of an image given to a writer mean, and the bytes that a tree is written as.
-use Prim.Native.Nat.{ℕ, suc, _+_, _<_, _≤_}
-use mathlib.Core.Path.{_≡_}
-use mathlib.Core.List.{List, [], _∷_, _++_, map}
-use lib.ListN.{length}
-use lib.Dec.{leb}
+use Rattle.wire.specs.Kit.{ℕ, suc, _+_, _<_, _≤_, _≡_, List, [], _∷_, _++_, map, length, leb}
 use Rattle.wire.specs.Choice.{pick}
 use Rattle.wire.specs.Number.{digits}
 use Rattle.wire.specs.Bytes.{decimal}

@@ -1,10 +1,5 @@
 -- The records that are read of two encodings of a tree are the same but for the places of texts.
-use Prim.Native.Nat.{ℕ, _+_, _≤_}
-use mathlib.Core.Path.{_≡_, refl, sym, ap, _∙_}
-use mathlib.Core.List.{List, [], _∷_, map}
-use mathlib.Core.Bool.{true}
-use native.Mathlib.Omega.{arith}
-use lib.ListN.{length}
+use Rattle.wire.proofs.Kit.{ℕ, _+_, _≤_, _≡_, refl, sym, ap, _∙_, List, [], _∷_, map, true, arith, length}
 use Rattle.wire.specs.Limit as limit
 use Rattle.wire.proofs.Stands.{Here}
 use Rattle.image.specs.declared.record.Record.{Record}

@@ -1,11 +1,5 @@
 -- Every encoding of a value is a row of bytes.
-use Prim.Native.Nat.{ℕ, zero, suc, _<_}
-use mathlib.Core.Path.{_≡_}
-use mathlib.Core.List.{List, [], _∷_, _++_}
-use mathlib.Core.Bool.{true}
-use native.Mathlib.Omega.{arith}
-use lib.ListN.{length}
-use lib.Dec.{lit<}
+use Rattle.wire.proofs.Kit.{ℕ, zero, suc, _<_, _≡_, List, [], _∷_, _++_, true, arith, length, lit<}
 use Rattle.wire.specs.Number.{digits, Bytes}
 use Rattle.wire.specs.Utf8.{Range, utf8}
 use Rattle.wire.proofs.Rfc3629.{Match, Char, Utf8, utf8-sound}

@@ -1,11 +1,7 @@
 -- What the standard calls a value is read as that value.
-use Prim.Native.Nat.{ℕ, zero, suc, _+_, _^_, _≤_, _<_, pred}
-use mathlib.Core.Path.{_≡_, refl, sym, ap, _∙_}
-use mathlib.Core.List.{List, [], _∷_, _++_}
-use mathlib.Core.Bool.{true}
-use native.Mathlib.Omega.{arith}
-use lib.ListN.{length, length-append, length-drop}
-use lib.Dec.{eqb, lit<}
+use Rattle.wire.proofs.Kit.{ℕ, zero, suc, _+_, _^_, _≤_, _<_, _≡_, refl, sym, ap, _∙_, List, [], _∷_, _++_, true, arith, length, length-append, length-drop}
+use Rattle.wire.proofs.Kit.{eqb, lit<}
+use Prim.Native.Nat.{pred}
 use Rattle.wire.specs.Choice.{pick}
 use Rattle.wire.specs.Number.{digits}
 use Rattle.wire.specs.Utf8.{utf8, ends}

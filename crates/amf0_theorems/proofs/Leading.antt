@@ -1,11 +1,6 @@
 -- What leads to a field: a value that is too deep leads to the marker of one too many, and bytes behind a field that is there change nothing.
-use Prim.Native.Nat.{ℕ, zero, suc, _+_, _≤_, _<_}
-use mathlib.Core.Path.{_≡_, refl, sym, ap, _∙_}
-use mathlib.Core.Logic.{_≢_}
-use mathlib.Core.List.{List, [], _∷_, _++_, append-nil}
-use native.Mathlib.Omega.{arith}
-use lib.ListN.{length, drop, length-append}
-use borrow.Author.Tests.{eqb-false}
+use Rattle.wire.proofs.Kit.{ℕ, zero, suc, _+_, _≤_, _<_, _≡_, refl, sym, ap, _∙_, _≢_, List, [], _∷_, _++_, append-nil, arith, length, drop, length-append}
+use Rattle.wire.proofs.Kit.{eqb-false}
 use Rattle.wire.proofs.Stands.{Here, cut, skip, byte-at}
 use Rattle.amf0.specs.Reading.{value}
 use Rattle.amf0.specs.Standard.{Sort, Tree, depth, Encodes}

@@ -1,12 +1,5 @@
 -- More room changes nothing: the laws for any call that settles a reading in a room.
-use Prim.Native.Nat.{ℕ, _+_, _≤_}
-use mathlib.Core.Path.{_≡_, refl, ap, subst}
-use mathlib.Core.Logic.{_≢_}
-use mathlib.Core.Bool.{Bool, true, false}
-use native.Mathlib.Omega.{arith}
-use lib.ListN.{length}
-use lib.Dec.{leb}
-use borrow.Author.Tests.{leb-true, le-leb}
+use Rattle.wire.proofs.Kit.{ℕ, _+_, _≤_, _≡_, refl, ap, subst, _≢_, Bool, true, false, arith, length, leb, leb-true, le-leb}
 use Rattle.wire.specs.Choice.{pick}
 use Rattle.image.specs.Due.{Due}
 use Rattle.image.specs.Whole.{Whole, bytes, ended, refused, settled}

@@ -1,10 +1,5 @@
 -- The records of a tree are put out as what the tree is written as.
-use Prim.Native.Nat.{ℕ, zero, suc, _+_, _≤_, _<_}
-use mathlib.Core.Path.{_≡_, refl, ap, _∙_}
-use mathlib.Core.List.{List, [], _∷_, _++_, append-assoc}
-use mathlib.Core.Bool.{true, false}
-use native.Mathlib.Omega.{arith}
-use lib.ListN.{length, length-append}
+use Rattle.wire.proofs.Kit.{ℕ, zero, suc, _+_, _≤_, _<_, _≡_, refl, ap, _∙_, List, [], _∷_, _++_, append-assoc, true, false, arith, length, length-append}
 use Rattle.wire.specs.Number.{digits}
 use Rattle.wire.specs.Bytes.{decimal}
 use Rattle.wire.specs.Field.{to}

@@ -1,12 +1,6 @@
 -- The theorems on refused readings of values: which field refuses an input, and with what answer.
-use Prim.Native.Nat.{ℕ, _+_, _≤_, _<_}
-use mathlib.Core.Path.{_≡_, refl, sym, ap, _∙_}
-use mathlib.Core.Logic.{_≢_, _↔_}
-use mathlib.Core.List.{List, [], _∷_, _++_, append-nil, append-assoc}
-use native.Mathlib.Omega.{arith}
-use lib.ListN.{length, length-append}
-use lib.Dec.{leb, eqb, lit<}
-use borrow.Author.Tests.{leb-true, leb-false, eqb-true, eqb-false}
+use Rattle.wire.proofs.Kit.{ℕ, _+_, _≤_, _<_, _≡_, refl, sym, ap, _∙_, _≢_, _↔_, List, [], _∷_, _++_, append-nil, append-assoc, arith, length, length-append}
+use Rattle.wire.proofs.Kit.{leb, eqb, lit<, leb-true, leb-false, eqb-true, eqb-false}
 use Rattle.wire.specs.Number.{Bytes}
 use Rattle.wire.specs.Limit as limit
 use Rattle.wire.proofs.Laws.{picked}

@@ -1,14 +1,7 @@
 -- The laws of a refusal by a field, whatever fields lead to it.
-use Prim.Native.Nat.{ℕ, _+_, _^_, _≤_, _<_}
-use mathlib.Core.Path.{_≡_, refl, sym, ap, _∙_}
-use mathlib.Core.Logic.{_≢_}
-use mathlib.Core.List.{List, [], _∷_, _++_, append-assoc}
-use mathlib.Core.Bool.{true}
-use native.Mathlib.Omega.{arith}
-use lib.Dec.{leb}
-use lib.ListN.{length, take, drop, length-append, length-drop}
-use lib.Seq.{take-nil, take-append-le, drop-append-le}
-use borrow.Author.Tests.{le-leb, lt-leb, leb-true, leb-false}
+use Rattle.wire.proofs.Kit.{ℕ, _+_, _^_, _≤_, _<_, _≡_, refl, sym, ap, _∙_, _≢_, List, [], _∷_, _++_, append-assoc, true, arith, leb, length, take, drop}
+use Rattle.wire.proofs.Kit.{length-append, length-drop, take-append-le, drop-append-le, le-leb, lt-leb, leb-true, leb-false}
+use lib.Seq.{take-nil}
 use Rattle.wire.specs.Number.{digits, number, Bytes}
 use Rattle.wire.specs.Utf8.{utf8, ends}
 use Rattle.wire.specs.Field.{bytesAt, strAt, textAt, gotText}

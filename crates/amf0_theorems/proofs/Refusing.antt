@@ -1,13 +1,7 @@
 -- Where a field refuses the input, the reading of a value stops.
-use Prim.Native.Nat.{ℕ, zero, suc, _+_, _^_, _≤_, _<_, pred}
-use mathlib.Core.Path.{_≡_, refl, sym, ap, _∙_}
-use mathlib.Core.Logic.{_≢_}
-use mathlib.Core.List.{List, [], _∷_, _++_}
-use mathlib.Core.Bool.{true}
-use native.Mathlib.Omega.{arith}
-use lib.ListN.{length, drop, getD, length-append}
-use lib.Dec.{eqb}
-use borrow.Author.Tests.{le-leb, lt-leb, eqb-true, ne-eqb}
+use Rattle.wire.proofs.Kit.{ℕ, zero, suc, _+_, _^_, _≤_, _<_, _≡_, refl, sym, ap, _∙_, _≢_, List, [], _∷_, _++_, true, arith, length, drop, getD, length-append}
+use Rattle.wire.proofs.Kit.{eqb, le-leb, lt-leb, eqb-true, ne-eqb}
+use Prim.Native.Nat.{pred}
 use Rattle.wire.specs.Number.{digits, number}
 use Rattle.wire.specs.Utf8.{utf8}
 use Rattle.wire.specs.Field.{bytesAt, u8At, u16At, u32At, u64At, textAt, gotText}

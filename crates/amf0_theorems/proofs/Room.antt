@@ -1,11 +1,5 @@
 -- The round trip in every room that is not refused for room, and so in the room of the first reading: its image has as many bytes as the other.
-use Prim.Native.Nat.{ℕ, _*_, _≤_}
-use mathlib.Core.Path.{_≡_, refl, sym, ap, _∙_}
-use mathlib.Core.Logic.{_≢_}
-use mathlib.Core.List.{List, [], _∷_, map}
-use native.Mathlib.Nat.{le-refl}
-use native.Mathlib.Omega.{arith}
-use lib.ListN.{length}
+use Rattle.wire.proofs.Kit.{ℕ, _*_, _≤_, _≡_, refl, sym, ap, _∙_, _≢_, List, [], _∷_, map, le-refl, arith, length}
 use Rattle.wire.specs.Number.{Bytes}
 use Rattle.image.specs.declared.record.Record.{Record}
 use Rattle.image.specs.declared.record.Record.the-variants.{Number, Boolean, Text, Object, Null, Undefined, Reference, EcmaArray, ObjectEnd, StrictArray, Date, Unsupported, Xml, TypedObject, Key, Packet, Header, Message, Lso}

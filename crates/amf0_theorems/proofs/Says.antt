@@ -1,12 +1,6 @@
 -- What a record says is what it is put out as, and that is a row of the standard's.
-use Prim.Native.Nat.{ℕ, zero, suc, _+_, _^_, _<_}
-use mathlib.Core.Path.{_≡_, refl, ap, _∙_}
-use mathlib.Core.List.{List, [], _∷_, _++_, append-nil}
-use mathlib.Core.Bool.{Bool, true, false}
-use native.Mathlib.Omega.{arith}
-use lib.ListN.{length}
-use lib.Dec.{leb}
-use borrow.Author.Tests.{le-leb, leb-true, leb-false}
+use Rattle.wire.proofs.Kit.{ℕ, zero, suc, _+_, _^_, _<_, _≡_, refl, ap, _∙_, List, [], _∷_, _++_, append-nil, Bool, true, false, arith, length, leb, le-leb}
+use Rattle.wire.proofs.Kit.{leb-true, leb-false}
 use Rattle.wire.specs.Number.{digits}
 use Rattle.wire.specs.Utf8.{ends}
 use Rattle.wire.specs.Field.{bytesAt}

@@ -1,12 +1,5 @@
 -- What stands at a place of an image, as a writing sees it: the record that is due there, or none.
-use Prim.Native.Nat.{ℕ, _+_, _≤_}
-use mathlib.Core.Path.{_≡_, refl, sym, _∙_}
-use mathlib.Core.List.{List, [], _∷_}
-use mathlib.Core.Bool.{Bool, true, false}
-use native.Mathlib.Omega.{arith}
-use lib.ListN.{length, drop, length-drop}
-use lib.Dec.{leb}
-use borrow.Author.Tests.{leb-true}
+use Rattle.wire.proofs.Kit.{ℕ, _+_, _≤_, _≡_, refl, sym, _∙_, List, [], _∷_, Bool, true, false, arith, length, drop, length-drop, leb, leb-true}
 use Rattle.wire.specs.Choice.{pick}
 use Rattle.wire.specs.Number.{Bytes}
 use Rattle.wire.specs.Utf8.{utf8}

@@ -1,8 +1,5 @@
 -- What a writing comes to, with no word of what it writes.
-use Prim.Native.Nat.{ℕ, _≤_}
-use mathlib.Core.List.{List}
-use mathlib.Core.Logic.{_≢_}
-use lib.ListN.{length}
+use Rattle.wire.proofs.Kit.{ℕ, _≤_, List, _≢_, length}
 use Rattle.image.specs.Out.{Written, written, unwritten}
 
 -- a refusal counts 0 and has no byte; an acceptance counts the bytes that it has, and they have room

@@ -1,11 +1,5 @@
 -- What is read of a part that stands further on in an input is what is read of the part alone, moved there.
-use Prim.Native.Nat.{ℕ, zero, suc, _+_, _*_, _≤_}
-use mathlib.Core.Path.{_≡_, refl, sym, ap}
-use mathlib.Core.List.{List, _++_}
-use mathlib.Core.Bool.{Bool, true, false}
-use native.Mathlib.Omega.{arith}
-use lib.ListN.{length, getD, length-append}
-use lib.Dec.{leb, eqb}
+use Rattle.wire.proofs.Kit.{ℕ, zero, suc, _+_, _*_, _≤_, _≡_, refl, sym, ap, List, _++_, Bool, true, false, arith, length, getD, length-append, leb, eqb}
 use Rattle.wire.specs.Choice.{pick}
 use Rattle.wire.specs.Number.{number}
 use Rattle.wire.specs.Field.{to, bytesAt}

@@ -1,13 +1,6 @@
 -- What a tree is written as encodes it, and no encoding of it is shorter.
-use Prim.Native.Nat.{ℕ, zero, suc, _+_, _/_, _%_, _^_, _≤_, _<_}
-use mathlib.Core.Path.{_≡_, refl}
-use mathlib.Core.List.{List, [], _∷_, _++_, append-assoc, append-nil}
-use mathlib.Core.Bool.{true}
-use native.Mathlib.Nat.{le-refl, pow-suc}
-use native.Mathlib.Omega.{arith}
-use lib.ListN.{length, length-append}
-use lib.Dec.{leb, ltb}
-use borrow.Author.Tests.{le-leb, leb-false, ltb-true, ltb-false}
+use Rattle.wire.proofs.Kit.{ℕ, zero, suc, _+_, _/_, _%_, _^_, _≤_, _<_, _≡_, refl, List, [], _∷_, _++_, append-assoc, append-nil, true, le-refl, pow-suc, arith}
+use Rattle.wire.proofs.Kit.{length, length-append, leb, ltb, le-leb, leb-false, ltb-true, ltb-false}
 use Rattle.wire.specs.Number.{digits}
 use Rattle.wire.specs.Bytes.{places, decimal}
 use Rattle.wire.specs.Utf8.{utf8, ends}

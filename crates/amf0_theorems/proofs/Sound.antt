@@ -1,11 +1,5 @@
 -- What is read as a value is one, by the standard.
-use Prim.Native.Nat.{ℕ, zero, suc, _+_, _≤_}
-use mathlib.Core.Path.{_≡_, refl}
-use mathlib.Core.List.{List, [], _∷_, _++_}
-use native.Mathlib.Omega.{arith}
-use lib.ListN.{length, length-append}
-use lib.Dec.{eqb}
-use borrow.Author.Tests.{eqb-true}
+use Rattle.wire.proofs.Kit.{ℕ, zero, suc, _+_, _≤_, _≡_, refl, List, [], _∷_, _++_, arith, length, length-append, eqb, eqb-true}
 use Rattle.wire.specs.Number.{digits, Bytes}
 use Rattle.wire.proofs.Laws.{picked}
 use Rattle.wire.proofs.Stands.{Here, join, end8, endText}

@@ -1,11 +1,6 @@
 -- Records that tell a tree spell it, and those that a reading makes can stand in an image.
-use Prim.Native.Nat.{ℕ, suc, _+_, _^_, _≤_, _<_}
-use mathlib.Core.Path.{_≡_, refl, sym, ap, _∙_}
-use mathlib.Core.List.{List, [], _∷_, _++_, append-assoc, append-nil}
-use mathlib.Core.Bool.{true, false}
-use native.Mathlib.Omega.{arith}
-use lib.ListN.{length, length-append}
-use lib.Dec.{lit<}
+use Rattle.wire.proofs.Kit.{ℕ, suc, _+_, _^_, _≤_, _<_, _≡_, refl, sym, ap, _∙_, List, [], _∷_, _++_, append-assoc, append-nil, true, false, arith, length}
+use Rattle.wire.proofs.Kit.{length-append, lit<}
 use Rattle.wire.specs.Number.{digits}
 use Rattle.wire.specs.Utf8.{utf8}
 use Rattle.wire.specs.Limit as limit

@@ -1,13 +1,6 @@
 -- Where the reading of a value stops, a field refuses the input.
-use Prim.Native.Nat.{ℕ, zero, suc, _+_, _≤_, _<_}
-use mathlib.Core.Path.{_≡_, refl, ap, _∙_}
-use mathlib.Core.Logic.{_≢_}
-use mathlib.Core.List.{List, [], _∷_, _++_}
-use mathlib.Core.Bool.{false}
-use native.Mathlib.Omega.{arith}
-use lib.ListN.{length, drop, getD, length-append, length-drop}
-use lib.Dec.{leb, eqb}
-use borrow.Author.Tests.{leb-true, leb-false, eqb-true, eqb-false}
+use Rattle.wire.proofs.Kit.{ℕ, zero, suc, _+_, _≤_, _<_, _≡_, refl, ap, _∙_, _≢_, List, [], _∷_, _++_, false, arith, length, drop, getD, length-append}
+use Rattle.wire.proofs.Kit.{length-drop, leb, eqb, leb-true, leb-false, eqb-true, eqb-false}
 use Rattle.wire.specs.Number.{digits, number, Bytes}
 use Rattle.wire.specs.Field.{bytesAt, textAt, gotText}
 use Rattle.wire.proofs.Laws.{picked, length-digits}

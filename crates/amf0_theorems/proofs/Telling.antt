@@ -1,9 +1,5 @@
 -- The records of a row of bytes tell the tree that it is, and no other.
-use Prim.Native.Nat.{ℕ, zero, suc, _+_, _≤_}
-use mathlib.Core.Path.{_≡_, refl, sym, ap, ap₂, _∙_}
-use mathlib.Core.List.{List, [], _∷_, _++_}
-use native.Mathlib.Omega.{arith}
-use lib.ListN.{length}
+use Rattle.wire.proofs.Kit.{ℕ, zero, suc, _+_, _≤_, _≡_, refl, sym, ap, ap₂, _∙_, List, [], _∷_, _++_, arith, length}
 use Rattle.wire.specs.Number.{digits}
 use Rattle.wire.specs.Field.{bytesAt}
 use Rattle.wire.proofs.Stands.{Here, cut, behind, cut, skip, there}

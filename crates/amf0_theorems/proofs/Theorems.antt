@@ -1,12 +1,6 @@
 -- The theorems on the reader of values, over what its public call comes to.
-use Prim.Native.Nat.{ℕ, _+_, _*_, _≤_, _<_, max}
-use mathlib.Core.Path.{_≡_, refl, sym, ap, ap₂, _∙_}
-use mathlib.Core.Logic.{_≢_, _↔_}
-use mathlib.Core.List.{List, [], _++_, append-nil}
-use native.Mathlib.Omega.{arith}
-use lib.ListN.{length, take, drop, length-append, take-append-drop}
-use lib.Seq.{length-take-le, take-append-seam}
-use lib.Dec.{leb}
+use Rattle.wire.proofs.Kit.{ℕ, _+_, _*_, _≤_, _<_, max, _≡_, refl, sym, ap, ap₂, _∙_, _≢_, _↔_, List, [], _++_, append-nil, arith, length, take, drop}
+use Rattle.wire.proofs.Kit.{length-append, take-append-drop, length-take-le, take-append-seam, leb}
 use Rattle.wire.specs.Number.{Bytes}
 use Rattle.wire.specs.Limit as limit
 use Rattle.wire.proofs.Stands.{here-front}

@@ -1,12 +1,5 @@
 -- What the public write comes to on the image of a tree, and that a reading makes such an image.
-use Prim.Native.Nat.{ℕ, _*_, _≤_, _<_}
-use mathlib.Core.Path.{_≡_, refl, sym, ap, _∙_}
-use mathlib.Core.List.{List, [], _++_, append-nil}
-use native.Mathlib.Nat.{zero-add}
-use native.Mathlib.Omega.{arith}
-use lib.ListN.{length}
-use lib.Dec.{leb}
-use borrow.Author.Tests.{leb-true}
+use Rattle.wire.proofs.Kit.{ℕ, _*_, _≤_, _<_, _≡_, refl, sym, ap, _∙_, List, [], _++_, append-nil, zero-add, arith, length, leb, leb-true}
 use Rattle.wire.specs.Choice.{pick}
 use Rattle.wire.specs.Limit as limit
 use Rattle.wire.proofs.Laws.{pick-yes, picked}

@@ -1,12 +1,6 @@
 -- A writing that is refused is so by what stands at its place: the records before it begin a tree, and what is due behind them is not there.
-use Prim.Native.Nat.{ℕ, zero, suc, _+_, _≤_}
-use mathlib.Core.Path.{_≡_, refl, sym, ap, _∙_}
-use mathlib.Core.Logic.{_⊎_, inl, inr}
-use mathlib.Core.List.{List, [], _∷_, _++_}
-use native.Mathlib.Omega.{arith}
-use lib.ListN.{length, drop, length-append}
-use lib.Dec.{leb}
-use borrow.Author.Tests.{leb-false}
+use Rattle.wire.proofs.Kit.{ℕ, zero, suc, _+_, _≤_, _≡_, refl, sym, ap, _∙_, _⊎_, inl, inr, List, [], _∷_, _++_, arith, length, drop, length-append, leb}
+use Rattle.wire.proofs.Kit.{leb-false}
 use Rattle.wire.specs.Choice.{pick}
 use Rattle.wire.specs.Number.{Bytes}
 use Rattle.wire.specs.Limit as limit

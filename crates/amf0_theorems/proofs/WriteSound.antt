@@ -1,12 +1,6 @@
 -- An image whose writing is not refused is that of a tree.
-use Prim.Native.Nat.{ℕ, zero, suc, _+_, _≤_}
-use mathlib.Core.Path.{_≡_, refl, ap, _∙_}
-use mathlib.Core.List.{List, [], _∷_, _++_, append-nil}
-use mathlib.Core.Bool.{true}
-use native.Mathlib.Omega.{arith}
-use lib.ListN.{length, drop, length-append}
-use lib.Dec.{leb}
-use borrow.Author.Tests.{leb-true}
+use Rattle.wire.proofs.Kit.{ℕ, zero, suc, _+_, _≤_, _≡_, refl, ap, _∙_, List, [], _∷_, _++_, append-nil, true, arith, length, drop, length-append, leb}
+use Rattle.wire.proofs.Kit.{leb-true}
 use Rattle.wire.specs.Choice.{pick}
 use Rattle.wire.specs.Number.{Bytes}
 use Rattle.wire.specs.Bytes.{decimal}

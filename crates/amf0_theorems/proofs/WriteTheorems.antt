@@ -1,12 +1,6 @@
 -- The theorems on the writer of values, over what its public call comes to.
-use Prim.Native.Nat.{ℕ, _+_, _*_, _≤_, _<_, max}
-use mathlib.Core.Path.{_≡_, refl, sym, ap, _∙_}
-use mathlib.Core.Logic.{_↔_, _⊎_, inl, inr, ⊎-elim}
-use mathlib.Core.List.{List, [], _∷_, _++_, append-nil, append-assoc}
-use native.Mathlib.Omega.{arith}
-use lib.ListN.{length, take, take-append-drop}
-use lib.Seq.{length-take-le}
-use lib.Dec.{leb}
+use Rattle.wire.proofs.Kit.{ℕ, _+_, _*_, _≤_, _<_, max, _≡_, refl, sym, ap, _∙_, _↔_, _⊎_, inl, inr, ⊎-elim, List, [], _∷_, _++_, append-nil, append-assoc}
+use Rattle.wire.proofs.Kit.{arith, length, take, take-append-drop, length-take-le, leb}
 use Rattle.wire.specs.Number.{Bytes}
 use Rattle.wire.specs.Limit as limit
 use Rattle.wire.proofs.Laws.{pick-no, picked}

@@ -1,11 +1,6 @@
 -- Why a reading of a value is refused, with no word of a reader: which fields stand before one that is not whole or not right, and what is wrong with that
 -- one. Document 01: "Fields go left to right: whole (2), then right (3)". The public call, last, adds the limit and the room.
-use Prim.Native.Nat.{ℕ, suc, _+_, _^_, _<_, _≤_}
-use mathlib.Core.Path.{_≡_}
-use mathlib.Core.Logic.{_≢_}
-use mathlib.Core.List.{List, [], _∷_, _++_}
-use mathlib.Core.Bool.{false}
-use lib.ListN.{length, take, drop}
+use Rattle.wire.specs.Kit.{ℕ, suc, _+_, _^_, _<_, _≤_, _≡_, _≢_, List, [], _∷_, _++_, false, length, take, drop}
 use Rattle.wire.specs.Number.{digits, number as numberOf}
 use Rattle.wire.specs.Utf8.{utf8}
 use Rattle.wire.specs.Limit as limit

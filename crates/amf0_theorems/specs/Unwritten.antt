@@ -1,10 +1,6 @@
 -- Why a write is refused, and by which record: document 01, "A write checks first". Records begin a tree, something is due behind them, and what stands there
 -- is not it. `left` is how many levels are left.
-use Prim.Native.Nat.{ℕ, suc, _+_, _≤_, _<_}
-use mathlib.Core.Path.{_≡_}
-use mathlib.Core.List.{List, [], _∷_, _++_}
-use mathlib.Core.Bool.{true}
-use lib.ListN.{length}
+use Rattle.wire.specs.Kit.{ℕ, suc, _+_, _≤_, _<_, _≡_, List, [], _∷_, _++_, true, length}
 use Rattle.wire.specs.Limit as limit
 use Rattle.image.specs.declared.record.Record.{Record}
 use Rattle.image.specs.Record.{bytesOf}

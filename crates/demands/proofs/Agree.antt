@@ -1,9 +1,5 @@
 -- What demand 3 says of calls of two kinds: an entry beside the value reader, and the entries beside the whole packet.
-use Prim.Native.Nat.{ℕ, suc, _<_}
-use mathlib.Core.Path.{_≡_}
-use mathlib.Core.Logic.{_≢_}
-use mathlib.Core.List.{List, [], _∷_, _++_}
-use lib.ListN.{length, getD, take}
+use Rattle.wire.proofs.Kit.{ℕ, suc, _<_, _≡_, _≢_, List, [], _∷_, _++_, length, getD, take}
 use Rattle.image.specs.declared.reading.Reading.{Reading}
 use Rattle.image.specs.declared.record.Record.the-variants as R
 use Rattle.image.specs.Record.{bytesOf}

@@ -1,10 +1,6 @@
 -- The functions that go out to C, as the calls stand in `Calls`: what goes out through a reference stands in the result.
-use Prim.Native.Nat.{ℕ}
-use mathlib.Core.List.{List}
-use mathlib.Core.Bool.{Bool}
-use denote.Ref.{now}
+use Rattle.wire.proofs.Kit.{ℕ, List, Bool, now, Dens}
 use contract.Lifetimes.{Lfts}
-use borrow.Fn.Kinds.{Dens}
 use Rattle.image.specs.declared.reading.Reading.{Reading}
 use Rattle.image.specs.declared.writing.Writing.{Writing}
 use Rattle.packet.specs.declared.entry.Cutting.{Cutting}

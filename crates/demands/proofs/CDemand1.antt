@@ -1,11 +1,5 @@
 -- Demand 1 of the functions that go out to C: each comes to what its call does, and so answers, leaves and changes what that does.
-use Prim.Native.Nat.{ℕ, _/_, _≤_}
-use mathlib.Core.Path.{_≡_, refl, _∙_}
-use mathlib.Core.Logic.{_≢_}
-use mathlib.Core.List.{List, [], _∷_}
-use mathlib.Core.Bool.{Bool}
-use denote.Ref.{now}
-use lib.ListN.{length, replicate}
+use Rattle.wire.proofs.Kit.{ℕ, _/_, _≤_, _≡_, refl, _∙_, _≢_, List, [], _∷_, Bool, now, length, replicate}
 use Rattle.image.specs.declared.reading.Reading.{Reading}
 use Rattle.image.specs.declared.writing.Writing.{Writing}
 use Rattle.amf0.specs.Reading.{readOf}

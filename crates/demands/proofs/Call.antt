@@ -1,9 +1,7 @@
 -- A call of a function that has returned, as the kit has it, and what makes a contract firm.
-use Prim.Native.Nat.{ℕ}
-use mathlib.Core.Path.{_≡_}
-use mathlib.Core.List.{List}
+use Rattle.wire.proofs.Kit.{ℕ, _≡_, List, Dens, In}
 use contract.Lifetimes.{Lfts}
-use borrow.Fn.Kinds.{PK, RK, Dens, resT, endedOf, stays, In, Out}
+use borrow.Fn.Kinds.{PK, RK, resT, endedOf, stays, Out}
 use denote.Triple.Clauses.{Lasts, atExit}
 use denote.Triple.Walked.{Fit}
 

@@ -1,10 +1,6 @@
 -- Each call with what it returned and left, by its own contract: the arguments, the result, and what stands in a lent buffer at the end.
-use Prim.Native.Nat.{ℕ}
-use mathlib.Core.List.{List}
-use mathlib.Core.Bool.{Bool}
-use denote.Ref.{now}
+use Rattle.wire.proofs.Kit.{ℕ, List, Bool, now, Dens}
 use contract.Lifetimes.{Lfts}
-use borrow.Fn.Kinds.{Dens}
 use Rattle.image.specs.declared.reading.Reading.{Reading}
 use Rattle.image.specs.declared.writing.Writing.{Writing}
 use Rattle.packet.specs.declared.head.Entry.{Entry}

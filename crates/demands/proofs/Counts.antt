@@ -1,10 +1,5 @@
 -- What a reading says that it made is as many bytes as its records have.
-use Prim.Native.Nat.{ℕ}
-use mathlib.Core.Path.{_≡_, refl}
-use mathlib.Core.Bool.{Bool}
-use mathlib.Core.List.{List, _++_}
-use lib.ListN.{length}
-use lib.Dec.{leb, ltb, eqb}
+use Rattle.wire.proofs.Kit.{ℕ, _≡_, refl, Bool, List, _++_, length, leb, ltb, eqb}
 use Rattle.wire.specs.Choice.{pick}
 use Rattle.wire.specs.Limit as limit
 use Rattle.wire.specs.Text.{insideOf}

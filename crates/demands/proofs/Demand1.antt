@@ -1,13 +1,5 @@
 -- Demand 1 of the calls that make no tree: the cut into a list or a row, the lookup by number, and the index.
-use Prim.Native.Nat.{ℕ, _/_, _≤_}
-use mathlib.Core.Path.{_≡_, refl, sym, ap, _∙_}
-use mathlib.Core.Logic.{_≢_, _↔_}
-use mathlib.Core.List.{List, [], _∷_, _++_}
-use native.Mathlib.Nat.{sub-zero}
-use native.Mathlib.Omega.{arith}
-use lib.ListN.{length, replicate}
-use lib.Seq.{take-append-seam}
-use lib.Dec.{ltb}
+use Rattle.wire.proofs.Kit.{ℕ, _/_, _≤_, _≡_, refl, sym, ap, _∙_, _≢_, _↔_, List, [], _∷_, _++_, sub-zero, arith, length, replicate, take-append-seam, ltb}
 use Rattle.wire.specs.Number.{Bytes}
 use Rattle.wire.specs.Limit as limit
 use Rattle.wire.proofs.Laws.{picked}

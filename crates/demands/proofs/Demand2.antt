@@ -1,10 +1,5 @@
 -- Demand 2 of the calls, what each format says in its own way: what is accepted, and what is put out.
-use Prim.Native.Nat.{ℕ, _*_, _≤_}
-use mathlib.Core.Path.{_≡_, refl, sym, ap, _∙_}
-use mathlib.Core.List.{List, _++_}
-use native.Mathlib.Omega.{arith}
-use mathlib.Core.Bool.{Bool, true}
-use lib.ListN.{length}
+use Rattle.wire.proofs.Kit.{ℕ, _*_, _≤_, _≡_, refl, sym, ap, _∙_, List, _++_, arith, Bool, true, length}
 use Rattle.wire.specs.Number.{Bytes}
 use Rattle.wire.specs.Limit as limit
 use Rattle.image.specs.declared.reading.Reading.{Reading}

@@ -1,13 +1,6 @@
 -- Demand 3 of the calls: two packets, and what the calls give for the one and for the other.
-use Prim.Native.Nat.{ℕ, suc, _+_, _/_, _≤_, _<_}
-use mathlib.Core.Path.{_≡_, refl, sym, ap, _∙_}
-use mathlib.Core.Logic.{_≢_}
-use mathlib.Core.List.{List, [], _∷_, _++_}
-use native.Mathlib.Nat.{sub-zero}
-use native.Mathlib.Omega.{arith}
-use lib.ListN.{length, getD, take, replicate, length-take}
-use lib.Dec.{ltb}
-use borrow.Author.Tests.{le-ltb, ltb-true}
+use Rattle.wire.proofs.Kit.{ℕ, suc, _+_, _/_, _≤_, _<_, _≡_, refl, sym, ap, _∙_, _≢_, List, [], _∷_, _++_, sub-zero, arith, length, getD, take, replicate}
+use Rattle.wire.proofs.Kit.{length-take, ltb, le-ltb, ltb-true}
 use Rattle.wire.proofs.Laws.{picked}
 use Rattle.wire.specs.Number.{Bytes}
 use Rattle.wire.specs.Field.{bytesAt}

@@ -2,13 +2,7 @@
 -- its arguments, its result and what it left: `ParseSingleElement s i r x` is a call of `parse_single_element` on the input s and the image i, which returned r
 -- and left x in the image (`Calls.antt`). What is said of every reader, or of every writer, has a form with a name (`specs/Forms.antt`). `Bytes s`
 -- says that s is a row of bytes, as what stands in a slice of bytes is.
-use Prim.Native.Nat.{ℕ, _*_, _/_, _≤_, _<_}
-use mathlib.Core.Path.{_≡_}
-use mathlib.Core.Logic.{_≢_, _↔_}
-use mathlib.Core.List.{List, [], _∷_, _++_}
-use mathlib.Core.Bool.{Bool, true}
-use native.Mathlib.Omega.{arith}
-use lib.ListN.{length, getD, take, replicate}
+use Rattle.wire.proofs.Kit.{ℕ, _*_, _/_, _≤_, _<_, _≡_, _≢_, _↔_, List, [], _∷_, _++_, Bool, true, arith, length, getD, take, replicate}
 use Rattle.wire.specs.Number.{Bytes}
 use Rattle.wire.specs.Field.{bytesAt}
 use Rattle.wire.specs.Limit as limit

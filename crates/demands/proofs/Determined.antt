@@ -1,12 +1,9 @@
 -- The contract of each public call asks nothing of its caller and determines its outcome: any two outcomes that it permits are the same, what the call
 -- returns and every byte of all that is lent to it. A contract that is weakened fails here, and so does one that begins to ask.
-use Prim.Native.Nat.{ℕ}
-use mathlib.Core.Path.{_≡_, refl, sym, ap, _∙_}
-use mathlib.Core.List.{List}
-use denote.Ref.{ptr, now}
-use lib.ListN.{length}
+use Rattle.wire.proofs.Kit.{ℕ, _≡_, refl, sym, ap, _∙_, List, now, length, Dens, In}
+use denote.Ref.{ptr}
 use contract.Lifetimes.{Lfts}
-use borrow.Fn.Kinds.{PK, RK, Dens, In, Out}
+use borrow.Fn.Kinds.{PK, RK, Out}
 use Rattle.image.specs.Due.{Ran}
 use Rattle.image.specs.Out.{Poured}
 use Rattle.wire.proofs.text as text

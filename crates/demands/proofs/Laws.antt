@@ -1,12 +1,6 @@
 -- What follows for any reader and any writer from what its contract says.
-use Prim.Native.Nat.{ℕ, _-_, _*_, _≤_, _<_}
-use mathlib.Core.Path.{_≡_, refl, sym, ap, ap₂, subst, _∙_}
-use mathlib.Core.Logic.{_≢_, _⊎_, _↔_, ⊎-elim}
-use mathlib.Core.List.{List, _++_}
-use native.Mathlib.Nat.{sub-zero}
-use native.Mathlib.Omega.{arith}
-use lib.ListN.{length, take, drop, replicate, length-append, length-take, length-drop}
-use lib.Seq.{take-append-seam, drop-append-seam}
+use Rattle.wire.proofs.Kit.{ℕ, _-_, _*_, _≤_, _<_, _≡_, refl, sym, ap, ap₂, subst, _∙_, _≢_, _⊎_, _↔_, ⊎-elim, List, _++_, sub-zero, arith, length, take, drop}
+use Rattle.wire.proofs.Kit.{replicate, length-append, length-take, length-drop, take-append-seam, drop-append-seam}
 use Rattle.wire.specs.Number.{Bytes}
 use Rattle.wire.specs.Limit as limit
 use Rattle.image.specs.declared.reading.Reading.{Reading}

@@ -1,10 +1,5 @@
 -- Demand 1: what a proper beginning of a value, a header, a file or a packet comes to, and a value that is too deep.
-use Prim.Native.Nat.{ℕ, _*_, _≤_, _<_}
-use mathlib.Core.Path.{_≡_}
-use mathlib.Core.Logic.{_≢_}
-use mathlib.Core.List.{List, _++_}
-use native.Mathlib.Omega.{arith}
-use lib.ListN.{length, length-append}
+use Rattle.wire.proofs.Kit.{ℕ, _*_, _≤_, _<_, _≡_, _≢_, List, _++_, arith, length, length-append}
 use Rattle.wire.specs.Limit as limit
 use Rattle.image.specs.declared.reading.Reading.{Reading}
 use Rattle.image.specs.Whole.{bytes, refused}

@@ -1,8 +1,5 @@
 -- The examples that document 01 stars, of the calls.
-use Prim.Native.Nat.{ℕ}
-use mathlib.Core.Path.{_≡_, ap, _∙_}
-use mathlib.Core.List.{List, [], _∷_, map}
-use lib.ListN.{length, take}
+use Rattle.wire.proofs.Kit.{ℕ, _≡_, ap, _∙_, List, [], _∷_, map, length, take}
 use Rattle.image.specs.declared.reading.Reading.{Reading}
 use Rattle.image.specs.declared.writing.Writing.{Writing}
 use Rattle.image.specs.Whole.{Whole}

@@ -1,9 +1,5 @@
 -- What each call's own contract says of it: which definition it comes to.
-use Prim.Native.Nat.{ℕ, _/_}
-use mathlib.Core.Path.{_≡_}
-use mathlib.Core.List.{List}
-use mathlib.Core.Bool.{Bool}
-use lib.ListN.{length}
+use Rattle.wire.proofs.Kit.{ℕ, _/_, _≡_, List, Bool, length}
 use Rattle.wire.specs.Text.{partOf}
 use Rattle.image.specs.declared.reading.Reading.{Reading}
 use Rattle.image.specs.declared.writing.Writing.{Writing}

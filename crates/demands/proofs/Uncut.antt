@@ -1,12 +1,5 @@
 -- Demand 1: when the reading of an entry is refused because the packet is not cut exactly.
-use Prim.Native.Nat.{ℕ}
-use mathlib.Core.Path.{_≡_, refl, sym, ap, _∙_}
-use mathlib.Core.Logic.{_↔_, inl, inr, ⊎-elim}
-use mathlib.Core.List.{List, [], _∷_}
-use native.Mathlib.Omega.{arith}
-use lib.ListN.{length, getD}
-use lib.Dec.{ltb}
-use borrow.Author.Tests.{ltb-false}
+use Rattle.wire.proofs.Kit.{ℕ, _≡_, refl, sym, ap, _∙_, _↔_, inl, inr, ⊎-elim, List, [], _∷_, arith, length, getD, ltb, ltb-false}
 use Rattle.wire.specs.Number.{Bytes}
 use Rattle.wire.proofs.Laws.{picked}
 use Rattle.image.specs.Whole.{Whole}

@@ -1,7 +1,5 @@
 -- Document 01, "Checked examples": the starred ones, in its order, as the single table that it asks for. The checker computes it.
-use Prim.Native.Nat.{ℕ}
-use mathlib.Core.Path.{_≡_, refl}
-use mathlib.Core.List.{List, [], _∷_, _++_, map}
+use Rattle.wire.specs.Kit.{ℕ, _≡_, refl, List, [], _∷_, _++_, map}
 use Rattle.wire.specs.Utf8.{ends}
 use Rattle.wire.specs.Field.{u8At, u16At, u24At, u32At, u64At, strAt, textAt, tagAt}
 use Rattle.image.specs.Record.{bytesOf}

@@ -1,10 +1,7 @@
 -- The forms in which the demands are said of calls. A reader's call stands as a relation of the input, the image lent to it, the result and the image left; a
 -- writer's as one of the image, its text, the output lent to it, the result and the output left.
-use Prim.Native.Nat.{ℕ, _-_, _*_, _≤_, _<_}
-use mathlib.Core.Path.{_≡_}
-use mathlib.Core.Logic.{_≢_, _⊎_, _↔_}
-use mathlib.Core.List.{List, [], _∷_, _++_}
-use lib.ListN.{length, take, drop, replicate}
+use Rattle.wire.specs.Kit.{ℕ, _-_, _*_, _≤_, _<_, _≡_, _≢_, _⊎_, List, [], _∷_, _++_, length, take, drop, replicate}
+use mathlib.Core.Logic.{_↔_}
 use Rattle.wire.specs.Number.{Bytes}
 use Rattle.wire.specs.Limit as limit
 use Rattle.image.specs.declared.reading.Reading.{Reading}

@@ -1,9 +1,5 @@
 -- What an input is, by the grammars, and what an image holds.
-use Prim.Native.Nat.{ℕ, _≤_, _<_}
-use mathlib.Core.Logic.{_⊎_}
-use mathlib.Core.List.{List, _++_}
-use mathlib.Core.Bool.{Bool}
-use lib.ListN.{length, take}
+use Rattle.wire.specs.Kit.{ℕ, _≤_, _<_, _⊎_, List, _++_, Bool, length, take}
 use Rattle.wire.specs.Number.{Bytes}
 use Rattle.wire.specs.Limit as limit
 use Rattle.amf0.specs.Standard.{Sort, Tree, depth, Encodes}

@@ -1,11 +1,6 @@
 -- The days of the first so many years, in closed form, and the year of a day.
-use Prim.Native.Nat.{ℕ, zero, suc, _+_, _-_, _*_, _/_, _%_, _^_, _≤_, _<_}
-use mathlib.Core.Path.{_≡_, refl, sym}
-use mathlib.Core.Logic.{⊎-elim}
+use Rattle.wire.proofs.Kit.{ℕ, zero, suc, _+_, _-_, _*_, _/_, _%_, _^_, _≤_, _<_, _≡_, refl, sym, ⊎-elim, arith, eqb, eqb-true, eqb-false}
 use native.Mathlib.Nat.{eq-or-lt-of-le, div-add-mod}
-use native.Mathlib.Omega.{arith}
-use lib.Dec.{eqb}
-use borrow.Author.Tests.{eqb-true, eqb-false}
 use Rattle.wire.proofs.Laws.{picked}
 use Rattle.figures.specs.Calendar.{leapDay, yearsDays, InYear}
 

@@ -1,9 +1,5 @@
 -- What goes out as it stands is no control character of ASCII, no quote and no backslash.
-use Prim.Native.Nat.{ℕ, _≤_}
-use mathlib.Core.Path.{_≡_}
-use native.Mathlib.Omega.{arith}
-use lib.Dec.{eqb, ltb}
-use borrow.Author.Tests.{eqb-false, ltb-false}
+use Rattle.wire.proofs.Kit.{ℕ, _≤_, _≡_, arith, eqb, ltb, eqb-false, ltb-false}
 use Rattle.wire.proofs.Laws.{picked}
 use Rattle.figures.specs.Escape.{letterOf}
 

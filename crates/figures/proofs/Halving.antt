@@ -1,11 +1,6 @@
 -- Laws of the words and of halving.
-use Prim.Native.Nat.{ℕ, zero, suc, _+_, _-_, _*_, _/_, _%_, _^_, _≤_, _<_}
-use mathlib.Core.Path.{_≡_}
-use native.Mathlib.Nat.{mul-le-mul, pow-suc, mul-assoc}
-use native.Mathlib.Numerals.{sub-one}
-use native.Mathlib.Omega.{arith}
-use lib.Dec.{eqb}
-use borrow.Author.Tests.{eq-eqb, ne-eqb, eqb-false}
+use Rattle.wire.proofs.Kit.{ℕ, zero, suc, _+_, _-_, _*_, _/_, _%_, _^_, _≤_, _<_, _≡_, pow-suc, sub-one, arith, eqb, eq-eqb, ne-eqb, eqb-false}
+use native.Mathlib.Nat.{mul-le-mul, mul-assoc}
 use Rattle.wire.specs.Choice.{pick}
 use Rattle.wire.proofs.Laws.{picked}
 use Rattle.figures.specs.declared.double.Whole.{Whole}

@@ -1,7 +1,5 @@
 -- The Gregorian calendar from the year 1 on. Days and months count from 0, years from 1.
-use Prim.Native.Nat.{ℕ, zero, suc, _+_, _-_, _%_, _<_}
-use mathlib.Core.Path.{_≡_}
-use lib.Dec.{eqb}
+use Rattle.wire.specs.Kit.{ℕ, zero, suc, _+_, _-_, _%_, _<_, _≡_, eqb}
 use Rattle.wire.specs.Choice.{pick}
 
 -- every fourth year has a day more, of the centuries only every fourth

@@ -1,7 +1,5 @@
 -- The bits of an IEEE 754 double.
-use Prim.Native.Nat.{ℕ, zero, suc, _+_, _-_, _*_, _/_, _%_, _^_, _≤_, _<_}
-use mathlib.Core.Path.{_≡_}
-use lib.Dec.{eqb, leb}
+use Rattle.wire.specs.Kit.{ℕ, zero, suc, _+_, _-_, _*_, _/_, _%_, _^_, _≤_, _<_, _≡_, eqb, leb}
 use Rattle.wire.specs.Choice.{pick}
 use Rattle.figures.specs.declared.double.Whole.{Whole}
 use Rattle.figures.specs.declared.double.Whole.the-variants.{Is, Not}

@@ -1,6 +1,5 @@
 -- The escapes of JSON.
-use Prim.Native.Nat.{ℕ}
-use lib.Dec.{eqb, ltb}
+use Rattle.wire.specs.Kit.{ℕ, eqb, ltb}
 use Rattle.wire.specs.Choice.{pick}
 
 -- the letter behind the backslash, or 0: tab, line feed, carriage return, quote and backslash have one of their own, the other control characters have u

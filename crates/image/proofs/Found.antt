@@ -1,14 +1,6 @@
 -- A record that stands in an image is found there, and only one that stands there is found.
-use Prim.Native.Nat.{ℕ, _+_, _^_, _≤_, _<_}
-use mathlib.Core.Path.{_≡_, refl, sym, _∙_}
-use mathlib.Core.List.{List, [], _∷_, _++_}
-use mathlib.Core.Bool.{Bool, true, false}
-use native.Mathlib.Nat.{add-assoc}
-use native.Mathlib.Omega.{arith}
-use lib.ListN.{length, drop, length-append}
-use lib.Seq.{drop-append-seam}
-use lib.Dec.{leb, eqb, lit<}
-use borrow.Author.Tests.{leb-true, eqb-true}
+use Rattle.wire.proofs.Kit.{ℕ, _+_, _^_, _≤_, _<_, _≡_, refl, sym, _∙_, List, [], _∷_, _++_, Bool, true, false, add-assoc, arith, length, drop, length-append}
+use Rattle.wire.proofs.Kit.{drop-append-seam, leb, eqb, lit<, leb-true, eqb-true}
 use Rattle.wire.specs.declared.cursor.Cursor.{Cursor}
 use Rattle.wire.specs.declared.cursor.U8.{U8}
 use Rattle.wire.specs.declared.cursor.U8.the-variants as U8

@@ -1,15 +1,8 @@
 -- The laws of records, of readings and of a reading carried out.
-use Prim.Native.Nat.{ℕ, suc, _+_, _-_, _≤_, _<_}
-use mathlib.Core.Path.{_≡_, refl, sym, ap, _∙_}
-use mathlib.Core.List.{List, [], _∷_, _++_, append-assoc, append-nil}
-use mathlib.Core.Bool.{Bool, true, false}
-use native.Mathlib.Nat.{div-one, mod-eq-of-lt}
-use native.Mathlib.Nat.{zero-add, add-zero}
-use native.Mathlib.Numerals.{add-one}
-use native.Mathlib.Omega.{arith}
-use lib.ListN.{length, set, take, replicate, length-append, length-take}
-use lib.Seq.{sets, length-sets, take-suc-set, take-all}
-use lib.Dec.{leb}
+use Rattle.wire.proofs.Kit.{ℕ, suc, _+_, _-_, _≤_, _<_, _≡_, refl, sym, ap, _∙_, List, [], _∷_, _++_, append-assoc, append-nil, Bool, true, false, div-one}
+use Rattle.wire.proofs.Kit.{mod-eq-of-lt, zero-add, add-zero, add-one, arith, length, set, take, replicate, length-append, length-take, sets, length-sets}
+use Rattle.wire.proofs.Kit.{take-all, leb}
+use lib.Seq.{take-suc-set}
 use Rattle.wire.specs.Choice.{pick}
 use Rattle.wire.specs.Field.{to}
 use Rattle.wire.specs.declared.cursor.Cursor.{Cursor}

@@ -1,13 +1,6 @@
 -- The laws of rows, of writings and of a writing carried out, and what it comes to.
-use Prim.Native.Nat.{ℕ, _+_, _≤_, _<_}
-use mathlib.Core.Path.{_≡_, refl, sym, ap, _∙_}
-use mathlib.Core.List.{List, [], _∷_, _++_, append-assoc, append-nil}
-use mathlib.Core.Bool.{Bool, true, false}
-use native.Mathlib.Nat.{add-zero, add-assoc, zero-add}
-use native.Mathlib.Omega.{arith}
-use lib.ListN.{length, length-append, length-take, length-drop}
-use lib.Seq.{sets, sets-eq, length-sets}
-use borrow.Author.Tests.{leb-true, le-leb}
+use Rattle.wire.proofs.Kit.{ℕ, _+_, _≤_, _<_, _≡_, refl, sym, ap, _∙_, List, [], _∷_, _++_, append-assoc, append-nil, Bool, true, false, add-zero, add-assoc}
+use Rattle.wire.proofs.Kit.{zero-add, arith, length, length-append, length-take, length-drop, sets, sets-eq, length-sets, leb-true, le-leb}
 use Rattle.wire.specs.Choice.{pick}
 use Rattle.wire.specs.Bytes.{laid}
 use Rattle.wire.specs.Field.{to}

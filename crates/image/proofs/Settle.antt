@@ -1,13 +1,6 @@
 -- What a reading that was carried out comes to, as `Whole` has it: the bytes of its records, and how it ends.
-use Prim.Native.Nat.{ℕ, _+_, _≤_}
-use mathlib.Core.Path.{_≡_, sym, ap, _∙_}
-use mathlib.Core.List.{List, _++_, append-assoc, append-nil}
-use native.Mathlib.Nat.{zero-add}
-use native.Mathlib.Omega.{arith}
-use lib.ListN.{length, take, drop, length-append}
-use lib.Seq.{sets, sets-eq, take-at, length-sets, length-take-le}
-use lib.Dec.{leb}
-use borrow.Author.Tests.{leb-true, leb-false}
+use Rattle.wire.proofs.Kit.{ℕ, _+_, _≤_, _≡_, sym, ap, _∙_, List, _++_, append-assoc, append-nil, zero-add, arith, length, take, drop, length-append, sets}
+use Rattle.wire.proofs.Kit.{sets-eq, take-at, length-sets, length-take-le, leb, leb-true, leb-false}
 use Rattle.wire.specs.Choice.{pick}
 use Rattle.wire.proofs.Laws.{pick-yes, pick-no, picked}
 use Rattle.image.specs.declared.reading.Step.{Step}

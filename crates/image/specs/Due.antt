@@ -1,11 +1,6 @@
 -- A reading, with no word of room: the records in the order in which they fall due, each with the place that a refusal for room would name, and how
 -- the reading ends.
-use Prim.Native.Nat.{ℕ, _+_, _≤_}
-use mathlib.Core.Path.{_≡_}
-use mathlib.Core.List.{List}
-use lib.ListN.{length}
-use lib.Seq.{sets}
-use lib.Dec.{leb}
+use Rattle.wire.specs.Kit.{ℕ, _+_, _≤_, _≡_, List, length, sets, leb}
 use Rattle.wire.specs.Choice.{pick}
 use Rattle.wire.specs.Field.{to}
 use Rattle.wire.specs.declared.cursor.Cursor.{Cursor}

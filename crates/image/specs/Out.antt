@@ -1,10 +1,5 @@
 -- A writing, with no word of room: the rows of bytes in the order in which they are put out, and how the writing ends.
-use Prim.Native.Nat.{ℕ, _+_, _≤_}
-use mathlib.Core.Path.{_≡_}
-use mathlib.Core.List.{List, [], _++_}
-use mathlib.Core.Bool.{Bool, false}
-use lib.ListN.{length, drop}
-use lib.Dec.{leb}
+use Rattle.wire.specs.Kit.{ℕ, _+_, _≤_, _≡_, List, [], _++_, Bool, false, length, drop, leb}
 use Rattle.wire.specs.Choice.{pick}
 use Rattle.wire.specs.Bytes.{laid}
 use Rattle.wire.specs.Field.{to}

@@ -1,7 +1,5 @@
 -- The tree image of document 01: how each record lies, the table's lines in the table's order.
-use Prim.Native.Nat.{ℕ, _+_}
-use mathlib.Core.List.{List, _∷_, _++_}
-use mathlib.Core.Bool.{Bool, true, false}
+use Rattle.wire.specs.Kit.{ℕ, _+_, List, _∷_, _++_, Bool, true, false}
 use Rattle.wire.specs.Number.{digits}
 use Rattle.image.specs.declared.record.Field.{Field}
 use Rattle.image.specs.declared.record.Layout.{Layout}

@@ -1,9 +1,5 @@
 -- The record at a place of an image: its kind is one of document 01's table, and its body is whole and right.
-use Prim.Native.Nat.{ℕ, _^_, _<_}
-use mathlib.Core.Path.{_≡_}
-use mathlib.Core.List.{List, [], _∷_}
-use mathlib.Core.Bool.{Bool, true, false}
-use lib.Dec.{eqb}
+use Rattle.wire.specs.Kit.{ℕ, _^_, _<_, _≡_, List, [], _∷_, Bool, true, false, eqb}
 use Rattle.wire.specs.Choice.{pick}
 use Rattle.wire.specs.Field.{to, u8At, u16At, u24At, u32At, u64At, got8, got16, got32, got64, gotText}
 use Rattle.wire.specs.declared.cursor.Text.{Text as Place}

@@ -1,13 +1,6 @@
 -- How the code looks at records and marks, and how it looks up.
-use Prim.Native.Nat.{ℕ, zero, suc, _+_, _-_, _/_, _≤_, _<_}
-use mathlib.Core.Path.{_≡_, refl, _∙_}
-use mathlib.Core.List.{List, []}
-use mathlib.Core.Bool.{Bool, true, false}
-use native.Mathlib.Numerals.{sub-one}
-use native.Mathlib.Omega.{arith}
-use lib.Dec.{ltb}
-use lib.ListN.{length, getD}
-use borrow.Author.Tests.{lt-ltb, le-ltb, eq-eqb, ne-eqb}
+use Rattle.wire.proofs.Kit.{ℕ, zero, suc, _+_, _-_, _/_, _≤_, _<_, _≡_, refl, _∙_, List, [], Bool, true, false, sub-one, arith, ltb, length, getD, lt-ltb}
+use Rattle.wire.proofs.Kit.{le-ltb, eq-eqb, ne-eqb}
 use Rattle.wire.specs.declared.cursor.Cursor.{Cursor}
 use Rattle.wire.specs.declared.cursor.U8.the-variants as U8
 use Rattle.wire.specs.declared.cursor.U16.the-variants as U16

@@ -1,13 +1,7 @@
 -- How the code makes an index.
-use Prim.Native.Nat.{ℕ, zero, suc, _+_, _-_, _*_, _/_, _≤_, _<_}
-use mathlib.Core.Path.{_≡_, refl, sym, ap, _∙_}
-use mathlib.Core.List.{List, [], _∷_, _++_}
-use native.Mathlib.Nat.{zero-add}
-use native.Mathlib.Omega.{arith}
-use lib.ListN.{length, getD, take, drop, replicate}
-use lib.Seq.{take-add, drop-cons, drop-drop, drop-append-le, take-append-le, length-take-le}
-use lib.ListN.{length-drop}
-use borrow.Author.Tests.{le-leb, lt-leb}
+use Rattle.wire.proofs.Kit.{ℕ, zero, suc, _+_, _-_, _*_, _/_, _≤_, _<_, _≡_, refl, sym, ap, _∙_, List, [], _∷_, _++_, zero-add, arith, length, getD, take, drop}
+use Rattle.wire.proofs.Kit.{replicate, drop-cons, drop-drop, drop-append-le, take-append-le, length-take-le, length-drop, le-leb, lt-leb}
+use lib.Seq.{take-add}
 use Rattle.wire.specs.Number.{digits, number, Bytes}
 use Rattle.wire.specs.Field.{bytesAt}
 use Rattle.wire.specs.Limit as limit

@@ -1,15 +1,6 @@
 -- The order of the marks is total.
-use Prim.Native.Nat.{ℕ, suc, _+_, _≤_, _<_}
-use mathlib.Core.Path.{_≡_, refl, sym, ap, _∙_}
-use mathlib.Core.List.{List, [], _∷_, _++_, map}
-use mathlib.Core.Bool.{Bool, true, false}
-use mathlib.Core.Logic.{_⊎_, inl, inr, ⊎-elim}
-use native.Mathlib.Numerals.{add-one}
-use native.Mathlib.Omega.{arith}
-use lib.Dec.{ltb}
-use lib.ListN.{length, getD, drop, drop-of-length-le}
-use lib.Seq.{drop-cons}
-use borrow.Author.Tests.{lt-ltb, le-ltb, ltb-true, ltb-false}
+use Rattle.wire.proofs.Kit.{ℕ, suc, _+_, _≤_, _<_, _≡_, refl, sym, ap, _∙_, List, [], _∷_, _++_, map, Bool, true, false, _⊎_, inl, inr, ⊎-elim, add-one, arith}
+use Rattle.wire.proofs.Kit.{ltb, length, getD, drop, drop-of-length-le, drop-cons, lt-ltb, le-ltb, ltb-true, ltb-false}
 use Rattle.wire.proofs.Laws.{false-true}
 use Rattle.index.specs.declared.mark.Mark.{Mark}
 use Rattle.index.specs.declared.order.Order.{Order}

@@ -1,11 +1,7 @@
 -- What a record of any other role comes to, where the code looks for one.
-use Prim.Native.Nat.{ℕ}
-use mathlib.Core.Path.{_≡_, refl}
-use mathlib.Core.List.{List, [], _∷_}
-use mathlib.Core.Bool.{Bool, false}
+use Rattle.wire.proofs.Kit.{ℕ, _≡_, refl, List, [], _∷_, Bool, false, eq-eqb}
 use denote.Enum.Declared.{tagOf}
 use types.Run.{OneOf, miss}
-use borrow.Author.Tests.{eq-eqb}
 use Rattle.wire.specs.declared.cursor.Cursor.{Cursor}
 use Rattle.image.specs.declared.record.Record.{Record}
 use Rattle.image.specs.declared.taking.Taken.the-variants.{Found}

@@ -1,15 +1,9 @@
 -- Marks in bytes: what stands there after a store.
-use Prim.Native.Nat.{ℕ, zero, suc, _+_, _-_, _*_, _/_, _%_, _≤_, _<_}
-use mathlib.Core.Path.{_≡_, refl, sym, ap, _∙_}
-use mathlib.Core.List.{List, [], _∷_, _++_, append-assoc}
-use mathlib.Core.Logic.{_⊎_, inl, inr, ⊎-elim}
-use native.Mathlib.Numerals.{towards-suc}
-use native.Mathlib.Omega.{arith}
-use mathlib.Core.Bool.{Bool, true, false}
-use borrow.Author.Tests.{eqb-true, eqb-false, ltb-true, ltb-false}
-use lib.Dec.{eqb, ltb}
-use lib.ListN.{length, getD, take, drop, set, length-set, length-drop, take-append-drop}
-use lib.Seq.{sets, sets-eq, drop-cons, drop-drop, drop-append-le, drop-at, take-append-le, length-take-le, getD-set-same, getD-set-other, ext-getD}
+use Rattle.wire.proofs.Kit.{ℕ, zero, suc, _+_, _-_, _*_, _/_, _%_, _≤_, _<_, _≡_, refl, sym, ap, _∙_, List, [], _∷_, _++_, append-assoc, _⊎_, inl, inr, ⊎-elim}
+use Rattle.wire.proofs.Kit.{towards-suc, arith, Bool, true, false, eqb-true, eqb-false, ltb-true, ltb-false, eqb, ltb, length, getD, take, drop, set}
+use Rattle.wire.proofs.Kit.{length-set, length-drop, take-append-drop, sets, sets-eq, drop-cons, drop-drop, drop-append-le, drop-at, take-append-le}
+use Rattle.wire.proofs.Kit.{length-take-le}
+use lib.Seq.{getD-set-same, getD-set-other, ext-getD}
 use Rattle.wire.specs.Number.{digits, number}
 use Rattle.wire.specs.Field.{bytesAt}
 use Rattle.wire.proofs.Laws.{then-sets, number-digits}

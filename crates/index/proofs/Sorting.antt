@@ -1,14 +1,8 @@
 -- Sorting by exchanges, and by putting marks back. A row of the same marks in order is one alone: it is what putting each into its place gives (`sortOf`), which is here
 -- only to be compared with.
-use Prim.Native.Nat.{ℕ, zero, suc, _+_, _-_, _*_, _≤_, _<_}
-use mathlib.Core.Path.{_≡_, refl, sym, ap, _∙_}
-use mathlib.Core.List.{List, [], _∷_}
-use mathlib.Core.Bool.{Bool, true, false}
-use mathlib.Core.Logic.{⊎-elim}
-use native.Mathlib.Nat.{suc-add}
-use native.Mathlib.Omega.{arith}
-use lib.ListN.{length, getD, set, length-set}
-use lib.Seq.{sets, length-sets, getD-set-same, getD-set-other, set-getD, set-set}
+use Rattle.wire.proofs.Kit.{ℕ, zero, suc, _+_, _-_, _*_, _≤_, _<_, _≡_, refl, sym, ap, _∙_, List, [], _∷_, Bool, true, false, ⊎-elim, suc-add, arith, length}
+use Rattle.wire.proofs.Kit.{getD, set, length-set, sets, length-sets, set-set}
+use lib.Seq.{getD-set-same, getD-set-other, set-getD}
 use Rattle.wire.specs.Choice.{pick}
 use Rattle.wire.proofs.Laws.{false-true}
 use Rattle.index.specs.declared.mark.Mark.{Mark}

@@ -1,9 +1,5 @@
 -- What the functions inside the crate promise each other: how far a sort has come, and how far the walk.
-use Prim.Native.Nat.{ℕ, _+_, _*_, _≤_}
-use mathlib.Core.Path.{_≡_}
-use mathlib.Core.List.{List}
-use mathlib.Core.Bool.{Bool}
-use lib.ListN.{drop}
+use Rattle.wire.specs.Kit.{ℕ, _+_, _*_, _≤_, _≡_, List, Bool, drop}
 use Rattle.wire.specs.declared.cursor.Cursor.{Cursor}
 use Rattle.image.specs.declared.reading.Step.{Step}
 use Rattle.image.specs.declared.reading.Step.the-variants.{Next}

@@ -1,10 +1,6 @@
 -- Looking up a key of a container among marks, by halves, and a path of keys. All of it is said of any marks; that it finds the ways of a tree is proved of those
 -- that an index holds.
-use Prim.Native.Nat.{ℕ, zero, suc, _+_, _-_, _/_}
-use mathlib.Core.List.{List}
-use mathlib.Core.Bool.{Bool, true, false}
-use lib.Dec.{ltb, eqb}
-use lib.ListN.{length, getD}
+use Rattle.wire.specs.Kit.{ℕ, zero, suc, _+_, _-_, _/_, List, Bool, true, false, ltb, eqb, length, getD}
 use Rattle.wire.specs.Choice.{pick}
 use Rattle.wire.specs.Field.{u16At, got16}
 use Rattle.wire.specs.Text.{insideOf, partOf}

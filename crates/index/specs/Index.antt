@@ -1,9 +1,5 @@
 -- The index of an image, and what the public call comes to.
-use Prim.Native.Nat.{ℕ, suc, _/_}
-use mathlib.Core.Path.{_≡_}
-use mathlib.Core.List.{List, []}
-use lib.Dec.{leb}
-use lib.ListN.{length}
+use Rattle.wire.specs.Kit.{ℕ, suc, _/_, _≡_, List, [], leb, length}
 use Rattle.wire.specs.Choice.{pick}
 use Rattle.wire.specs.Field.{to}
 use Rattle.wire.specs.Limit as limit

@@ -1,9 +1,5 @@
 -- The keys of an image, in the order of reading: each is put out as its mark, and the image's own refusals end the walk.
-use Prim.Native.Nat.{ℕ, zero, suc, _+_, _-_}
-use mathlib.Core.List.{List}
-use mathlib.Core.Bool.{Bool, true, false}
-use lib.Dec.{leb, eqb}
-use lib.ListN.{length}
+use Rattle.wire.specs.Kit.{ℕ, zero, suc, _+_, _-_, List, Bool, true, false, leb, eqb, length}
 use Rattle.wire.specs.Choice.{pick}
 use Rattle.wire.specs.Field.{to}
 use Rattle.wire.specs.Limit as limit

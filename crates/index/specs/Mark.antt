@@ -1,6 +1,5 @@
 -- A mark of the index in thirteen bytes.
-use Prim.Native.Nat.{ℕ, zero, suc, _+_, _^_, _<_}
-use mathlib.Core.List.{List, [], _∷_, _++_}
+use Rattle.wire.specs.Kit.{ℕ, zero, suc, _+_, _^_, _<_, List, [], _∷_, _++_}
 use Rattle.wire.specs.Number.{digits, number}
 use Rattle.wire.specs.Field.{bytesAt}
 use Rattle.index.specs.declared.mark.Mark.{Mark}

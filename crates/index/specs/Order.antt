@@ -1,8 +1,5 @@
 -- The order of the marks: by container, then by the key's bytes, a prefix first, then by the key's place.
-use Prim.Native.Nat.{ℕ, suc}
-use mathlib.Core.List.{List, [], _∷_, _++_, map}
-use mathlib.Core.Bool.{Bool, true, false}
-use lib.Dec.{ltb}
+use Rattle.wire.specs.Kit.{ℕ, suc, List, [], _∷_, _++_, map, Bool, true, false, ltb}
 use Rattle.wire.specs.Choice.{pick}
 use Rattle.wire.specs.Text.{partOf}
 use Rattle.index.specs.declared.mark.Mark.{Mark}

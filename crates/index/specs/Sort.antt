@@ -1,9 +1,5 @@
 -- A row in order.
-use Prim.Native.Nat.{ℕ, _+_, _<_}
-use mathlib.Core.Path.{_≡_}
-use mathlib.Core.List.{List, [], _∷_}
-use mathlib.Core.Bool.{Bool, false}
-use lib.ListN.{length, getD}
+use Rattle.wire.specs.Kit.{ℕ, _+_, _<_, _≡_, List, [], _∷_, Bool, false, length, getD}
 use Rattle.index.specs.declared.mark.Mark.{Mark}
 use Rattle.index.specs.Mark.{nothing}
 

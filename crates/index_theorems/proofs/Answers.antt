@@ -1,12 +1,6 @@
 -- What the public call answers, whatever the image is.
-use Prim.Native.Nat.{ℕ, _*_, _/_, _≤_, _<_}
-use mathlib.Core.Path.{_≡_, refl, sym, ap, _∙_}
-use mathlib.Core.List.{List, []}
-use mathlib.Core.Logic.{_⊎_, inl, inr, ⊎-elim, _≢_, _↔_}
-use native.Mathlib.Omega.{arith}
-use lib.Dec.{leb}
-use lib.ListN.{length}
-use borrow.Author.Tests.{le-leb, leb-true, leb-false}
+use Rattle.wire.proofs.Kit.{ℕ, _*_, _/_, _≤_, _<_, _≡_, refl, sym, ap, _∙_, List, [], _⊎_, inl, inr, ⊎-elim, _≢_, _↔_, arith, leb, length, le-leb, leb-true}
+use Rattle.wire.proofs.Kit.{leb-false}
 use Rattle.wire.specs.Choice.{pick}
 use Rattle.wire.specs.Limit as limit
 use Rattle.wire.specs.Number.{Bytes}

@@ -1,13 +1,6 @@
 -- Looking up in an index from anywhere: whatever bytes it has, what a path finds stands in the image.
-use Prim.Native.Nat.{ℕ, zero, suc, _+_, _-_, _/_, _≤_, _<_}
-use mathlib.Core.Path.{_≡_, refl, sym, ap, _∙_}
-use mathlib.Core.List.{List, [], _∷_}
-use mathlib.Core.Bool.{Bool, true, false}
-use mathlib.Core.Logic.{_⊎_, inl, inr, ⊎-elim}
-use native.Mathlib.Omega.{arith}
-use lib.Dec.{ltb, eqb}
-use lib.ListN.{length, getD, replicate}
-use borrow.Author.Tests.{eqb-true, lt-ltb, le-ltb, ltb-false, leb-true}
+use Rattle.wire.proofs.Kit.{ℕ, zero, suc, _+_, _-_, _/_, _≤_, _<_, _≡_, refl, sym, ap, _∙_, List, [], _∷_, Bool, true, false, _⊎_, inl, inr, ⊎-elim, arith, ltb}
+use Rattle.wire.proofs.Kit.{eqb, length, getD, replicate, eqb-true, lt-ltb, le-ltb, ltb-false, leb-true}
 use Rattle.wire.specs.Choice.{pick}
 use Rattle.wire.specs.Field.{to, bytesAt, u16At, got16}
 use Rattle.wire.specs.Number.{number}

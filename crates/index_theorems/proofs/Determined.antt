@@ -1,12 +1,5 @@
 -- The bytes of an index: what holds the keys is one row of bytes alone, zeros where the making is refused, and zeros behind the marks.
-use Prim.Native.Nat.{ℕ, _-_, _*_, _≤_}
-use mathlib.Core.Path.{_≡_, refl, sym, ap, _∙_}
-use mathlib.Core.List.{List, [], _∷_}
-use mathlib.Core.Logic.{_≢_}
-use native.Mathlib.Nat.{sub-zero}
-use native.Mathlib.Omega.{arith}
-use lib.ListN.{length, drop, replicate, length-append}
-use lib.Seq.{drop-at}
+use Rattle.wire.proofs.Kit.{ℕ, _-_, _*_, _≤_, _≡_, refl, sym, ap, _∙_, List, [], _∷_, _≢_, sub-zero, arith, length, drop, replicate, length-append, drop-at}
 use Rattle.image.specs.Whole.{padded}
 use Rattle.index.specs.declared.mark.Mark.{Mark}
 use Rattle.index.specs.Mark.{markBytes, flat}

@@ -1,13 +1,6 @@
 -- The same for files: a file's elements are the pairs of its first record.
-use Prim.Native.Nat.{ℕ, zero, suc, _+_, _*_, _/_, _≤_, _<_}
-use mathlib.Core.Path.{_≡_, refl, sym, ap, _∙_}
-use mathlib.Core.List.{List, [], _∷_, _++_, append-nil}
-use mathlib.Core.Bool.{true, false}
-use mathlib.Core.Logic.{_⊎_, inl, inr, ⊎-elim}
-use native.Mathlib.Omega.{arith}
-use lib.Dec.{leb}
-use lib.ListN.{length}
-use borrow.Author.Tests.{le-leb, lt-leb, leb-true, leb-false, eq-eqb}
+use Rattle.wire.proofs.Kit.{ℕ, zero, suc, _+_, _*_, _/_, _≤_, _<_, _≡_, refl, sym, ap, _∙_, List, [], _∷_, _++_, append-nil, true, false, _⊎_, inl, inr, ⊎-elim}
+use Rattle.wire.proofs.Kit.{arith, leb, length, le-leb, lt-leb, leb-true, leb-false, eq-eqb}
 use Rattle.wire.specs.Field.{to}
 use Rattle.wire.specs.Limit as limit
 use Rattle.wire.proofs.Stands.{Here, cut, skip}

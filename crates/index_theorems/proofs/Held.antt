@@ -1,11 +1,6 @@
 -- The buffer that holds an index, as marks to look up in.
-use Prim.Native.Nat.{ℕ, zero, suc, _+_, _-_, _*_, _/_, _≤_, _<_}
-use mathlib.Core.Path.{_≡_, refl, sym, ap, _∙_}
-use mathlib.Core.List.{List, [], _∷_, _++_, append-nil, append-assoc}
-use mathlib.Core.Logic.{inl, inr}
-use native.Mathlib.Omega.{arith}
-use lib.ListN.{length, getD, take, drop, replicate, length-append}
-use lib.Seq.{drop-drop}
+use Rattle.wire.proofs.Kit.{ℕ, zero, suc, _+_, _-_, _*_, _/_, _≤_, _<_, _≡_, refl, sym, ap, _∙_, List, [], _∷_, _++_, append-nil, append-assoc, inl, inr, arith}
+use Rattle.wire.proofs.Kit.{length, getD, take, drop, replicate, length-append, drop-drop}
 use Rattle.wire.specs.Number.{number}
 use Rattle.wire.proofs.Laws.{number-digits}
 use Rattle.index.specs.declared.mark.Mark.{Mark}

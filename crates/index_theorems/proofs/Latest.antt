@@ -1,12 +1,6 @@
 -- A step finds the latest pair of a key in a container, and nothing only where there is none.
-use Prim.Native.Nat.{ℕ, zero, suc, _+_, _-_, _≤_, _<_}
-use mathlib.Core.Path.{_≡_, refl, sym, _∙_}
-use mathlib.Core.List.{List, [], _∷_, _++_}
-use mathlib.Core.Bool.{true, false}
-use mathlib.Core.Logic.{_⊎_, inl, inr, ⊎-elim}
-use native.Mathlib.Nat.{add-zero}
-use native.Mathlib.Omega.{arith}
-use lib.ListN.{length, getD}
+use Rattle.wire.proofs.Kit.{ℕ, zero, suc, _+_, _-_, _≤_, _<_, _≡_, refl, sym, _∙_, List, [], _∷_, _++_, true, false, _⊎_, inl, inr, ⊎-elim, add-zero, arith}
+use Rattle.wire.proofs.Kit.{length, getD}
 use Rattle.index.specs.declared.mark.Mark.{Mark}
 use Rattle.index.specs.declared.order.Order.the-variants.{Same}
 use Rattle.index.specs.declared.find.Way.the-variants as Way

@@ -1,13 +1,6 @@
 -- Among marks in order, with nothing but zeros behind them, looking up a key of a container finds the last mark that fits, and nothing only where none fits.
-use Prim.Native.Nat.{ℕ, zero, suc, _+_, _-_, _/_, _≤_, _<_}
-use mathlib.Core.Path.{_≡_, refl, sym, ap, _∙_}
-use mathlib.Core.List.{List, [], _∷_}
-use mathlib.Core.Bool.{Bool, true, false}
-use mathlib.Core.Logic.{⊎-elim}
-use native.Mathlib.Omega.{arith}
-use lib.Dec.{ltb, eqb}
-use lib.ListN.{length, getD, take, drop}
-use borrow.Author.Tests.{le-ltb, ltb-true, ltb-false, le-leb, eqb-true, eqb-false, eq-eqb, ne-eqb}
+use Rattle.wire.proofs.Kit.{ℕ, zero, suc, _+_, _-_, _/_, _≤_, _<_, _≡_, refl, sym, ap, _∙_, List, [], _∷_, Bool, true, false, ⊎-elim, arith, ltb, eqb, length}
+use Rattle.wire.proofs.Kit.{getD, take, drop, le-ltb, ltb-true, ltb-false, le-leb, eqb-true, eqb-false, eq-eqb, ne-eqb}
 use Rattle.wire.specs.Choice.{pick}
 use Rattle.wire.specs.Text.{insideOf}
 use Rattle.wire.specs.declared.cursor.Cursor.{Cursor}

@@ -1,12 +1,6 @@
 -- The keys of an image are those of the tree that its records spell, each with its depth and the places of its container and its value.
-use Prim.Native.Nat.{ℕ, zero, suc, _+_, _-_, _≤_, _<_}
-use mathlib.Core.Path.{_≡_, refl, sym}
-use mathlib.Core.List.{List, [], _∷_, _++_, append-assoc}
-use mathlib.Core.Bool.{true, false}
-use native.Mathlib.Numerals.{sub-one}
-use native.Mathlib.Omega.{arith}
-use lib.ListN.{length}
-use borrow.Author.Tests.{le-leb, ne-eqb}
+use Rattle.wire.proofs.Kit.{ℕ, zero, suc, _+_, _-_, _≤_, _<_, _≡_, refl, sym, List, [], _∷_, _++_, append-assoc, true, false, sub-one, arith, length, le-leb}
+use Rattle.wire.proofs.Kit.{ne-eqb}
 use Rattle.wire.specs.Field.{to, bytesAt}
 use Rattle.wire.proofs.Stands.{Here, cut, skip}
 use Rattle.image.specs.declared.record.Record.{Record}

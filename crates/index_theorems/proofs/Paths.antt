@@ -1,13 +1,6 @@
 -- A path is looked up key by key, and only one that is keys behind their lengths, in a row, is found.
-use Prim.Native.Nat.{ℕ, zero, suc, _+_, _-_, _*_, _/_, _≤_}
-use mathlib.Core.Path.{_≡_, refl, sym, ap, _∙_}
-use mathlib.Core.List.{List, [], _∷_, _++_, append-nil}
-use mathlib.Core.Bool.{true}
-use native.Mathlib.Omega.{arith}
-use lib.Dec.{ltb, leb}
-use lib.ListN.{length, drop, length-append, length-drop, drop-of-length-le}
-use lib.Seq.{take-at, drop-at, drop-drop}
-use borrow.Author.Tests.{le-leb, leb-true, leb-false, ltb-false}
+use Rattle.wire.proofs.Kit.{ℕ, zero, suc, _+_, _-_, _*_, _/_, _≤_, _≡_, refl, sym, ap, _∙_, List, [], _∷_, _++_, append-nil, true, arith, ltb, leb, length}
+use Rattle.wire.proofs.Kit.{drop, length-append, length-drop, drop-of-length-le, take-at, drop-at, drop-drop, le-leb, leb-true, leb-false, ltb-false}
 use Rattle.wire.specs.Number.{digits, Bytes}
 use Rattle.wire.specs.Field.{to, bytesAt, u16At}
 use Rattle.wire.specs.Text.{insideOf, partOf}

@@ -1,8 +1,5 @@
 -- What was read has an index: its image is refused for the room alone.
-use Prim.Native.Nat.{ℕ}
-use mathlib.Core.Path.{_≡_}
-use mathlib.Core.List.{List, _∷_}
-use lib.ListN.{length}
+use Rattle.wire.proofs.Kit.{ℕ, _≡_, List, _∷_, length}
 use Rattle.wire.specs.Number.{Bytes}
 use Rattle.image.specs.declared.record.Record.the-variants as R
 use Rattle.amf0.specs.Standard.{Sort, Tree}

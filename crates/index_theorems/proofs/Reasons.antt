@@ -1,10 +1,5 @@
 -- Why an index is refused, in terms of the trees and the files whose image is given: it has an index exactly where it is the image of one that is not too deep.
-use Prim.Native.Nat.{ℕ, zero, suc, _*_, _≤_, _<_}
-use mathlib.Core.Path.{_≡_, refl, ap, _∙_}
-use mathlib.Core.List.{List, [], _∷_, _++_}
-use mathlib.Core.Logic.{_⊎_, inl, inr, ⊎-elim, _≢_, _↔_}
-use native.Mathlib.Omega.{arith}
-use lib.ListN.{length}
+use Rattle.wire.proofs.Kit.{ℕ, zero, suc, _*_, _≤_, _<_, _≡_, refl, ap, _∙_, List, [], _∷_, _++_, _⊎_, inl, inr, ⊎-elim, _≢_, _↔_, arith, length}
 use Rattle.wire.specs.Number.{Bytes, digits}
 use Rattle.wire.specs.Limit as limit
 use Rattle.image.specs.declared.record.Record.{Record}

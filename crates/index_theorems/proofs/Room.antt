@@ -1,13 +1,6 @@
 -- How much a walk over an image puts out: marks alone, and for each of them it passes seven bytes of the image. So a buffer twice as long as the image is always
 -- room enough for its index. And it is refused with 5 or 6 alone. All of it holds of any image.
-use Prim.Native.Nat.{ℕ, zero, suc, _+_, _-_, _*_, _≤_}
-use mathlib.Core.Path.{_≡_, refl}
-use mathlib.Core.List.{List}
-use mathlib.Core.Bool.{Bool, true, false}
-use mathlib.Core.Logic.{_⊎_, inl, inr}
-use native.Mathlib.Omega.{arith}
-use lib.Dec.{leb, eqb}
-use lib.ListN.{length, length-append}
+use Rattle.wire.proofs.Kit.{ℕ, zero, suc, _+_, _-_, _*_, _≤_, _≡_, refl, List, Bool, true, false, _⊎_, inl, inr, arith, leb, eqb, length, length-append}
 use Rattle.wire.specs.Choice.{pick}
 use Rattle.wire.specs.Field.{to}
 use Rattle.wire.specs.Limit as limit

@@ -1,11 +1,5 @@
 -- What stands at the places that a tree's marks name: each mark is of a whole key record, right behind which its value's record stands.
-use Prim.Native.Nat.{ℕ, _+_}
-use mathlib.Core.Path.{_≡_, refl, sym, ap, _∙_}
-use mathlib.Core.List.{List, _∷_, _++_}
-use mathlib.Core.Bool.{true, false}
-use mathlib.Core.Logic.{⊎-elim}
-use lib.ListN.{length}
-use borrow.Author.Tests.{le-leb}
+use Rattle.wire.proofs.Kit.{ℕ, _+_, _≡_, refl, sym, ap, _∙_, List, _∷_, _++_, true, false, ⊎-elim, length, le-leb}
 use Rattle.wire.specs.Field.{to}
 use Rattle.wire.proofs.Laws.{false-true}
 use Rattle.wire.proofs.Stands.{Here, cut, skip}

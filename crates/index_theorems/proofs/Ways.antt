@@ -1,11 +1,5 @@
 -- A path of keys leads down the tree exactly where looking it up in the index does.
-use Prim.Native.Nat.{ℕ, _+_, _≤_, _<_}
-use mathlib.Core.Path.{_≡_, refl, sym, ap, _∙_}
-use mathlib.Core.List.{List, [], _∷_, _++_, append-nil}
-use mathlib.Core.Bool.{true, false}
-use mathlib.Core.Logic.{_⊎_, inl, inr, ⊎-elim}
-use native.Mathlib.Omega.{arith}
-use lib.ListN.{length}
+use Rattle.wire.proofs.Kit.{ℕ, _+_, _≤_, _<_, _≡_, refl, sym, ap, _∙_, List, [], _∷_, _++_, append-nil, true, false, _⊎_, inl, inr, ⊎-elim, arith, length}
 use Rattle.wire.specs.Choice.{pick}
 use Rattle.wire.specs.Field.{equal}
 use Rattle.wire.proofs.Laws.{equal-same, equal-means, false-true, picked}

@@ -1,11 +1,5 @@
 -- The index of an image that is that of a tree: its marks are those of the tree's keys.
-use Prim.Native.Nat.{ℕ, zero, suc, _+_, _*_, _/_, _≤_, _<_}
-use mathlib.Core.Path.{_≡_, refl, sym, ap, _∙_}
-use mathlib.Core.List.{List, [], _++_, append-nil}
-use mathlib.Core.Logic.{⊎-elim}
-use native.Mathlib.Omega.{arith}
-use lib.ListN.{length}
-use borrow.Author.Tests.{le-leb, lt-leb}
+use Rattle.wire.proofs.Kit.{ℕ, zero, suc, _+_, _*_, _/_, _≤_, _<_, _≡_, refl, sym, ap, _∙_, List, [], _++_, append-nil, ⊎-elim, arith, length, le-leb, lt-leb}
 use Rattle.wire.specs.Limit as limit
 use Rattle.wire.proofs.Stands.{Here}
 use Rattle.image.specs.declared.record.Record.{Record}

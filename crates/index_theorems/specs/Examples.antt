@@ -1,7 +1,5 @@
 -- Indexes of small images, and paths looked up in one: two tables that the checker computes.
-use Prim.Native.Nat.{ℕ}
-use mathlib.Core.Path.{_≡_, refl}
-use mathlib.Core.List.{List, [], _∷_, map}
+use Rattle.wire.specs.Kit.{ℕ, _≡_, refl, List, [], _∷_, map}
 use Rattle.wire.specs.Utf8.{ends}
 use Rattle.wire.specs.Field.{u8At, u16At, u24At, u32At, u64At}
 use Rattle.image.specs.Taking.{flagAt, shortAt, longAt, u16, u32, u64, flag, short, long, zoned, bodyAt, recordAt}

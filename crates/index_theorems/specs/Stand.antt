@@ -1,9 +1,5 @@
 -- What stands at the places that a mark names.
-use Prim.Native.Nat.{ℕ}
-use mathlib.Core.Path.{_≡_}
-use mathlib.Core.List.{List, [], _∷_}
-use mathlib.Core.Logic.{_⊎_}
-use mathlib.Core.Bool.{true}
+use Rattle.wire.specs.Kit.{ℕ, _≡_, List, [], _∷_, _⊎_, true}
 use Rattle.wire.specs.Field.{to}
 use Rattle.image.specs.declared.record.Record.the-variants as R
 use Rattle.image.specs.declared.taking.Taken.the-variants.{Found}

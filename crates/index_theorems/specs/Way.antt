@@ -1,10 +1,6 @@
 -- The words of the theorems of the index: the keys of a tree, and the way down a tree that a path of keys tells. Trees and files are told by the records of their
 -- images, as the writers have it (`Spells`); a place is one of the image.
-use Prim.Native.Nat.{ℕ, _+_, _^_, _<_}
-use mathlib.Core.Path.{_≡_}
-use mathlib.Core.List.{List, [], _∷_, _++_, map}
-use mathlib.Core.Bool.{Bool, true, false}
-use lib.ListN.{length}
+use Rattle.wire.specs.Kit.{ℕ, _+_, _^_, _<_, _≡_, List, [], _∷_, _++_, map, Bool, true, false, length}
 use Rattle.wire.specs.Choice.{pick}
 use Rattle.wire.specs.Number.{digits}
 use Rattle.wire.specs.Field.{equal}

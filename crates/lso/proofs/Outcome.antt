@@ -1,13 +1,6 @@
 -- What the public calls come to, from how their readings end.
-use Prim.Native.Nat.{ℕ, zero, suc, _+_, _*_, _≤_, _<_}
-use mathlib.Core.Path.{_≡_, refl, sym, ap, _∙_}
-use mathlib.Core.Logic.{inl, inr, ⊎-elim, _≢_}
-use mathlib.Core.List.{List, [], _∷_, _++_}
-use mathlib.Core.Bool.{Bool, true, false}
-use native.Mathlib.Omega.{arith}
-use lib.ListN.{length, length-append}
-use lib.Dec.{leb, eqb}
-use borrow.Author.Tests.{leb-true, leb-false, eqb-true, eqb-false, ne-eqb}
+use Rattle.wire.proofs.Kit.{ℕ, zero, suc, _+_, _*_, _≤_, _<_, _≡_, refl, sym, ap, _∙_, inl, inr, ⊎-elim, _≢_, List, [], _∷_, _++_, Bool, true, false, arith}
+use Rattle.wire.proofs.Kit.{length, length-append, leb, eqb, leb-true, leb-false, eqb-true, eqb-false, ne-eqb}
 use Rattle.wire.specs.declared.cursor.Text.{Text}
 use Rattle.wire.specs.declared.cursor.Text.the-variants as Text
 use Rattle.wire.specs.Field.{textAt, gotText}

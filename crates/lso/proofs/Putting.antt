@@ -1,11 +1,5 @@
 -- The laws of writing a file, step by step, and of its length, which its first pass tells: that the functions' proofs cite.
-use Prim.Native.Nat.{ℕ, zero, suc, _+_, _-_, _≤_, _<_}
-use mathlib.Core.Path.{_≡_, refl, sym, ap, _∙_}
-use mathlib.Core.List.{List}
-use mathlib.Core.Bool.{Bool, true, false}
-use native.Mathlib.Numerals.{sub-one}
-use native.Mathlib.Omega.{arith}
-use lib.ListN.{length, getD}
+use Rattle.wire.proofs.Kit.{ℕ, zero, suc, _+_, _-_, _≤_, _<_, _≡_, refl, sym, ap, _∙_, List, Bool, true, false, sub-one, arith, length, getD}
 use Rattle.wire.specs.Choice.{pick}
 use Rattle.wire.specs.Bytes.{laid}
 use Rattle.wire.specs.Limit as limit

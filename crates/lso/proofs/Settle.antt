@@ -1,13 +1,6 @@
 -- What the file's reading comes to, as `Reading` has it: the bytes of the records that it keeps, with room also for those of the element that it drops.
-use Prim.Native.Nat.{ℕ, zero, suc, _+_, _≤_, _<_}
-use mathlib.Core.Path.{_≡_, refl, sym, ap, _∙_}
-use mathlib.Core.List.{List, [], _++_, append-assoc, append-nil}
-use mathlib.Core.Bool.{Bool, true, false}
-use native.Mathlib.Omega.{arith}
-use lib.ListN.{length, take, drop, length-append}
-use lib.Seq.{sets, sets-eq, take-at, length-sets, length-take-le}
-use lib.Dec.{leb, eqb}
-use borrow.Author.Tests.{leb-true, leb-false}
+use Rattle.wire.proofs.Kit.{ℕ, zero, suc, _+_, _≤_, _<_, _≡_, refl, sym, ap, _∙_, List, [], _++_, append-assoc, append-nil, Bool, true, false, arith, length}
+use Rattle.wire.proofs.Kit.{take, drop, length-append, sets, sets-eq, take-at, length-sets, length-take-le, leb, eqb, leb-true, leb-false}
 use Rattle.wire.specs.Choice.{pick}
 use Rattle.wire.specs.Field.{to, tagAt, u32At, textAt, pastTag, got32, gotText}
 use Rattle.wire.specs.declared.cursor.Tag.{Tag}

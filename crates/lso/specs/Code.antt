@@ -1,8 +1,5 @@
 -- What the reader's steps come to on an image: an element is carried out, and dropped where it gives 2 or 3. What the writer's steps put out.
-use Prim.Native.Nat.{ℕ, zero, suc}
-use mathlib.Core.List.{List}
-use lib.ListN.{length}
-use lib.Dec.{leb, eqb}
+use Rattle.wire.specs.Kit.{ℕ, zero, suc, List, length, leb, eqb}
 use Rattle.wire.specs.Choice.{pick}
 use Rattle.wire.specs.Limit as limit
 use Rattle.wire.specs.Field.{to}

@@ -1,8 +1,5 @@
 -- What reading a file finds, and what it comes to in a room: document 01, "LSO file".
-use Prim.Native.Nat.{ℕ, zero, suc}
-use mathlib.Core.List.{List, [], _∷_, _++_}
-use lib.ListN.{length}
-use lib.Dec.{leb, eqb}
+use Rattle.wire.specs.Kit.{ℕ, zero, suc, List, [], _∷_, _++_, length, leb, eqb}
 use Rattle.wire.specs.Choice.{pick}
 use Rattle.wire.specs.Limit as limit
 use Rattle.wire.specs.Field.{to, u32At, textAt, tagAt, got32, gotText, pastTag}

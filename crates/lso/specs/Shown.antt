@@ -1,8 +1,5 @@
 -- What the records of a file show: its length and its name, and then its elements told from left to right, its texts taken out of the input.
-use Prim.Native.Nat.{ℕ}
-use mathlib.Core.Path.{_≡_}
-use mathlib.Core.List.{List, [], _∷_}
-use lib.ListN.{length}
+use Rattle.wire.specs.Kit.{ℕ, _≡_, List, [], _∷_, length}
 use Rattle.wire.specs.Field.{bytesAt}
 use Rattle.image.specs.declared.record.Record.{Record}
 use Rattle.image.specs.declared.record.Record.the-variants as Record

@@ -1,8 +1,5 @@
 -- What writing a file puts out: document 01, "LSO file" and "Tree image".
-use Prim.Native.Nat.{ℕ, zero, suc, _+_}
-use mathlib.Core.List.{List}
-use lib.ListN.{length}
-use lib.Dec.{leb}
+use Rattle.wire.specs.Kit.{ℕ, zero, suc, _+_, List, length, leb}
 use Rattle.wire.specs.Choice.{pick}
 use Rattle.wire.specs.Limit as limit
 use Rattle.image.specs.declared.record.Record.{Record}

@@ -1,8 +1,5 @@
 -- What the records of a file's image mean, and the bytes that a file is written as.
-use Prim.Native.Nat.{ℕ, _-_, _^_, _≤_, _<_}
-use mathlib.Core.Path.{_≡_}
-use mathlib.Core.List.{List, [], _∷_, _++_}
-use lib.ListN.{length, take, drop}
+use Rattle.wire.specs.Kit.{ℕ, _-_, _^_, _≤_, _<_, _≡_, List, [], _∷_, _++_, length, take, drop}
 use Rattle.wire.specs.Number.{digits}
 use Rattle.wire.specs.Field.{bytesAt}
 use Rattle.wire.specs.Limit as limit

@@ -1,13 +1,7 @@
 -- Proper beginnings of a file: one that ends in the header is refused with 2, and any other is accepted by the incomplete reading with the elements that
 -- are whole in it.
-use Prim.Native.Nat.{ℕ, _+_, _*_, _^_, _≤_, _<_}
-use mathlib.Core.Path.{_≡_, refl, sym, ap, _∙_}
-use mathlib.Core.Logic.{_≢_, ⊎-elim}
-use mathlib.Core.List.{List, [], _∷_, _++_, append-assoc, append-nil}
-use native.Mathlib.Omega.{arith}
-use lib.ListN.{length, take, drop, length-append, take-append-drop}
-use lib.Seq.{take-append-le, drop-append-le, take-append-seam, drop-append-seam}
-use lib.Dec.{lit<}
+use Rattle.wire.proofs.Kit.{ℕ, _+_, _*_, _^_, _≤_, _<_, _≡_, refl, sym, ap, _∙_, _≢_, ⊎-elim, List, [], _∷_, _++_, append-assoc, append-nil, arith, length}
+use Rattle.wire.proofs.Kit.{take, drop, length-append, take-append-drop, take-append-le, drop-append-le, take-append-seam, drop-append-seam, lit<}
 use Rattle.wire.specs.Number.{digits, Bytes}
 use Rattle.wire.specs.Limit as limit
 use Rattle.wire.proofs.Stands.{Here, join, bytes-left}

@@ -1,11 +1,6 @@
 -- What is a file is read as that file, up to where no further element can be read.
-use Prim.Native.Nat.{ℕ, zero, suc, _+_, _^_, _≤_, _<_}
-use mathlib.Core.Path.{_≡_, refl, sym, ap, ap₂, _∙_}
-use mathlib.Core.List.{List, [], _∷_, _++_, map, append-assoc, append-nil}
-use mathlib.Core.Bool.{true}
-use native.Mathlib.Omega.{arith}
-use lib.ListN.{length, length-append}
-use lib.Dec.{lit<}
+use Rattle.wire.proofs.Kit.{ℕ, zero, suc, _+_, _^_, _≤_, _<_, _≡_, refl, sym, ap, ap₂, _∙_, List, [], _∷_, _++_, map, append-assoc, append-nil, true, arith}
+use Rattle.wire.proofs.Kit.{length, length-append, lit<}
 use Rattle.wire.specs.Number.{digits}
 use Rattle.wire.specs.Utf8.{utf8}
 use Rattle.wire.specs.Field.{to}

@@ -1,11 +1,6 @@
 -- A field is refused exactly as the grammar of refusals says, and is else read.
-use Prim.Native.Nat.{ℕ, zero, suc, _+_, _≤_, _<_}
-use mathlib.Core.Path.{_≡_, refl, sym, ap, ap₂}
-use mathlib.Core.List.{List, [], _∷_}
-use native.Mathlib.Omega.{arith}
-use lib.ListN.{length, drop, length-drop, length-append, replicate}
-use lib.Dec.{leb}
-use borrow.Author.Tests.{lt-leb, leb-true, leb-false}
+use Rattle.wire.proofs.Kit.{ℕ, zero, suc, _+_, _≤_, _<_, _≡_, refl, sym, ap, ap₂, List, [], _∷_, arith, length, drop, length-drop, length-append, replicate}
+use Rattle.wire.proofs.Kit.{leb, lt-leb, leb-true, leb-false}
 use Rattle.wire.specs.declared.cursor.U32.the-variants as U32
 use Rattle.wire.specs.declared.cursor.Tag.{Tag}
 use Rattle.wire.specs.declared.cursor.Tag.the-variants as Tag

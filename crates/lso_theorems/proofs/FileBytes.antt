@@ -1,8 +1,5 @@
 -- Every file is a row of bytes.
-use Prim.Native.Nat.{ℕ}
-use mathlib.Core.List.{List, _∷_, _++_}
-use lib.ListN.{length}
-use lib.Dec.{lit<}
+use Rattle.wire.proofs.Kit.{ℕ, List, _∷_, _++_, length, lit<}
 use Rattle.wire.specs.Number.{digits, Bytes}
 use Rattle.amf0.specs.Standard.UTF-8.{short}
 use Rattle.amf0_theorems.proofs.Bytes.{_also_, both, number, text, encoding}

@@ -1,11 +1,5 @@
 -- The image of a file is put out as what the file is written as.
-use Prim.Native.Nat.{ℕ, zero, suc, _+_, _≤_, _<_}
-use mathlib.Core.Path.{_≡_, refl, sym, ap, _∙_}
-use mathlib.Core.List.{List, [], _∷_, _++_, append-assoc, append-nil}
-use mathlib.Core.Bool.{true}
-use native.Mathlib.Omega.{arith}
-use lib.ListN.{length}
-use borrow.Author.Tests.{le-leb}
+use Rattle.wire.proofs.Kit.{ℕ, zero, suc, _+_, _≤_, _<_, _≡_, refl, sym, ap, _∙_, List, [], _∷_, _++_, append-assoc, append-nil, true, arith, length, le-leb}
 use Rattle.wire.specs.Number.{digits}
 use Rattle.wire.specs.Utf8.{ends}
 use Rattle.wire.specs.Field.{bytesAt}

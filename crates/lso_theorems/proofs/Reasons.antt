@@ -1,10 +1,5 @@
 -- Why the two readings of a file are refused or accepted, by the grammar of refusals.
-use Prim.Native.Nat.{ℕ, _≤_, _<_}
-use mathlib.Core.Path.{_≡_, refl, sym, ap, _∙_}
-use mathlib.Core.Logic.{_≢_, _↔_, _⊎_, inl, inr, ⊎-elim}
-use mathlib.Core.List.{List}
-use native.Mathlib.Omega.{arith}
-use lib.ListN.{length, take}
+use Rattle.wire.proofs.Kit.{ℕ, _≤_, _<_, _≡_, refl, sym, ap, _∙_, _≢_, _↔_, _⊎_, inl, inr, ⊎-elim, List, arith, length, take}
 use Rattle.wire.specs.Number.{Bytes}
 use Rattle.wire.specs.Limit as limit
 use Rattle.image.specs.Whole.{Whole, refused}

@@ -1,11 +1,5 @@
 -- The records of a file's elements: they can stand in an image, spell the elements, and are known but for places.
-use Prim.Native.Nat.{ℕ, _+_, _≤_, _<_, _^_}
-use mathlib.Core.Path.{_≡_, refl, ap, _∙_}
-use mathlib.Core.List.{List, [], _∷_, _++_, map, map-append}
-use mathlib.Core.Bool.{true}
-use native.Mathlib.Omega.{arith}
-use lib.ListN.{length}
-use lib.Dec.{lit<}
+use Rattle.wire.proofs.Kit.{ℕ, _+_, _≤_, _<_, _^_, _≡_, refl, ap, _∙_, List, [], _∷_, _++_, map, map-append, true, arith, length, lit<}
 use Rattle.wire.specs.Utf8.{utf8}
 use Rattle.wire.specs.Field.{bytesAt}
 use Rattle.wire.specs.Limit as limit

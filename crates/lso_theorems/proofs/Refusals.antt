@@ -1,10 +1,6 @@
 -- A header and an element are refused exactly as the grammar of refusals says.
-use Prim.Native.Nat.{ℕ, _+_, _≤_}
-use mathlib.Core.Path.{_≡_, refl, ap, _∙_}
-use mathlib.Core.Logic.{_↔_, inl, inr}
-use mathlib.Core.List.{List, [], _∷_, _++_}
-use native.Mathlib.Omega.{arith}
-use lib.ListN.{length, drop, replicate, length-append, length-replicate}
+use Rattle.wire.proofs.Kit.{ℕ, _+_, _≤_, _≡_, refl, ap, _∙_, _↔_, inl, inr, List, [], _∷_, _++_, arith, length, drop, replicate, length-append}
+use Rattle.wire.proofs.Kit.{length-replicate}
 use Rattle.wire.specs.Number.{digits, Bytes}
 use Rattle.wire.specs.Limit as limit
 use Rattle.wire.proofs.Laws.{length-digits}

@@ -1,11 +1,5 @@
 -- The round trip in every room that is not refused for room, and so in the room of the first reading: no record of a dropped element is due in the second.
-use Prim.Native.Nat.{ℕ, _+_, _*_, _≤_}
-use mathlib.Core.Path.{_≡_, refl, sym, ap, _∙_}
-use mathlib.Core.Logic.{_≢_}
-use mathlib.Core.List.{List, [], append-nil}
-use native.Mathlib.Nat.{le-refl}
-use native.Mathlib.Omega.{arith}
-use lib.ListN.{length}
+use Rattle.wire.proofs.Kit.{ℕ, _+_, _*_, _≤_, _≡_, refl, sym, ap, _∙_, _≢_, List, [], append-nil, le-refl, arith, length}
 use Rattle.wire.specs.Number.{Bytes}
 use Rattle.image.specs.Out.{written}
 use Rattle.image.specs.Whole.{Whole, bytes}

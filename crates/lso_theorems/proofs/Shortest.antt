@@ -1,10 +1,5 @@
 -- What a file is written as is that file, but for the length that it says, and no row of bytes that is the file is shorter.
-use Prim.Native.Nat.{ℕ, _+_, _≤_, _-_}
-use mathlib.Core.Path.{_≡_, ap}
-use mathlib.Core.List.{List, _∷_, _++_}
-use native.Mathlib.Nat.{le-refl}
-use native.Mathlib.Omega.{arith}
-use lib.ListN.{length, length-append}
+use Rattle.wire.proofs.Kit.{ℕ, _+_, _≤_, _-_, _≡_, ap, List, _∷_, _++_, le-refl, arith, length, length-append}
 use Rattle.wire.specs.Limit as limit
 use Rattle.image.specs.declared.record.Record.{Record}
 use Rattle.image.specs.declared.record.Record.the-variants as R

@@ -1,9 +1,5 @@
 -- What is read as a file is one.
-use Prim.Native.Nat.{ℕ, zero, suc, _+_, _^_, _≤_, _<_}
-use mathlib.Core.Path.{_≡_, refl, sym, ap, _∙_}
-use mathlib.Core.List.{List, [], _∷_, _++_, append-assoc}
-use native.Mathlib.Omega.{arith}
-use lib.ListN.{length, drop, length-append}
+use Rattle.wire.proofs.Kit.{ℕ, zero, suc, _+_, _^_, _≤_, _<_, _≡_, refl, sym, ap, _∙_, List, [], _∷_, _++_, append-assoc, arith, length, drop, length-append}
 use Rattle.wire.specs.Number.{digits, Bytes}
 use Rattle.wire.specs.Field.{tagAt, pastTag}
 use Rattle.wire.specs.Limit as limit

@@ -1,11 +1,6 @@
 -- How the definition's readings end, said by the grammar: what the theorems on the readings are proved by.
-use Prim.Native.Nat.{ℕ, _≤_}
-use mathlib.Core.Path.{_≡_, refl, sym, ap, _∙_}
-use mathlib.Core.Logic.{⊎-elim}
-use mathlib.Core.List.{List, _++_}
-use native.Mathlib.Omega.{arith}
-use lib.ListN.{length, take, drop, length-append, take-append-drop}
-use lib.Seq.{length-take-le, take-at}
+use Rattle.wire.proofs.Kit.{ℕ, _≤_, _≡_, refl, sym, ap, _∙_, ⊎-elim, List, _++_, arith, length, take, drop, length-append, take-append-drop, length-take-le}
+use Rattle.wire.proofs.Kit.{take-at}
 use Rattle.wire.specs.Number.{Bytes}
 use Rattle.wire.specs.Limit as limit
 use Rattle.wire.proofs.Laws.{pick-yes}

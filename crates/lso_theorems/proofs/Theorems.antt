@@ -1,11 +1,5 @@
 -- The theorems on the reader of files, over what its two public calls come to.
-use Prim.Native.Nat.{ℕ, _*_, _≤_, _<_}
-use mathlib.Core.Path.{_≡_, refl, sym, ap, _∙_}
-use mathlib.Core.Logic.{_≢_, _↔_, inl, inr, ⊎-elim}
-use mathlib.Core.List.{List, _++_, append-nil}
-use native.Mathlib.Omega.{arith}
-use lib.ListN.{length, take}
-use lib.Seq.{take-all}
+use Rattle.wire.proofs.Kit.{ℕ, _*_, _≤_, _<_, _≡_, refl, sym, ap, _∙_, _≢_, _↔_, inl, inr, ⊎-elim, List, _++_, append-nil, arith, length, take, take-all}
 use Rattle.wire.specs.Number.{Bytes}
 use Rattle.wire.specs.Limit as limit
 use Rattle.image.specs.Whole.{Whole, refused, bytes}

@@ -1,10 +1,6 @@
 -- No row of bytes is two files.
-use Prim.Native.Nat.{ℕ}
-use mathlib.Core.Path.{_≡_, refl, sym, ap, _∙_}
-use mathlib.Core.List.{List, _∷_, _++_}
-use native.Mathlib.Omega.{arith}
-use lib.ListN.{length, take, drop, length-append}
-use lib.Seq.{take-append-seam, drop-append-seam, take-at, drop-at}
+use Rattle.wire.proofs.Kit.{ℕ, _≡_, refl, sym, ap, _∙_, List, _∷_, _++_, arith, length, take, drop, length-append, take-append-seam, drop-append-seam, take-at}
+use Rattle.wire.proofs.Kit.{drop-at}
 use Rattle.wire.specs.Number.{digits, number}
 use Rattle.wire.proofs.Laws.{number-digits}
 use Rattle.wire.proofs.Stands.{text-at}

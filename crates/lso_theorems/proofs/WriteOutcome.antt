@@ -1,10 +1,6 @@
 -- A reading that is accepted makes an image that can be written.
-use Prim.Native.Nat.{ℕ, _+_, _≤_}
-use mathlib.Core.Path.{_≡_, refl, sym, ap, _∙_}
-use mathlib.Core.List.{List, _++_, map, append-nil}
-use native.Mathlib.Omega.{arith}
-use lib.ListN.{length, take, length-append, take-append-drop}
-use lib.Seq.{length-take-le}
+use Rattle.wire.proofs.Kit.{ℕ, _+_, _≤_, _≡_, refl, sym, ap, _∙_, List, _++_, map, append-nil, arith, length, take, length-append, take-append-drop}
+use Rattle.wire.proofs.Kit.{length-take-le}
 use Rattle.wire.specs.Number.{Bytes}
 use Rattle.wire.specs.Limit as limit
 use Rattle.wire.proofs.Stands.{Here}

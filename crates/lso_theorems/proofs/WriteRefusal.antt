@@ -1,11 +1,5 @@
 -- A writing of a file that is refused is so by what stands at its place: the records before it begin a file, and what is due behind them is not there.
-use Prim.Native.Nat.{ℕ, zero, suc, _+_, _≤_}
-use mathlib.Core.Path.{_≡_, refl}
-use mathlib.Core.List.{List, [], _∷_}
-use native.Mathlib.Omega.{arith}
-use lib.ListN.{length, drop, length-drop}
-use lib.Dec.{leb}
-use borrow.Author.Tests.{leb-false}
+use Rattle.wire.proofs.Kit.{ℕ, zero, suc, _+_, _≤_, _≡_, refl, List, [], _∷_, arith, length, drop, length-drop, leb, leb-false}
 use Rattle.wire.specs.Number.{Bytes}
 use Rattle.wire.specs.Limit as limit
 use Rattle.wire.proofs.Laws.{picked}

@@ -1,9 +1,5 @@
 -- What stands where something else is due refuses the writing of a file, at its place.
-use Prim.Native.Nat.{ℕ, zero, suc, _+_, _<_}
-use mathlib.Core.Path.{_≡_, refl, ap}
-use mathlib.Core.List.{List, _∷_, _++_}
-use native.Mathlib.Omega.{arith}
-use lib.ListN.{length, drop, length-drop}
+use Rattle.wire.proofs.Kit.{ℕ, zero, suc, _+_, _<_, _≡_, refl, ap, List, _∷_, _++_, arith, length, drop, length-drop}
 use Rattle.wire.specs.Number.{Bytes}
 use Rattle.wire.specs.Limit as limit
 use Rattle.wire.proofs.Laws.{pick-no}

@@ -1,11 +1,5 @@
 -- The theorems on the writer of files, over what its public call comes to.
-use Prim.Native.Nat.{ℕ, _-_, _*_, _≤_, _<_}
-use mathlib.Core.Path.{_≡_, refl, sym, ap, _∙_}
-use mathlib.Core.Logic.{_↔_, _⊎_, inl, inr, ⊎-elim}
-use mathlib.Core.List.{List, map}
-use native.Mathlib.Omega.{arith}
-use lib.ListN.{length, take}
-use lib.Seq.{length-take-le}
+use Rattle.wire.proofs.Kit.{ℕ, _-_, _*_, _≤_, _<_, _≡_, refl, sym, ap, _∙_, _↔_, _⊎_, inl, inr, ⊎-elim, List, map, arith, length, take, length-take-le}
 use Rattle.wire.specs.Number.{Bytes}
 use Rattle.wire.specs.Limit as limit
 use Rattle.image.specs.Out.{Written, written, unwritten, sized}

@@ -1,9 +1,6 @@
 -- Why a reading of a file is refused, with no word of a reader: which fields of its header or of an element stand before one that is not whole or not
 -- right. What the readings come to in a room, and when.
-use Prim.Native.Nat.{ℕ, _^_, _<_, _≤_}
-use mathlib.Core.Path.{_≡_}
-use mathlib.Core.List.{List, [], _∷_, _++_}
-use lib.ListN.{length, take, replicate}
+use Rattle.wire.specs.Kit.{ℕ, _^_, _<_, _≤_, _≡_, List, [], _∷_, _++_, length, take, replicate}
 use Rattle.wire.specs.Number.{digits}
 use Rattle.wire.specs.Limit as limit
 use Rattle.image.specs.Whole.{Whole, accepted, refused}

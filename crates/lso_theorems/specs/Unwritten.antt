@@ -1,7 +1,6 @@
 -- Why the write of a file is refused, and by which record: document 01, "A write checks first". Records begin a file, something is due behind them, and what
 -- stands there is not it.
-use Prim.Native.Nat.{ℕ, _≤_}
-use mathlib.Core.List.{List, [], _∷_, _++_}
+use Rattle.wire.specs.Kit.{ℕ, _≤_, List, [], _∷_, _++_}
 use Rattle.wire.specs.Limit as limit
 use Rattle.image.specs.declared.record.Record.{Record}
 use Rattle.image.specs.declared.record.Record.the-variants as R

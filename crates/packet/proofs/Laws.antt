@@ -1,15 +1,8 @@
 -- The laws of heads, of the cut and of an entry's reading.
-use Prim.Native.Nat.{ℕ, zero, suc, _+_, _-_, _≤_, _<_}
-use mathlib.Core.Path.{_≡_, refl, ap, _∙_}
-use mathlib.Core.List.{List, [], _∷_, _++_, append-assoc, append-nil}
-use mathlib.Core.Bool.{Bool, true, false}
-use mathlib.Core.Logic.{_≢_, _⊎_, inl, inr, ⊎-elim}
-use native.Mathlib.Numerals.{add-one, sub-one}
-use native.Mathlib.Omega.{arith}
-use lib.ListN.{length, getD, take, drop, set, replicate, length-append, length-take, length-drop}
-use lib.Seq.{sets, take-suc-set, length-take-le}
-use lib.Dec.{leb, ltb, eqb}
-use borrow.Author.Tests.{leb-true, leb-false, le-leb, lt-leb, ltb-true, ltb-false, ne-eqb}
+use Rattle.wire.proofs.Kit.{ℕ, zero, suc, _+_, _-_, _≤_, _<_, _≡_, refl, ap, _∙_, List, [], _∷_, _++_, append-assoc, append-nil, Bool, true, false, _≢_, _⊎_}
+use Rattle.wire.proofs.Kit.{inl, inr, ⊎-elim, add-one, sub-one, arith, length, getD, take, drop, set, replicate, length-append, length-take, length-drop, sets}
+use Rattle.wire.proofs.Kit.{length-take-le, leb, ltb, eqb, leb-true, leb-false, le-leb, lt-leb, ltb-true, ltb-false, ne-eqb}
+use lib.Seq.{take-suc-set}
 use Rattle.wire.specs.Choice.{pick}
 use Rattle.wire.specs.declared.cursor.Cursor.{Cursor}
 use Rattle.wire.specs.declared.cursor.U16.{U16}

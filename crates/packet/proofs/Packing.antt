@@ -1,14 +1,6 @@
 -- The laws of the whole reading: entry by entry, and with the packet's record laid before its count of messages is known.
-use Prim.Native.Nat.{ℕ, zero, suc, _+_, _-_, _≤_, _<_}
-use mathlib.Core.Path.{_≡_, refl, sym, ap, _∙_}
-use mathlib.Core.List.{List, [], _∷_}
-use mathlib.Core.Bool.{Bool, true, false}
-use native.Mathlib.Numerals.{sub-one}
-use native.Mathlib.Omega.{arith}
-use lib.ListN.{length, set, length-append}
-use lib.Seq.{sets, length-sets, set-comm, set-set}
-use lib.Dec.{leb}
-use borrow.Author.Tests.{le-leb, lt-leb, ne-eqb}
+use Rattle.wire.proofs.Kit.{ℕ, zero, suc, _+_, _-_, _≤_, _<_, _≡_, refl, sym, ap, _∙_, List, [], _∷_, Bool, true, false, sub-one, arith, length, set}
+use Rattle.wire.proofs.Kit.{length-append, sets, length-sets, set-comm, set-set, leb, le-leb, lt-leb, ne-eqb}
 use Rattle.wire.specs.Choice.{pick}
 use Rattle.wire.specs.Limit as limit
 use Rattle.wire.specs.Number.{digits}

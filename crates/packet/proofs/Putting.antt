@@ -1,14 +1,6 @@
 -- The laws of writing a packet, step by step, and of a length that is set once its value is measured: that the functions' proofs cite.
-use Prim.Native.Nat.{ℕ, zero, suc, _+_, _-_, _≤_, _<_}
-use mathlib.Core.Path.{_≡_, refl, sym, ap, _∙_}
-use mathlib.Core.List.{List, [], _∷_}
-use mathlib.Core.Bool.{Bool, true, false}
-use native.Mathlib.Numerals.{sub-one}
-use native.Mathlib.Omega.{arith}
-use lib.ListN.{length, set}
-use lib.Seq.{sets, set-set, set-comm, length-sets}
-use lib.Dec.{leb}
-use borrow.Author.Tests.{leb-true, leb-false}
+use Rattle.wire.proofs.Kit.{ℕ, zero, suc, _+_, _-_, _≤_, _<_, _≡_, refl, sym, ap, _∙_, List, [], _∷_, Bool, true, false, sub-one, arith, length, set, sets}
+use Rattle.wire.proofs.Kit.{set-set, set-comm, length-sets, leb, leb-true, leb-false}
 use Rattle.wire.specs.Choice.{pick}
 use Rattle.wire.specs.Number.{digits}
 use Rattle.wire.specs.Bytes.{laid}

@@ -1,12 +1,5 @@
 -- A packet's reading goes forward and ends inside the input, lays at most three bytes for each byte that it reads, and is refused with 2, 3, 5 or 7.
-use Prim.Native.Nat.{ℕ, zero, suc, _+_, _*_, _≤_}
-use mathlib.Core.Path.{_≡_, sym, _∙_}
-use mathlib.Core.List.{List}
-use mathlib.Core.Logic.{_≢_}
-use native.Mathlib.Nat.{le-refl}
-use native.Mathlib.Omega.{arith}
-use lib.ListN.{length, length-append}
-use lib.Dec.{eqb}
+use Rattle.wire.proofs.Kit.{ℕ, zero, suc, _+_, _*_, _≤_, _≡_, sym, _∙_, List, _≢_, le-refl, arith, length, length-append, eqb}
 use Rattle.wire.specs.declared.cursor.Tag.{Tag}
 use Rattle.wire.specs.declared.cursor.Tag.the-variants as Tag
 use Rattle.wire.specs.Limit as limit

@@ -1,10 +1,6 @@
 -- The laws of a row of entries' numbers.
-use Prim.Native.Nat.{ℕ, _+_, _*_, _-_, _≤_}
-use mathlib.Core.Path.{_≡_, refl, sym, ap, _∙_}
-use mathlib.Core.List.{List, [], _∷_, _++_, append-nil}
-use native.Mathlib.Omega.{arith}
-use lib.ListN.{length, take, drop, replicate, length-append}
-use lib.Seq.{sets, sets-eq, take-at, length-take-le}
+use Rattle.wire.proofs.Kit.{ℕ, _+_, _*_, _-_, _≤_, _≡_, refl, sym, ap, _∙_, List, [], _∷_, _++_, append-nil, arith, length, take, drop, replicate}
+use Rattle.wire.proofs.Kit.{length-append, sets, sets-eq, take-at, length-take-le}
 use Rattle.packet.specs.declared.head.Entry.{Entry}
 use Rattle.packet.specs.declared.entry.Cutting.{Cutting}
 use Rattle.packet.specs.Entry.{Cut, found, stops, Listed, listed}

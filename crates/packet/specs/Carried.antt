@@ -1,7 +1,5 @@
 -- What the writer's steps tell each other besides what they write.
-use Prim.Native.Nat.{ℕ}
-use mathlib.Core.Path.{_≡_}
-use mathlib.Core.List.{List}
+use Rattle.wire.specs.Kit.{ℕ, _≡_, List}
 use Rattle.wire.specs.declared.cursor.Cursor.{Cursor}
 use Rattle.image.specs.declared.reading.Step.{Step}
 use Rattle.image.specs.declared.reading.Step.the-variants.{Next}

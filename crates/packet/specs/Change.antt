@@ -1,9 +1,5 @@
 -- A packet with other bytes in its values, and what its entries answer against the value reader and against the whole reading: what demand 3 speaks of.
-use Prim.Native.Nat.{ℕ, suc, _+_, _≤_, _<_}
-use mathlib.Core.Path.{_≡_}
-use mathlib.Core.Logic.{_≢_, _⊎_}
-use mathlib.Core.List.{List, [], _∷_, _++_, map}
-use lib.ListN.{length, getD}
+use Rattle.wire.specs.Kit.{ℕ, suc, _+_, _≤_, _<_, _≡_, _≢_, _⊎_, List, [], _∷_, _++_, map, length, getD}
 use Rattle.wire.specs.Field.{bytesAt}
 use Rattle.image.specs.declared.record.Record.{Record}
 use Rattle.image.specs.declared.record.Record.the-variants as R

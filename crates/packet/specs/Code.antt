@@ -1,11 +1,5 @@
 -- What the steps of the code come to.
-use Prim.Native.Nat.{ℕ, suc, _+_, _-_}
-use mathlib.Core.Path.{_≡_}
-use mathlib.Core.List.{List, [], _∷_, _++_}
-use mathlib.Core.Bool.{Bool, true, false}
-use lib.ListN.{length, drop}
-use lib.Seq.{sets}
-use lib.Dec.{leb, ltb, eqb}
+use Rattle.wire.specs.Kit.{ℕ, suc, _+_, _-_, _≡_, List, [], _∷_, _++_, Bool, true, false, length, drop, sets, leb, ltb, eqb}
 use Rattle.wire.specs.Choice.{pick}
 use Rattle.wire.specs.Limit as limit
 use Rattle.wire.specs.Number.{digits}

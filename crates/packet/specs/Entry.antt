@@ -1,8 +1,5 @@
 -- The cut of a packet by its declared lengths, and the reading of one entry: document 01, "Reading by entry".
-use Prim.Native.Nat.{ℕ, zero, suc, _+_, _-_}
-use mathlib.Core.List.{List, [], _∷_, _++_}
-use lib.ListN.{length, getD, replicate}
-use lib.Dec.{leb, ltb, eqb}
+use Rattle.wire.specs.Kit.{ℕ, zero, suc, _+_, _-_, List, [], _∷_, _++_, length, getD, replicate, leb, ltb, eqb}
 use Rattle.wire.specs.Choice.{pick}
 use Rattle.wire.specs.Limit as limit
 use Rattle.wire.specs.Text.{insideOf}

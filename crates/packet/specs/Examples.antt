@@ -1,7 +1,5 @@
 -- Document 01's packet, and packets near it: read whole, cut, and read by entry and by span, two tables that the checker computes.
-use Prim.Native.Nat.{ℕ}
-use mathlib.Core.Path.{_≡_, refl}
-use mathlib.Core.List.{List, [], _∷_, map}
+use Rattle.wire.specs.Kit.{ℕ, _≡_, refl, List, [], _∷_, map}
 use Rattle.wire.specs.Utf8.{ends}
 use Rattle.wire.specs.Field.{u8At, u16At, u32At, u64At, strAt, textAt, tagAt}
 use Rattle.image.specs.Record.{bytesOf}

@@ -1,7 +1,5 @@
 -- The fields of a packet round its values: document 01, "Packet".
-use Prim.Native.Nat.{ℕ}
-use mathlib.Core.List.{List, [], _∷_}
-use lib.Dec.{ltb, eqb}
+use Rattle.wire.specs.Kit.{ℕ, List, [], _∷_, ltb, eqb}
 use Rattle.wire.specs.Choice.{pick}
 use Rattle.wire.specs.Field.{to, u8At, u32At, textAt, tagAt, got8, got32, gotText, pastTag}
 use Rattle.wire.specs.declared.cursor.Tag.{Tag}

@@ -1,8 +1,5 @@
 -- The packet, as the Rust has it: which rows of bytes are a packet, with its values as AMF 0 has them, and the length that each entry declares.
-use Prim.Native.Nat.{ℕ, _^_, _≤_, _<_}
-use mathlib.Core.List.{List, [], _∷_, _++_}
-use mathlib.Core.Bool.{Bool, true, false}
-use lib.ListN.{length}
+use Rattle.wire.specs.Kit.{ℕ, _^_, _≤_, _<_, List, [], _∷_, _++_, Bool, true, false, length}
 use Rattle.wire.specs.Number.{digits}
 use Rattle.amf0.specs.Standard.{Sort, Tree, UTF-8, Encodes}
 

@@ -1,8 +1,5 @@
 -- What reading a whole packet finds, and what it comes to in a room: document 01, "Packet".
-use Prim.Native.Nat.{ℕ, zero, suc}
-use mathlib.Core.List.{List}
-use lib.ListN.{length}
-use lib.Dec.{leb, eqb}
+use Rattle.wire.specs.Kit.{ℕ, zero, suc, List, length, leb, eqb}
 use Rattle.wire.specs.Choice.{pick}
 use Rattle.wire.specs.Limit as limit
 use Rattle.wire.specs.Field.{u16At, got16, pastTag}

@@ -1,6 +1,5 @@
 -- The entries of a packet as numbers.
-use Prim.Native.Nat.{ℕ}
-use mathlib.Core.List.{List, [], _∷_, _++_}
+use Rattle.wire.specs.Kit.{ℕ, List, [], _∷_, _++_}
 use Rattle.image.specs.Whole.{padded}
 use Rattle.packet.specs.declared.head.Entry.{Entry}
 

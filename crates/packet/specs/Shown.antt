@@ -1,9 +1,5 @@
 -- What the image of a whole packet shows: the packet told from left to right, its texts taken out of the input.
-use Prim.Native.Nat.{ℕ, _≤_}
-use mathlib.Core.Path.{_≡_}
-use mathlib.Core.List.{List, [], _∷_, _++_}
-use mathlib.Core.Bool.{Bool}
-use lib.ListN.{length}
+use Rattle.wire.specs.Kit.{ℕ, _≤_, _≡_, List, [], _∷_, _++_, Bool, length}
 use Rattle.wire.specs.Field.{bytesAt}
 use Rattle.image.specs.declared.record.Record.{Record}
 use Rattle.image.specs.declared.record.Record.the-variants as R

@@ -1,8 +1,5 @@
 -- Two packets, read whole and written back in both settings, one table that the checker computes. The first is document 01's.
-use Prim.Native.Nat.{ℕ}
-use mathlib.Core.Path.{_≡_, refl}
-use mathlib.Core.List.{List, [], _∷_, _++_, map}
-use mathlib.Core.Bool.{Bool, true, false}
+use Rattle.wire.specs.Kit.{ℕ, _≡_, refl, List, [], _∷_, _++_, map, Bool, true, false}
 use Rattle.wire.specs.Utf8.{ends}
 use Rattle.wire.specs.Field.{u8At, u16At, u24At, u32At, u64At, strAt, textAt, tagAt}
 use Rattle.image.specs.Record.{bytesOf}

@@ -1,9 +1,5 @@
 -- What writing a packet puts out: document 01, "Packet" and "Tree image".
-use Prim.Native.Nat.{ℕ, zero, suc}
-use mathlib.Core.List.{List}
-use mathlib.Core.Bool.{Bool}
-use lib.ListN.{length}
-use lib.Dec.{leb, eqb}
+use Rattle.wire.specs.Kit.{ℕ, zero, suc, List, Bool, length, leb, eqb}
 use Rattle.wire.specs.Choice.{pick}
 use Rattle.wire.specs.Limit as limit
 use Rattle.image.specs.declared.record.Field.{Field}

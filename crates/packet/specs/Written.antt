@@ -1,9 +1,5 @@
 -- What the records of a packet's image mean, the bytes that a packet is written as, and the entries that those are cut into.
-use Prim.Native.Nat.{ℕ, _+_, _≤_}
-use mathlib.Core.Path.{_≡_}
-use mathlib.Core.List.{List, [], _∷_, _++_, map}
-use mathlib.Core.Bool.{Bool}
-use lib.ListN.{length}
+use Rattle.wire.specs.Kit.{ℕ, _+_, _≤_, _≡_, List, [], _∷_, _++_, map, Bool, length}
 use Rattle.wire.specs.Number.{digits}
 use Rattle.wire.specs.Field.{bytesAt}
 use Rattle.wire.specs.Limit as limit

@@ -1,12 +1,7 @@
 -- The whole reading of a packet whose declared lengths are those of its values, against its reading by entry.
-use Prim.Native.Nat.{ℕ, zero, suc, _+_, _*_, _≤_, _<_}
-use mathlib.Core.Path.{_≡_, refl, sym, ap, _∙_}
-use mathlib.Core.List.{List, [], _∷_, _++_, append-assoc, append-nil}
-use native.Mathlib.Omega.{arith}
-use native.Mathlib.Nat.{le-refl, add-zero, zero-add, add-suc, suc-add}
-use lib.ListN.{length, getD, take, drop, length-append, take-append-drop}
-use lib.Seq.{length-take-le, drop-append-seam}
-use borrow.Author.Tests.{le-leb, lt-ltb}
+use Rattle.wire.proofs.Kit.{ℕ, zero, suc, _+_, _*_, _≤_, _<_, _≡_, refl, sym, ap, _∙_, List, [], _∷_, _++_, append-assoc, append-nil, arith, le-refl, add-zero}
+use Rattle.wire.proofs.Kit.{zero-add, suc-add, length, getD, take, drop, length-append, take-append-drop, length-take-le, drop-append-seam, le-leb, lt-ltb}
+use native.Mathlib.Nat.{add-suc}
 use Rattle.wire.specs.Number.{Bytes}
 use Rattle.wire.specs.Limit as limit
 use Rattle.wire.specs.Field.{bytesAt, u16At, got16}

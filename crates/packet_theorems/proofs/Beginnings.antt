@@ -1,13 +1,6 @@
 -- A proper beginning of a packet is refused with 2: a refusal with another answer stays where bytes are added behind.
-use Prim.Native.Nat.{ℕ, _≤_}
-use mathlib.Core.Path.{_≡_, refl, sym, ap, _∙_}
-use mathlib.Core.Logic.{_≢_}
-use mathlib.Core.List.{List, [], _∷_, _++_, append-nil, append-assoc}
-use mathlib.Core.Bool.{Bool, true, false}
-use native.Mathlib.Omega.{arith}
-use lib.ListN.{length, length-append}
-use lib.Dec.{eqb}
-use borrow.Author.Tests.{eqb-true, eqb-false}
+use Rattle.wire.proofs.Kit.{ℕ, _≤_, _≡_, refl, sym, ap, _∙_, _≢_, List, [], _∷_, _++_, append-nil, append-assoc, Bool, true, false, arith, length}
+use Rattle.wire.proofs.Kit.{length-append, eqb, eqb-true, eqb-false}
 use Rattle.wire.specs.Number.{Bytes}
 use Rattle.wire.specs.Limit as limit
 use Rattle.wire.proofs.Stands.{Here, bytes-left}

@@ -1,14 +1,7 @@
 -- The cut finds just the packets that their declared lengths cut exactly, whatever stands in their values; and a packet has exact lengths just where it
 -- encodes a packet each of whose entries declares the length of its value.
-use Prim.Native.Nat.{ℕ, suc, _+_, _^_, _≤_, _<_}
-use mathlib.Core.Path.{_≡_, refl, sym, ap, ap₂, _∙_}
-use mathlib.Core.Logic.{_↔_}
-use mathlib.Core.List.{List, [], _∷_, _++_, append-nil}
-use mathlib.Core.Bool.{Bool, true, false}
-use native.Mathlib.Omega.{arith}
-use native.Mathlib.Nat.{le-refl}
-use lib.ListN.{length, length-append, length-drop}
-use borrow.Author.Tests.{le-leb}
+use Rattle.wire.proofs.Kit.{ℕ, suc, _+_, _^_, _≤_, _<_, _≡_, refl, sym, ap, ap₂, _∙_, _↔_, List, [], _∷_, _++_, append-nil, Bool, true, false, arith, le-refl}
+use Rattle.wire.proofs.Kit.{length, length-append, length-drop, le-leb}
 use Rattle.wire.specs.Number.{digits, Bytes}
 use Rattle.wire.specs.Limit as limit
 use Rattle.wire.specs.Field.{to, u16At}

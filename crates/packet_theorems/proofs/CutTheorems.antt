@@ -1,12 +1,5 @@
 -- The theorems on the cut into a list, over what it comes to.
-use Prim.Native.Nat.{ℕ, zero, suc, _≤_, _<_}
-use mathlib.Core.Path.{_≡_, refl, sym, ap}
-use mathlib.Core.Logic.{_≢_, _↔_}
-use mathlib.Core.List.{List, [], _∷_, _++_}
-use native.Mathlib.Omega.{arith}
-use lib.ListN.{length, getD}
-use lib.Dec.{leb}
-use borrow.Author.Tests.{leb-true, le-leb, lt-ltb}
+use Rattle.wire.proofs.Kit.{ℕ, zero, suc, _≤_, _<_, _≡_, refl, sym, ap, _≢_, _↔_, List, [], _∷_, _++_, arith, length, getD, leb, leb-true, le-leb, lt-ltb}
 use Rattle.wire.proofs.Laws.{picked}
 use Rattle.packet.specs.declared.head.Entry.{Entry}
 use Rattle.packet.specs.declared.entry.Found.{Found}

@@ -1,10 +1,6 @@
 -- A packet that was written with exact lengths is cut into the entries that it was written of.
-use Prim.Native.Nat.{ℕ, zero, suc, _≤_, _<_}
-use mathlib.Core.Path.{_≡_, refl, ap, _∙_}
-use mathlib.Core.List.{List, [], _∷_, _++_, map, map-append}
-use mathlib.Core.Bool.{true}
-use native.Mathlib.Omega.{arith}
-use lib.ListN.{length, getD, length-map, List·getD-map}
+use Rattle.wire.proofs.Kit.{ℕ, zero, suc, _≤_, _<_, _≡_, refl, ap, _∙_, List, [], _∷_, _++_, map, map-append, true, arith, length, getD, length-map}
+use lib.ListN.{List·getD-map}
 use Rattle.wire.specs.Limit as limit
 use Rattle.image.specs.declared.record.Record.{Record}
 use Rattle.amf0.specs.Standard.{Sort, depth, Encodes}

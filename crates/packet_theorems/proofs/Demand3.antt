@@ -1,12 +1,5 @@
 -- Demand 3, sentence by sentence, over what the public calls come to.
-use Prim.Native.Nat.{ℕ, _+_, _≤_, _<_}
-use mathlib.Core.Path.{_≡_, refl, sym, _∙_}
-use mathlib.Core.Logic.{_≢_}
-use mathlib.Core.List.{List, [], _∷_, append-nil}
-use native.Mathlib.Omega.{arith}
-use native.Mathlib.Nat.{le-refl}
-use lib.ListN.{length, getD}
-use borrow.Author.Tests.{lt-ltb, le-ltb}
+use Rattle.wire.proofs.Kit.{ℕ, _+_, _≤_, _<_, _≡_, refl, sym, _∙_, _≢_, List, [], _∷_, append-nil, arith, le-refl, length, getD, lt-ltb, le-ltb}
 use Rattle.wire.specs.Number.{Bytes}
 use Rattle.wire.specs.Field.{bytesAt}
 use Rattle.wire.proofs.Stands.{Here, length-bytes}

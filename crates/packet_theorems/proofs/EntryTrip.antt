@@ -1,12 +1,6 @@
 -- Demand 2 for a tree that was read by entry or by span: its image, over the packet, is written, in no more bytes than its span, and reads back as the
 -- same tree.
-use Prim.Native.Nat.{ℕ, _+_, _*_, _≤_}
-use mathlib.Core.Path.{_≡_, sym, ap, subst, _∙_}
-use mathlib.Core.Logic.{_≢_}
-use mathlib.Core.List.{List}
-use native.Mathlib.Nat.{le-refl}
-use native.Mathlib.Omega.{arith}
-use lib.ListN.{length, drop}
+use Rattle.wire.proofs.Kit.{ℕ, _+_, _*_, _≤_, _≡_, sym, ap, subst, _∙_, _≢_, List, le-refl, arith, length, drop}
 use Rattle.wire.specs.Field.{bytesAt}
 use Rattle.wire.specs.Limit as limit
 use Rattle.wire.specs.Number.{Bytes}

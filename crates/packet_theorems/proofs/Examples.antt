@@ -1,10 +1,6 @@
 -- Demand 3 at document 01's packet, a message "a" with the value 05, and at that packet with its last byte bent to 04.
-use Prim.Native.Nat.{ℕ, _<_, _≤_}
-use mathlib.Core.Path.{_≡_, refl, sym, _∙_}
-use mathlib.Core.Logic.{_⊎_, inl, inr}
-use mathlib.Core.List.{List, [], _∷_, _++_}
-use native.Mathlib.Omega.{arith}
-use lib.ListN.{getD, List·getD-append, List·getD-eq-default}
+use Rattle.wire.proofs.Kit.{ℕ, _<_, _≤_, _≡_, refl, sym, _∙_, _⊎_, inl, inr, List, [], _∷_, _++_, arith, getD, List·getD-eq-default}
+use lib.ListN.{List·getD-append}
 use Rattle.wire.specs.Utf8.{ends}
 use Rattle.wire.specs.Field.{u8At, u16At, u32At, strAt, textAt, tagAt}
 use Rattle.image.specs.Record.{bytesOf}

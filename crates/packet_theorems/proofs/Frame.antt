@@ -1,13 +1,6 @@
 -- The cut of a packet reads only what stands beside the values: how its entries lie, and that the same bytes beside them are cut alike.
-use Prim.Native.Nat.{ℕ, zero, suc, _+_, _≤_, _<_}
-use mathlib.Core.Path.{_≡_, refl, ap}
-use mathlib.Core.Logic.{_≢_, _⊎_, inl, inr}
-use mathlib.Core.List.{List, [], _∷_, _++_}
-use mathlib.Core.Bool.{Bool, true, false}
-use native.Mathlib.Omega.{arith}
-use lib.ListN.{length, getD}
-use lib.Dec.{leb, ltb, eqb}
-use borrow.Author.Tests.{leb-true, ltb-true, ltb-false}
+use Rattle.wire.proofs.Kit.{ℕ, zero, suc, _+_, _≤_, _<_, _≡_, refl, ap, _≢_, _⊎_, inl, inr, List, [], _∷_, _++_, Bool, true, false, arith, length, getD, leb}
+use Rattle.wire.proofs.Kit.{ltb, eqb, leb-true, ltb-true, ltb-false}
 use Rattle.wire.specs.Limit as limit
 use Rattle.wire.specs.Field.{to, u8At, u16At, tagAt}
 use Rattle.wire.specs.declared.cursor.Cursor.{Cursor}

@@ -1,11 +1,5 @@
 -- The label of an entry, and its head, are gone over just as the grammar of refusals has them.
-use Prim.Native.Nat.{ℕ, zero, suc, _+_, _<_}
-use mathlib.Core.Path.{_≡_, refl, sym, ap, _∙_}
-use mathlib.Core.List.{List, [], _∷_, _++_, append-nil}
-use mathlib.Core.Bool.{true, false}
-use native.Mathlib.Omega.{arith}
-use lib.ListN.{length, getD}
-use borrow.Author.Tests.{le-leb, lt-leb}
+use Rattle.wire.proofs.Kit.{ℕ, zero, suc, _+_, _<_, _≡_, refl, sym, ap, _∙_, List, [], _∷_, _++_, append-nil, true, false, arith, length, getD, le-leb, lt-leb}
 use Rattle.wire.specs.Number.{digits, number, Bytes}
 use Rattle.wire.specs.Field.{to, bytesAt, u8At, u32At, textAt, got8, got32, gotText}
 use Rattle.wire.specs.declared.cursor.Text.{Text}

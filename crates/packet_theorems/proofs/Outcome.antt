@@ -1,11 +1,6 @@
 -- What the packet calls come to, from how their readings end.
-use Prim.Native.Nat.{ℕ, _+_, _≤_, _<_}
-use mathlib.Core.Path.{_≡_, refl, sym}
-use mathlib.Core.List.{List}
-use native.Mathlib.Omega.{arith}
-use lib.ListN.{length, length-take, length-drop}
-use lib.Dec.{leb, eqb}
-use borrow.Author.Tests.{leb-true, leb-false, eqb-true, eqb-false, ne-eqb}
+use Rattle.wire.proofs.Kit.{ℕ, _+_, _≤_, _<_, _≡_, refl, sym, List, arith, length, length-take, length-drop, leb, eqb, leb-true, leb-false, eqb-true, eqb-false}
+use Rattle.wire.proofs.Kit.{ne-eqb}
 use Rattle.wire.specs.Limit as limit
 use Rattle.wire.proofs.Laws.{picked}
 use Rattle.image.specs.Record.{bytesOf}

@@ -1,13 +1,6 @@
 -- The theorems on the readers of packets, over what their public calls come to.
-use Prim.Native.Nat.{ℕ, _+_, _*_, _≤_, _<_}
-use mathlib.Core.Path.{_≡_, refl, sym, ap, ap₂, _∙_}
-use mathlib.Core.Logic.{_↔_}
-use mathlib.Core.List.{List, [], _++_, append-nil}
-use native.Mathlib.Omega.{arith}
-use native.Mathlib.Nat.{le-refl}
-use lib.ListN.{length, getD, take, drop}
-use lib.Seq.{take-append-seam, take-length}
-use borrow.Author.Tests.{le-leb, lt-ltb}
+use Rattle.wire.proofs.Kit.{ℕ, _+_, _*_, _≤_, _<_, _≡_, refl, sym, ap, ap₂, _∙_, _↔_, List, [], _++_, append-nil, arith, le-refl, length, getD, take, drop}
+use Rattle.wire.proofs.Kit.{take-append-seam, take-length, le-leb, lt-ltb}
 use Rattle.wire.specs.Number.{Bytes}
 use Rattle.wire.specs.Limit as limit
 use Rattle.wire.proofs.Stands.{stood, bytes-here, length-bytes}

@@ -1,14 +1,7 @@
 -- A part of an input that is gone over just as a grammar has it: where it stands, where it ends, and which field refuses it; and the fields that a packet is
 -- made of.
-use Prim.Native.Nat.{ℕ, _+_, _^_, _≤_, _<_}
-use mathlib.Core.Path.{_≡_, refl, sym, ap, _∙_}
-use mathlib.Core.List.{List, [], _++_}
-use mathlib.Core.Bool.{true}
-use native.Mathlib.Omega.{arith}
-use native.Mathlib.Nat.{add-assoc, add-zero}
-use lib.ListN.{length, drop, length-append, length-drop}
-use lib.Dec.{leb}
-use borrow.Author.Tests.{le-leb, lt-leb, leb-true, leb-false}
+use Rattle.wire.proofs.Kit.{ℕ, _+_, _^_, _≤_, _<_, _≡_, refl, sym, ap, _∙_, List, [], _++_, true, arith, add-assoc, add-zero, length, drop, length-append}
+use Rattle.wire.proofs.Kit.{length-drop, leb, le-leb, lt-leb, leb-true, leb-false}
 use Rattle.wire.specs.Choice.{pick}
 use Rattle.wire.specs.Number.{digits, number, Bytes}
 use Rattle.wire.specs.Utf8.{utf8}

@@ -1,11 +1,5 @@
 -- The image of a packet is put out as what the packet is written as.
-use Prim.Native.Nat.{ℕ, _+_, _<_}
-use mathlib.Core.Path.{_≡_, refl, sym, ap, _∙_}
-use mathlib.Core.List.{List, [], _∷_, _++_, append-assoc, append-nil}
-use mathlib.Core.Bool.{Bool, true, false}
-use native.Mathlib.Omega.{arith}
-use lib.ListN.{length}
-use borrow.Author.Tests.{le-leb}
+use Rattle.wire.proofs.Kit.{ℕ, _+_, _<_, _≡_, refl, sym, ap, _∙_, List, [], _∷_, _++_, append-assoc, append-nil, Bool, true, false, arith, length, le-leb}
 use Rattle.wire.specs.Number.{digits}
 use Rattle.wire.specs.Utf8.{ends}
 use Rattle.wire.specs.Field.{bytesAt}

@@ -1,12 +1,6 @@
 -- Why each packet call is refused, and what it accepts, by the grammars.
-use Prim.Native.Nat.{ℕ, suc, _+_, _≤_, _<_}
-use mathlib.Core.Path.{_≡_, refl, sym, ap}
-use mathlib.Core.Logic.{_≢_, _⊎_, inl, inr, _↔_}
-use mathlib.Core.List.{List, [], _∷_}
-use native.Mathlib.Omega.{arith}
-use lib.ListN.{length, getD, length-append}
-use lib.Dec.{leb, ltb}
-use borrow.Author.Tests.{leb-true, leb-false, le-leb, ltb-true, ltb-false, ne-eqb}
+use Rattle.wire.proofs.Kit.{ℕ, suc, _+_, _≤_, _<_, _≡_, refl, sym, ap, _≢_, _⊎_, inl, inr, _↔_, List, [], _∷_, arith, length, getD, length-append, leb, ltb}
+use Rattle.wire.proofs.Kit.{leb-true, leb-false, le-leb, ltb-true, ltb-false, ne-eqb}
 use Rattle.wire.specs.Number.{Bytes}
 use Rattle.wire.specs.Limit as limit
 use Rattle.wire.proofs.Laws.{picked}

@@ -1,13 +1,5 @@
 -- More room changes nothing, for every packet call. So the round trip goes in every room that is not refused for room, and in that of the first reading.
-use Prim.Native.Nat.{ℕ, _*_, _≤_, _<_}
-use mathlib.Core.Path.{_≡_, refl, ap}
-use mathlib.Core.Logic.{_≢_, _↔_}
-use mathlib.Core.List.{List}
-use mathlib.Core.Bool.{Bool}
-use native.Mathlib.Nat.{le-refl}
-use native.Mathlib.Omega.{arith}
-use lib.ListN.{length, getD}
-use lib.Dec.{leb, ltb}
+use Rattle.wire.proofs.Kit.{ℕ, _*_, _≤_, _<_, _≡_, refl, ap, _≢_, _↔_, List, Bool, le-refl, arith, length, getD, leb, ltb}
 use Rattle.wire.specs.Limit as limit
 use Rattle.wire.specs.Number.{Bytes}
 use Rattle.wire.specs.Text.{insideOf}

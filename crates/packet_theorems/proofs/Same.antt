@@ -1,12 +1,6 @@
 -- The fields round a packet's values, and what the bytes that they were read from settle: where the same bytes stand, the same is read.
-use Prim.Native.Nat.{ℕ, _+_, _≤_, _<_}
-use mathlib.Core.Path.{_≡_, refl}
-use mathlib.Core.List.{List}
-use mathlib.Core.Bool.{Bool, true, false}
-use native.Mathlib.Omega.{arith}
-use lib.ListN.{length, getD, drop, length-take, length-drop}
+use Rattle.wire.proofs.Kit.{ℕ, _+_, _≤_, _<_, _≡_, refl, List, Bool, true, false, arith, length, getD, drop, length-take, length-drop, eqb}
 use lib.Seq.{ext-getD, getD-take, getD-drop}
-use lib.Dec.{eqb}
 use Rattle.wire.specs.Number.{number}
 use Rattle.wire.specs.Field.{to, bytesAt, u8At, u16At, u32At, strAt, textAt, tagAt, got8, got16, got32, gotText, pastTag}
 use Rattle.wire.specs.declared.cursor.Cursor.{Cursor}

@@ -1,9 +1,5 @@
 -- What stands at a place of a packet's image, as its writing sees it: the record that is due there, or none.
-use Prim.Native.Nat.{ℕ}
-use mathlib.Core.Path.{_≡_, refl, sym, _∙_}
-use mathlib.Core.List.{List}
-use mathlib.Core.Bool.{Bool}
-use lib.ListN.{drop}
+use Rattle.wire.proofs.Kit.{ℕ, _≡_, refl, sym, _∙_, List, Bool, drop}
 use Rattle.amf0.specs.Shown.{Stands}
 use Rattle.wire.specs.Number.{Bytes}
 use Rattle.wire.specs.Field.{bytesAt}

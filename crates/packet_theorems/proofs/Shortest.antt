@@ -1,12 +1,6 @@
 -- What a packet is written as is that packet, but for the lengths that it declares, and no row of bytes that is the packet is shorter.
-use Prim.Native.Nat.{ℕ, _+_, _^_, _≤_, _<_}
-use mathlib.Core.Path.{_≡_, refl, ap}
-use mathlib.Core.List.{List, [], _∷_, _++_, map}
-use mathlib.Core.Bool.{Bool, true, false}
-use native.Mathlib.Nat.{le-refl}
-use native.Mathlib.Omega.{arith}
-use lib.ListN.{length, length-append, length-map}
-use lib.Dec.{lit<}
+use Rattle.wire.proofs.Kit.{ℕ, _+_, _^_, _≤_, _<_, _≡_, refl, ap, List, [], _∷_, _++_, map, Bool, true, false, le-refl, arith, length, length-append}
+use Rattle.wire.proofs.Kit.{length-map, lit<}
 use Rattle.wire.specs.Number.{digits}
 use Rattle.wire.specs.Limit as limit
 use Rattle.image.specs.declared.record.Record.{Record}

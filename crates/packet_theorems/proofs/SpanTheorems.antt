@@ -1,13 +1,6 @@
 -- The theorems on the reading of a part of a packet, over what it comes to.
-use Prim.Native.Nat.{ℕ, suc, zero, _+_, _≤_}
-use mathlib.Core.Path.{_≡_, refl, ap, _∙_}
-use mathlib.Core.Logic.{_≢_, _⊎_, inl, inr}
-use mathlib.Core.List.{List}
-use mathlib.Core.Bool.{Bool, true, false}
-use native.Mathlib.Omega.{arith}
-use lib.ListN.{length}
-use lib.Dec.{leb, eqb}
-use borrow.Author.Tests.{leb-true, eqb-true, eqb-false}
+use Rattle.wire.proofs.Kit.{ℕ, suc, zero, _+_, _≤_, _≡_, refl, ap, _∙_, _≢_, _⊎_, inl, inr, List, Bool, true, false, arith, length, leb, eqb, leb-true}
+use Rattle.wire.proofs.Kit.{eqb-true, eqb-false}
 use Rattle.wire.specs.Limit as limit
 use Rattle.wire.specs.Field.{bytesAt}
 use Rattle.wire.proofs.Laws.{picked}

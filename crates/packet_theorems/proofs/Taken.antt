@@ -1,13 +1,5 @@
 -- What a reading accepts: a reading that ends inside the packet, within the limit and the room.
-use Prim.Native.Nat.{ℕ, _*_, _≤_}
-use mathlib.Core.Path.{_≡_, refl}
-use mathlib.Core.List.{List}
-use mathlib.Core.Bool.{Bool, true, false}
-use native.Mathlib.Omega.{arith}
-use native.Mathlib.Nat.{le-refl}
-use lib.ListN.{length}
-use lib.Dec.{leb}
-use borrow.Author.Tests.{leb-true, le-leb, ne-eqb}
+use Rattle.wire.proofs.Kit.{ℕ, _*_, _≤_, _≡_, refl, List, Bool, true, false, arith, le-refl, length, leb, leb-true, le-leb, ne-eqb}
 use Rattle.wire.specs.Choice.{pick}
 use Rattle.wire.specs.Limit as limit
 use Rattle.image.specs.Due.{Ends}

@@ -1,12 +1,5 @@
 -- The theorems on the packet calls, over what they come to.
-use Prim.Native.Nat.{ℕ, _+_, _*_, _≤_, _<_}
-use mathlib.Core.Path.{_≡_, refl, sym, ap, _∙_}
-use mathlib.Core.Logic.{_≢_, _↔_}
-use mathlib.Core.List.{List}
-use native.Mathlib.Omega.{arith}
-use lib.ListN.{length}
-use lib.Dec.{leb, ltb, eqb}
-use borrow.Author.Tests.{leb-true, eqb-false}
+use Rattle.wire.proofs.Kit.{ℕ, _+_, _*_, _≤_, _<_, _≡_, refl, sym, ap, _∙_, _≢_, _↔_, List, arith, length, leb, ltb, eqb, leb-true, eqb-false}
 use Rattle.wire.specs.Limit as limit
 use Rattle.wire.proofs.Laws.{picked, pick-no}
 use Rattle.wire.proofs.Stands.{length-bytes}

@@ -1,10 +1,5 @@
 -- No image is that of two packets, but for the lengths that their entries declare, which it does not tell.
-use Prim.Native.Nat.{ℕ, max, _+_, _≤_}
-use mathlib.Core.Path.{_≡_, refl, sym, ap, _∙_}
-use mathlib.Core.List.{List, [], _∷_, _++_, map, append-nil}
-use mathlib.Core.Bool.{Bool}
-use native.Mathlib.Omega.{arith}
-use lib.ListN.{length}
+use Rattle.wire.proofs.Kit.{ℕ, max, _+_, _≤_, _≡_, refl, sym, ap, _∙_, List, [], _∷_, _++_, map, append-nil, Bool, arith, length}
 use Rattle.wire.specs.Limit as limit
 use Rattle.wire.proofs.Stands.{Here, cut, skip}
 use Rattle.image.specs.declared.record.Record.{Record}

@@ -1,11 +1,5 @@
 -- The whole packet against the standard's: what encodes a packet is read as it, and what was read encodes one.
-use Prim.Native.Nat.{ℕ, _+_, _^_, _≤_, _<_}
-use mathlib.Core.Path.{_≡_, refl, sym, ap, _∙_}
-use mathlib.Core.List.{List, [], _∷_, _++_}
-use native.Mathlib.Omega.{arith}
-use lib.ListN.{length, drop, length-append}
-use lib.Dec.{eqb, lit<}
-use borrow.Author.Tests.{eqb-true}
+use Rattle.wire.proofs.Kit.{ℕ, _+_, _^_, _≤_, _<_, _≡_, refl, sym, ap, _∙_, List, [], _∷_, _++_, arith, length, drop, length-append, eqb, lit<, eqb-true}
 use Rattle.wire.specs.Number.{digits, Bytes}
 use Rattle.wire.specs.Limit as limit
 use Rattle.wire.specs.Field.{to, u16At, tagAt, got16}

@@ -1,11 +1,6 @@
 -- A reading that is accepted makes an image that can be written.
-use Prim.Native.Nat.{ℕ, suc, _+_, _≤_}
-use mathlib.Core.Path.{_≡_, refl, sym, ap, ap₂, _∙_}
-use mathlib.Core.List.{List, [], _∷_, _++_, map, map-append}
-use mathlib.Core.Bool.{Bool, true, false}
-use native.Mathlib.Omega.{arith}
-use lib.ListN.{length, take, length-map, take-append-drop}
-use lib.Dec.{lit<}
+use Rattle.wire.proofs.Kit.{ℕ, suc, _+_, _≤_, _≡_, refl, sym, ap, ap₂, _∙_, List, [], _∷_, _++_, map, map-append, Bool, true, false, arith, length, take}
+use Rattle.wire.proofs.Kit.{length-map, take-append-drop, lit<}
 use Rattle.wire.specs.Number.{digits, Bytes}
 use Rattle.wire.specs.Field.{to, u16At, got16}
 use Rattle.wire.specs.Limit as limit

@@ -1,12 +1,5 @@
 -- A writing of a packet that is refused is so by what stands at its place: the records before it begin a packet, and what is due behind them is not there.
-use Prim.Native.Nat.{ℕ, zero, suc, _+_, _≤_}
-use mathlib.Core.Path.{_≡_, sym, ap}
-use mathlib.Core.List.{List, [], _∷_}
-use mathlib.Core.Bool.{Bool}
-use native.Mathlib.Omega.{arith}
-use lib.ListN.{length, drop, length-append}
-use lib.Dec.{leb}
-use borrow.Author.Tests.{leb-false}
+use Rattle.wire.proofs.Kit.{ℕ, zero, suc, _+_, _≤_, _≡_, sym, ap, List, [], _∷_, Bool, arith, length, drop, length-append, leb, leb-false}
 use Rattle.wire.specs.Choice.{pick}
 use Rattle.wire.specs.Number.{Bytes}
 use Rattle.wire.specs.Limit as limit

@@ -1,10 +1,5 @@
 -- What stands where something else is due refuses the writing of a packet, at its place.
-use Prim.Native.Nat.{ℕ, _+_, _<_}
-use mathlib.Core.Path.{_≡_, refl, ap}
-use mathlib.Core.List.{List, _∷_, _++_}
-use mathlib.Core.Bool.{Bool}
-use native.Mathlib.Omega.{arith}
-use lib.ListN.{length, drop, length-append}
+use Rattle.wire.proofs.Kit.{ℕ, _+_, _<_, _≡_, refl, ap, List, _∷_, _++_, Bool, arith, length, drop, length-append}
 use Rattle.wire.specs.Number.{Bytes}
 use Rattle.wire.specs.Limit as limit
 use Rattle.wire.proofs.Laws.{pick-no}

@@ -1,12 +1,6 @@
 -- The theorems on the writer of packets, over what its public call comes to.
-use Prim.Native.Nat.{ℕ, _*_, _≤_, _<_}
-use mathlib.Core.Path.{_≡_, refl, sym, ap, subst, _∙_}
-use mathlib.Core.Logic.{_↔_, _⊎_, inl, inr, ⊎-elim}
-use mathlib.Core.List.{List, append-nil}
-use mathlib.Core.Bool.{Bool, true}
-use native.Mathlib.Omega.{arith}
-use lib.ListN.{length, take, getD}
-use lib.Seq.{length-take-le}
+use Rattle.wire.proofs.Kit.{ℕ, _*_, _≤_, _<_, _≡_, refl, sym, ap, subst, _∙_, _↔_, _⊎_, inl, inr, ⊎-elim, List, append-nil, Bool, true, arith, length, take}
+use Rattle.wire.proofs.Kit.{getD, length-take-le}
 use Rattle.wire.specs.Number.{Bytes}
 use Rattle.wire.specs.Limit as limit
 use Rattle.wire.proofs.Stands.{Here}

@@ -1,8 +1,5 @@
 -- Which rows of bytes a packet's declared lengths cut exactly, with no word of a walk: the grammar of a packet, whatever stands in its values.
-use Prim.Native.Nat.{ℕ, _+_, _^_, _≤_, _<_}
-use mathlib.Core.Path.{_≡_}
-use mathlib.Core.List.{List, [], _∷_, _++_}
-use lib.ListN.{length}
+use Rattle.wire.specs.Kit.{ℕ, _+_, _^_, _≤_, _<_, _≡_, List, [], _∷_, _++_, length}
 use Rattle.wire.specs.Number.{digits}
 use Rattle.wire.specs.Limit as limit
 use Rattle.image.specs.Record.{bitOf}

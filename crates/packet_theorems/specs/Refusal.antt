@@ -1,11 +1,6 @@
 -- Why a whole reading of a packet and a cut by its declared lengths are refused, with no word of a reader: which fields stand before one that is not whole or
 -- not right. Both go over the same fields round the values, and differ in how they go over a value.
-use Prim.Native.Nat.{ℕ, suc, _^_, _≤_, _<_}
-use mathlib.Core.Path.{_≡_}
-use mathlib.Core.Logic.{_≢_}
-use mathlib.Core.List.{List, [], _∷_, _++_}
-use mathlib.Core.Bool.{true}
-use lib.ListN.{length}
+use Rattle.wire.specs.Kit.{ℕ, suc, _^_, _≤_, _<_, _≡_, _≢_, List, [], _∷_, _++_, true, length}
 use Rattle.wire.specs.Number.{digits}
 use Rattle.wire.specs.Limit as limit
 use Rattle.amf0.specs.Standard.{Sort, Tree, depth, UTF-8, Encodes}

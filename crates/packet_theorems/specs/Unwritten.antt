@@ -1,9 +1,6 @@
 -- Why the write of a packet is refused, and by which record: document 01, "A write checks first". Records begin a packet, something is due behind them, and
 -- what stands there is not it.
-use Prim.Native.Nat.{ℕ, suc, _≤_}
-use mathlib.Core.List.{List, [], _∷_, _++_}
-use mathlib.Core.Bool.{Bool}
-use lib.ListN.{length}
+use Rattle.wire.specs.Kit.{ℕ, suc, _≤_, List, [], _∷_, _++_, Bool, length}
 use Rattle.wire.specs.Limit as limit
 use Rattle.image.specs.declared.record.Record.{Record}
 use Rattle.image.specs.declared.record.Record.the-variants as R

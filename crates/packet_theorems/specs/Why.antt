@@ -1,10 +1,6 @@
 -- What the packet calls can come to in a room, and when: a room too small refuses before any other reason but the limit. What stands in the input, which
 -- field refuses it, and into what it is cut, is said by the grammars; that a room is too small, by the records that the definitions find.
-use Prim.Native.Nat.{ℕ, _+_, _≤_, _<_}
-use mathlib.Core.Path.{_≡_}
-use mathlib.Core.Logic.{_⊎_}
-use mathlib.Core.List.{List, _++_}
-use lib.ListN.{length, getD}
+use Rattle.wire.specs.Kit.{ℕ, _+_, _≤_, _<_, _≡_, _⊎_, List, _++_, length, getD}
 use Rattle.wire.specs.Limit as limit
 use Rattle.image.specs.Due.{Due, based}
 use Rattle.image.specs.Whole.{Whole, bytes, accepted, refused}

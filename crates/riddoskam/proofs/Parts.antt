@@ -1,5 +1,5 @@
 -- A result that is known whole is known in each part.
-use mathlib.Core.Path.{_≡_, ap}
+use Rattle.wire.proofs.Kit.{_≡_, ap}
 use Rattle.image.specs.declared.reading.Reading.{Reading}
 use Rattle.image.specs.declared.writing.Writing.{Writing}
 use Rattle.packet.specs.declared.entry.Cutting.{Cutting}

@@ -1,12 +1,6 @@
 -- The row that `riddoskam_packet_cut` leaves, and what `riddoskam_packet_nth` leaves.
-use Prim.Native.Nat.{ℕ, zero, suc, _*_, _-_, _<_}
-use mathlib.Core.Path.{_≡_, refl}
-use mathlib.Core.List.{List, [], _∷_, _++_}
-use mathlib.Core.Bool.{Bool, true, false}
-use native.Mathlib.Omega.{arith}
-use lib.ListN.{length, getD, take, drop, replicate}
-use lib.Dec.{leb}
-use borrow.Author.Tests.{lt-ltb}
+use Rattle.wire.proofs.Kit.{ℕ, zero, suc, _*_, _-_, _<_, _≡_, refl, List, [], _∷_, _++_, Bool, true, false, arith, length, getD, take, drop, replicate, leb}
+use Rattle.wire.proofs.Kit.{lt-ltb}
 use Rattle.wire.specs.Choice.{pick}
 use Rattle.packet.specs.declared.head.Entry.{Entry}
 use Rattle.packet.specs.Entry.{Cut, found, stops, cutOf, noEntry, uncut, listed, listOf, foundIn}

@@ -1,8 +1,5 @@
 -- What a call returns by value in Rattle, as the numbers that go out to C.
-use Prim.Native.Nat.{ℕ}
-use mathlib.Core.List.{List, [], _∷_}
-use mathlib.Core.Bool.{Bool, true, false}
-use lib.ListN.{replicate}
+use Rattle.wire.specs.Kit.{ℕ, List, [], _∷_, Bool, true, false, replicate}
 use Rattle.image.specs.declared.record.Layout.{Layout}
 use Rattle.image.specs.declared.taking.Taken.{Taken}
 use Rattle.image.specs.declared.taking.Taken.the-variants as Taken

@@ -1,10 +1,7 @@
 -- Copies by parts that meet or overlap.
-use Prim.Native.Nat.{ℕ, zero, suc, _+_, _-_, _≤_, _<_}
-use mathlib.Core.Path.{_≡_, refl, sym, ap, _∙_}
-use mathlib.Core.List.{List, [], _∷_}
-use native.Mathlib.Omega.{arith}
-use lib.ListN.{length, getD, take, set, length-take, length-drop}
-use lib.Seq.{sets, set-comm, set-set, take-add, take-length, drop-cons, length-take-le}
+use Rattle.wire.proofs.Kit.{ℕ, zero, suc, _+_, _-_, _≤_, _<_, _≡_, refl, sym, ap, _∙_, List, [], _∷_, arith, length, getD, take, set, length-take}
+use Rattle.wire.proofs.Kit.{length-drop, sets, set-comm, set-set, take-length, drop-cons, length-take-le}
+use lib.Seq.{take-add}
 use Rattle.wire.specs.Field.{bytesAt}
 use Rattle.wire.proofs.Laws.{then-sets}
 

@@ -1,14 +1,6 @@
 -- Numbers in decimal: how many digits, and the digits from the last one on.
-use Prim.Native.Nat.{ℕ, zero, suc, _+_, _-_, _/_, _%_, _^_, _≤_, _<_}
-use mathlib.Core.Path.{_≡_, refl}
-use mathlib.Core.List.{List, [], _∷_, _++_}
-use native.Mathlib.Nat.{mod-eq-of-lt, pow-suc}
-use native.Mathlib.Numerals.{add-one, sub-one}
-use native.Mathlib.Omega.{arith}
-use lib.ListN.{length, set, length-append}
-use lib.Seq.{sets}
-use lib.Dec.{ltb}
-use borrow.Author.Tests.{ltb-true, lt-ltb, le-ltb}
+use Rattle.wire.proofs.Kit.{ℕ, zero, suc, _+_, _-_, _/_, _%_, _^_, _≤_, _<_, _≡_, refl, List, [], _∷_, _++_, mod-eq-of-lt, pow-suc, add-one, sub-one}
+use Rattle.wire.proofs.Kit.{arith, length, set, length-append, sets, ltb, ltb-true, lt-ltb, le-ltb}
 use Rattle.wire.specs.Bytes.{places, decimal}
 use Rattle.wire.proofs.Laws.{picked, sets-append, set-sets}
 

@@ -1,17 +1,11 @@
 -- The laws of the fields, of numbers in bytes and of stores.
-use Prim.Native.Nat.{ℕ, zero, suc, _+_, _-_, _*_, _/_, _%_, _^_, _≤_, _<_}
-use mathlib.Core.Path.{_≡_, refl, sym, ap, _∙_}
-use mathlib.Core.List.{List, [], _∷_, _++_}
-use mathlib.Core.Bool.{Bool, true, false}
-use mathlib.Core.Logic.{_⊎_, inl, inr}
-use native.Mathlib.Nat.{add-zero, add-suc, suc-add, pow-suc, pow-succ', one-le-pow, div-one, mod-one, mod-eq-of-lt, div-div-eq-div-mul, mul-add-mod-self-right, mul-add-div-right, mul-assoc}
-use native.Mathlib.Numerals.{add-one, sub-one}
-use native.Mathlib.Omega.{arith}
-use lib.ListN.{length, getD, drop, set, length-drop, length-append, drop-of-length-le}
-use lib.Seq.{sets, take-suc, drop-cons, getD-drop, set-comm, length-sets}
+use Rattle.wire.proofs.Kit.{ℕ, zero, suc, _+_, _-_, _*_, _/_, _%_, _^_, _≤_, _<_, _≡_, refl, sym, ap, _∙_, List, [], _∷_, _++_, Bool, true, false, _⊎_}
+use Rattle.wire.proofs.Kit.{inl, inr, add-zero, suc-add, pow-suc, div-one, mod-eq-of-lt, add-one, sub-one, arith, length, getD, drop, set, length-drop}
+use Rattle.wire.proofs.Kit.{length-append, drop-of-length-le, sets, drop-cons, set-comm, length-sets, leb, eqb, lit<, le-leb, lt-leb, leb-true}
+use Rattle.wire.proofs.Kit.{leb-false, eq-eqb, eqb-true}
+use native.Mathlib.Nat.{add-suc, pow-succ', one-le-pow, mod-one, div-div-eq-div-mul, mul-add-mod-self-right, mul-add-div-right, mul-assoc}
+use lib.Seq.{take-suc, getD-drop}
 use lib.Arith.{mod-mul, digits-lt, digits-div}
-use lib.Dec.{leb, eqb, lit<}
-use borrow.Author.Tests.{le-leb, lt-leb, leb-true, leb-false, eq-eqb, eqb-true}
 use Rattle.wire.specs.declared.cursor.Cursor.{Cursor}
 use Rattle.wire.specs.declared.cursor.Text.{Text}
 use Rattle.wire.specs.declared.cursor.Tag.{Tag}

@@ -4,3 +4,4 @@ pub mod Stands
 pub mod Rfc3629
 mod Steps
 mod Copies
+pub mod Kit

@@ -1,11 +1,6 @@
 -- RFC 3629, section 4, as a relation: the definition `utf8` of the specs takes the rows that it has, and no others.
-use Prim.Native.Nat.{ℕ, _≤_}
-use mathlib.Core.Path.{_≡_, refl, ap, _∙_}
-use mathlib.Core.List.{List, [], _∷_, _++_}
-use mathlib.Core.Bool.{true, false}
-use lib.ListN.{drop}
-use lib.Dec.{leb, T}
-use borrow.Author.Tests.{leb-true}
+use Rattle.wire.proofs.Kit.{ℕ, _≤_, _≡_, refl, ap, _∙_, List, [], _∷_, _++_, true, false, drop, leb, leb-true}
+use lib.Dec.{T}
 use Rattle.wire.specs.Utf8.{Range, Form, _to_, has, tail, forms, begun, ends, utf8}
 use Rattle.wire.specs.Choice.{pick}
 use Rattle.wire.proofs.Laws.{picked, false-true}

@@ -1,15 +1,9 @@
 -- Fields against the bytes that stand in the input: what stands there is read, and what was read stood there.
-use Prim.Native.Nat.{ℕ, zero, suc, _+_, _^_, _≤_, _<_}
-use mathlib.Core.Path.{_≡_, refl, sym, ap, ap₂, _∙_}
-use mathlib.Core.List.{List, [], _∷_, _++_, append-assoc}
-use mathlib.Core.Bool.{Bool, true, false}
-use native.Mathlib.Nat.{add-assoc}
-use native.Mathlib.Numerals.{add-one}
-use native.Mathlib.Omega.{arith}
-use lib.ListN.{length, take, drop, length-append, length-drop, take-append-drop, getD}
-use lib.Seq.{drop-append-add, drop-cons, take-at, drop-at, drop-drop, length-take-le, take-append-le, drop-append-le, take-append-seam}
-use lib.Dec.{leb, eqb}
-use borrow.Author.Tests.{le-leb, lt-leb, eq-eqb, leb-true, leb-false, eqb-true}
+use Rattle.wire.proofs.Kit.{ℕ, zero, suc, _+_, _^_, _≤_, _<_, _≡_, refl, sym, ap, ap₂, _∙_, List, [], _∷_, _++_, append-assoc, Bool, true, false}
+use Rattle.wire.proofs.Kit.{add-assoc, add-one, arith, length, take, drop, length-append, length-drop, take-append-drop, getD, drop-cons, take-at}
+use Rattle.wire.proofs.Kit.{drop-at, drop-drop, length-take-le, take-append-le, drop-append-le, take-append-seam, leb, eqb, le-leb, lt-leb, eq-eqb}
+use Rattle.wire.proofs.Kit.{leb-true, leb-false, eqb-true}
+use lib.Seq.{drop-append-add}
 use Rattle.wire.specs.declared.cursor.Cursor.{Cursor}
 use Rattle.wire.specs.declared.cursor.U8.{U8}
 use Rattle.wire.specs.declared.cursor.U8.the-variants as U8

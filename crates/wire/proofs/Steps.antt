@@ -1,16 +1,11 @@
 -- What one more byte does: to the UTF-8 check, and to the comparison of two rows.
-use Prim.Native.Nat.{ℕ, zero, suc, _+_, _-_, _≤_, _<_}
-use mathlib.Core.Path.{_≡_, refl, sym, ap, _∙_}
-use mathlib.Core.List.{List, [], _∷_}
-use mathlib.Core.Bool.{Bool, true, false, _&&_, _||_, Bool·beq}
-use mathlib.Core.Logic.{_⊎_, ⊎-elim}
-use native.Mathlib.Numerals.{add-one}
-use native.Mathlib.Omega.{arith}
-use lib.ListN.{length, getD, drop, drop-of-length-le}
-use lib.Seq.{drop-cons, drop-length}
+use Rattle.wire.proofs.Kit.{ℕ, zero, suc, _+_, _-_, _≤_, _<_, _≡_, refl, sym, ap, _∙_, List, [], _∷_, Bool, true, false, _⊎_, ⊎-elim, add-one, arith}
+use Rattle.wire.proofs.Kit.{length, getD, drop, drop-of-length-le, drop-cons, leb, ltb, eqb, le-leb, lt-leb, leb-true, leb-false, eq-eqb, ne-eqb}
+use Rattle.wire.proofs.Kit.{ltb-true, ltb-false, lt-ltb, le-ltb}
+use mathlib.Core.Bool.{_&&_, _||_, Bool·beq}
+use lib.Seq.{drop-length}
 use lib.Bits.{bitOr, or-add-and, and-le-l, and-le-r}
-use lib.Dec.{leb, ltb, eqb, T}
-use borrow.Author.Tests.{le-leb, lt-leb, leb-true, leb-false, eq-eqb, ne-eqb, ltb-true, ltb-false, lt-ltb, le-ltb}
+use lib.Dec.{T}
 use Rattle.wire.specs.declared.utf8.Lead.{Lead}
 use Rattle.wire.specs.declared.utf8.Lead.the-variants.{Bad}
 use Rattle.wire.specs.declared.utf8.Step.{Step}

@@ -1,9 +1,5 @@
 -- Rows of bytes laid into a buffer.
-use Prim.Native.Nat.{ℕ, zero, suc, _+_, _/_, _%_}
-use mathlib.Core.List.{List, [], _∷_, _++_}
-use lib.ListN.{length}
-use lib.Seq.{sets}
-use lib.Dec.{leb, ltb}
+use Rattle.wire.specs.Kit.{ℕ, zero, suc, _+_, _/_, _%_, List, [], _∷_, _++_, length, sets, leb, ltb}
 use Rattle.wire.specs.Choice.{pick}
 
 -- a row of bytes laid from a place on, where it has room there

@@ -1,10 +1,5 @@
 -- What the steps of the UTF-8 check say of the bytes behind them.
-use Prim.Native.Nat.{ℕ, _+_, _≤_, _<_}
-use mathlib.Core.Path.{_≡_}
-use mathlib.Core.List.{List, [], _∷_}
-use mathlib.Core.Bool.{Bool, false}
-use lib.ListN.{length, getD, drop}
-use lib.Dec.{ltb, eqb}
+use Rattle.wire.specs.Kit.{ℕ, _+_, _≤_, _<_, _≡_, List, [], _∷_, Bool, false, length, getD, drop, ltb, eqb}
 use Rattle.wire.specs.declared.utf8.Lead.{Lead}
 use Rattle.wire.specs.declared.utf8.Lead.the-variants.{One, Two, Three, Four, Bad}
 use Rattle.wire.specs.declared.utf8.Step.{Step}

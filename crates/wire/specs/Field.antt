@@ -1,9 +1,5 @@
 -- The fields that a reading is made of: each is whole, and then right, or refused at its place.
-use Prim.Native.Nat.{ℕ, _+_}
-use mathlib.Core.List.{List, [], _∷_}
-use mathlib.Core.Bool.{Bool, true, false}
-use lib.ListN.{length, take, drop}
-use lib.Dec.{leb, eqb}
+use Rattle.wire.specs.Kit.{ℕ, _+_, List, [], _∷_, Bool, true, false, length, take, drop, leb, eqb}
 use Rattle.wire.specs.declared.cursor.Cursor.{Cursor}
 use Rattle.wire.specs.declared.cursor.U8.{U8}
 use Rattle.wire.specs.declared.cursor.U8.the-variants as U8

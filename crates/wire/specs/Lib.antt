@@ -6,3 +6,4 @@ pub mod Text
 pub mod Utf8
 pub mod Code
 pub mod Field
+pub mod Kit

@@ -1,5 +1,5 @@
 -- The limits of document 01, "Numbers to hold to".
-use Prim.Native.Nat.{ℕ}
+use Rattle.wire.specs.Kit.{ℕ}
 
 -- the most bytes that an input, a writer's text or written output may have
 abbrev pub bytes : ℕ

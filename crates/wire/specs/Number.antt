@@ -1,9 +1,5 @@
 -- Numbers in bytes, the highest first, over the width.
-use Prim.Native.Nat.{ℕ, zero, suc, _+_, _*_, _/_, _%_, _^_, _<_}
-use mathlib.Core.List.{List, [], _∷_}
-use lib.ListN.{length}
-use lib.Seq.{sets}
-use lib.Dec.{leb}
+use Rattle.wire.specs.Kit.{ℕ, zero, suc, _+_, _*_, _/_, _%_, _^_, _<_, List, [], _∷_, length, sets, leb}
 use Rattle.wire.specs.Choice.{pick}
 
 -- n in w bytes

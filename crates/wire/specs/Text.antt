@@ -1,9 +1,5 @@
 -- The text that a place and a length name: inside where the place and the length end within the input.
-use Prim.Native.Nat.{ℕ, _+_}
-use mathlib.Core.List.{List, []}
-use mathlib.Core.Bool.{Bool}
-use lib.ListN.{length, take, drop}
-use lib.Dec.{leb}
+use Rattle.wire.specs.Kit.{ℕ, _+_, List, [], Bool, length, take, drop, leb}
 use Rattle.wire.specs.Choice.{pick}
 
 abbrev pub insideOf : List ℕ → ℕ → ℕ → Bool

@@ -1,8 +1,5 @@
 -- Well-formed UTF-8: RFC 3629, section 4.
-use Prim.Native.Nat.{ℕ}
-use mathlib.Core.List.{List, [], _∷_}
-use mathlib.Core.Bool.{Bool, true, false}
-use lib.Dec.{leb}
+use Rattle.wire.specs.Kit.{ℕ, List, [], _∷_, Bool, true, false, leb}
 use Rattle.wire.specs.Choice.{pick}
 
 -- the bytes from low to high

@@ -1,7 +1,5 @@
 -- The bytes are compared one by one, up to the first that differs.
-use Prim.Native.Nat.{_-_}
-use lib.ListN.{length}
-use borrow.Author.Needs.{needs}
+use Rattle.wire.proofs.Kit.{_-_, length, needs}
 use Rattle.lso_show.proofs.is_word.Statement.{statement}
 use Rattle.lso_show.proofs.is_word.Tie as tie
 

@@ -1,8 +1,5 @@
 -- Each read goes behind what was read, and reads something.
-use Prim.Native.Nat.{_-_}
-use mathlib.Core.Path.{_≡_}
-use lib.ListN.{length}
-use borrow.Author.Needs.{needs}
+use Rattle.wire.proofs.Kit.{_-_, _≡_, length, needs}
 use Rattle.lso_show.proofs.read_all.Statement.{statement}
 use Rattle.lso_show.proofs.read_all.Tie as tie
 

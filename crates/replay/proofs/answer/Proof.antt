@@ -1,8 +1,5 @@
 -- The call of a frame is made on as much of the buffer as it asks for.
-use mathlib.Core.Path.{sym}
-use native.Mathlib.Omega.{arith}
-use lib.Seq.{length-take-le}
-use borrow.Author.Needs.{needs}
+use Rattle.wire.proofs.Kit.{sym, arith, length-take-le, needs}
 use Rattle.replay.proofs.answer.Statement.{statement}
 use Rattle.replay.proofs.answer.Tie as tie
 

@@ -3,11 +3,7 @@ mod Kinds
 mod Reads
 mod Lts
 mod Tie
-use Prim.Native.Nat.{_≤_, _-_}
-use native.Mathlib.Omega.{arith}
-use mathlib.Core.Path.{sym}
-use lib.Seq.{length-take-le}
-use borrow.Author.Needs.{needs}
+use Rattle.wire.proofs.Kit.{_≤_, _-_, arith, sym, length-take-le, needs}
 use Rattle.replay.proofs.cut_packet.Statement.{statement}
 use Rattle.replay.proofs.cut_packet.Proof.Tie as tie
 

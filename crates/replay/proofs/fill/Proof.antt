@@ -1,8 +1,5 @@
 -- Filling a buffer ends and keeps its length.
-use Prim.Native.Nat.{_-_}
-use mathlib.Core.Path.{_≡_}
-use lib.ListN.{length}
-use borrow.Author.Needs.{needs}
+use Rattle.wire.proofs.Kit.{_-_, _≡_, length, needs}
 use Rattle.replay.proofs.fill.Statement.{statement}
 use Rattle.replay.proofs.fill.Tie as tie
 

@@ -1,7 +1,5 @@
 -- The frames are replayed one after another; the buffers keep their lengths.
-use mathlib.Core.Path.{_≡_}
-use lib.ListN.{length}
-use borrow.Author.Needs.{needs}
+use Rattle.wire.proofs.Kit.{_≡_, length, needs}
 use Rattle.replay.proofs.frames.Statement.{statement}
 use Rattle.replay.proofs.frames.Tie as tie
 

@@ -1,7 +1,5 @@
 -- The buffers are as long as they are declared.
-use Prim.Native.Nat.{ℕ}
-use mathlib.Core.Path.{_≡_, sym}
-use lib.ListN.{length, replicate, length-replicate}
+use Rattle.wire.proofs.Kit.{ℕ, _≡_, sym, length, replicate, length-replicate}
 use Rattle.replay.proofs.main.Statement.{statement}
 use Rattle.replay.proofs.main.Tie as tie
 

@@ -1,8 +1,5 @@
 -- A row is read into its buffer.
-use mathlib.Core.Path.{sym}
-use native.Mathlib.Omega.{arith}
-use lib.Seq.{length-take-le}
-use borrow.Author.Needs.{needs}
+use Rattle.wire.proofs.Kit.{sym, arith, length-take-le, needs}
 use Rattle.replay.proofs.read_row.Statement.{statement}
 use Rattle.replay.proofs.read_row.Tie as tie
 

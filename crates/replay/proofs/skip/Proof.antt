@@ -1,5 +1,5 @@
 -- Skipping bytes ends: fewer are left with each turn.
-use borrow.Author.Needs.{needs}
+use Rattle.wire.proofs.Kit.{needs}
 use Rattle.replay.proofs.skip.Statement.{statement}
 use Rattle.replay.proofs.skip.Tie as tie
 

@@ -1,8 +1,5 @@
 -- Some bytes are skipped.
-use mathlib.Core.Path.{sym}
-use native.Mathlib.Omega.{arith}
-use lib.Seq.{length-take-le}
-use borrow.Author.Needs.{needs}
+use Rattle.wire.proofs.Kit.{sym, arith, length-take-le, needs}
 use Rattle.replay.proofs.skip_some.Statement.{statement}
 use Rattle.replay.proofs.skip_some.Tie as tie
 

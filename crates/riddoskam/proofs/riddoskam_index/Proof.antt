@@ -1,6 +1,6 @@
 -- The indexing that it hands on, in its parts.
 use Rattle.riddoskam.proofs.Parts.{answer-indexed, count-indexed}
-use borrow.Author.Needs.{needs}
+use Rattle.wire.proofs.Kit.{needs}
 use Rattle.riddoskam.proofs.riddoskam_index.Statement.{statement}
 use Rattle.riddoskam.proofs.riddoskam_index.Tie as tie
 

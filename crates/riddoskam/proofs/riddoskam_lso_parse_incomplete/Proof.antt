@@ -1,6 +1,6 @@
 -- The reading that it hands on, in its parts.
 use Rattle.riddoskam.proofs.Parts.{answer-read, used-read, made-read}
-use borrow.Author.Needs.{needs}
+use Rattle.wire.proofs.Kit.{needs}
 use Rattle.riddoskam.proofs.riddoskam_lso_parse_incomplete.Statement.{statement}
 use Rattle.riddoskam.proofs.riddoskam_lso_parse_incomplete.Tie as tie
 

@@ -1,6 +1,6 @@
 -- The cut that it hands on, in its parts.
 use Rattle.riddoskam.proofs.Parts.{answer-cut, used-cut, count-cut}
-use borrow.Author.Needs.{needs}
+use Rattle.wire.proofs.Kit.{needs}
 use Rattle.riddoskam.proofs.riddoskam_packet_cut.Statement.{statement}
 use Rattle.riddoskam.proofs.riddoskam_packet_cut.Tie as tie
 

@@ -1,7 +1,6 @@
 -- An entry that was looked for, as numbers.
-use mathlib.Core.Path.{sym, ap, _∙_}
+use Rattle.wire.proofs.Kit.{sym, ap, _∙_, needs}
 use Rattle.riddoskam.specs.Numbers.{foundAnswer, foundNumbers}
-use borrow.Author.Needs.{needs}
 use Rattle.riddoskam.proofs.riddoskam_packet_nth.Statement.{statement}
 use Rattle.riddoskam.proofs.riddoskam_packet_nth.Tie as tie
 

@@ -1,6 +1,5 @@
 -- The part, told by its place and length.
-use mathlib.Core.Path.{sym, refl, _∙_}
-use borrow.Author.Needs.{needs}
+use Rattle.wire.proofs.Kit.{sym, refl, _∙_, needs}
 use Rattle.riddoskam.proofs.riddoskam_part.Statement.{statement}
 use Rattle.riddoskam.proofs.riddoskam_part.Tie as tie
 

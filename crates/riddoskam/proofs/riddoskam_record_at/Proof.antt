@@ -1,7 +1,6 @@
 -- The record that was taken, as numbers.
-use mathlib.Core.Path.{sym, ap, _∙_}
+use Rattle.wire.proofs.Kit.{sym, ap, _∙_, needs}
 use Rattle.riddoskam.specs.Numbers.{recordNumbers, takenAnswer, takenNumbers, takenNext}
-use borrow.Author.Needs.{needs}
 use Rattle.riddoskam.proofs.riddoskam_record_at.Statement.{statement}
 use Rattle.riddoskam.proofs.riddoskam_record_at.Tie as tie
 

@@ -1,7 +1,6 @@
 -- The way that a key leads, as a place.
-use mathlib.Core.Path.{ap, _∙_}
+use Rattle.wire.proofs.Kit.{ap, _∙_, needs}
 use Rattle.riddoskam.specs.Numbers.{wayFound, wayPlace}
-use borrow.Author.Needs.{needs}
 use Rattle.riddoskam.proofs.riddoskam_step.Statement.{statement}
 use Rattle.riddoskam.proofs.riddoskam_step.Tie as tie
 

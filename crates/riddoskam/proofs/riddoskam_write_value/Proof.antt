@@ -1,6 +1,6 @@
 -- The writing that it hands on, in its parts.
 use Rattle.riddoskam.proofs.Parts.{answer-written, count-written}
-use borrow.Author.Needs.{needs}
+use Rattle.wire.proofs.Kit.{needs}
 use Rattle.riddoskam.proofs.riddoskam_write_value.Statement.{statement}
 use Rattle.riddoskam.proofs.riddoskam_write_value.Tie as tie
 

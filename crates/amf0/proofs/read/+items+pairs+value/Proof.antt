@@ -1,11 +1,5 @@
 -- The readers of a value, of pairs and of values in a row, which call each other: each carries out what its part of the reading says.
-use Prim.Native.Nat.{ℕ, _+_, _-_, _*_, _≤_, _<_}
-use mathlib.Core.Path.{_≡_, refl, sym, _∙_}
-use native.Mathlib.Nat.{le-refl}
-use native.Mathlib.Omega.{arith}
-use lib.ListN.{length}
-use denote.Ref.{now}
-use borrow.Author.Needs.{needs}
+use Rattle.wire.proofs.Kit.{ℕ, _+_, _-_, _*_, _≤_, _<_, _≡_, refl, sym, _∙_, le-refl, arith, length, now, needs, In, Measures, is, falls, and}
 use Rattle.wire.specs.declared.cursor.U8.the-variants as U8
 use Rattle.wire.specs.Field.{u8At, to}
 use Rattle.wire.proofs.Laws.{u8-next, u8-stop, text-next, text-stop}
@@ -15,8 +9,6 @@ use Rattle.image.proofs.Laws.{run-then, run-halt, run-then-based, run-halt-base
 use Rattle.amf0.specs.Fields.{shut}
 use Rattle.amf0.specs.Reading.{value as valueOf, pairs as pairsOf, items as itemsOf, pair as pairOf, follow}
 use Rattle.amf0.proofs.Laws.{value-cut, value-shut, value-fields, fields-refused, fields-due, pairs-cut, pairs-pair, pair-cut, pair-end, pair-key, items-done, items-item, u8-whole}
-use borrow.Fn.Kinds.{In}
-use borrow.Fn.PlainCycle.{Measures, is, falls, and}
 use Rattle.amf0.proofs.read.items.Reads as items
 use Rattle.amf0.proofs.read.items.Kinds as items-kinds
 use Rattle.amf0.proofs.read.+items+pairs+value.Lts-items as items-lts

@@ -1,14 +1,8 @@
 -- The fields behind each marker, in a part with a base.
-use Prim.Native.Nat.{_+_}
-use mathlib.Core.Path.{sym, _∙_}
-use lib.ListN.{length}
-use denote.Ref.{now}
-use native.Mathlib.Omega.{arith}
-use borrow.Author.Tests.{le-leb, lt-leb}
+use Rattle.wire.proofs.Kit.{_+_, sym, _∙_, length, now, arith, le-leb, lt-leb, needs}
 use Rattle.wire.proofs.Laws.{u8-next, u8-stop, u16-next, u16-stop, u32-next, u32-stop, u64-next, u64-stop, text-next, text-stop}
 use Rattle.amf0.specs.Fields.{fieldsAt}
 use Rattle.amf0.proofs.Laws.{fields-got, fields-stop}
-use borrow.Author.Needs.{needs}
 use Rattle.amf0.proofs.read.parse_fields.Statement.{statement}
 use Rattle.amf0.proofs.read.parse_fields.Tie as tie
 

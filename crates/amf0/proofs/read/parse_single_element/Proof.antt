@@ -1,11 +1,8 @@
 -- One value at the front of an input: what its reading comes to in the lent image.
-use mathlib.Core.Path.{sym, _∙_}
-use lib.ListN.{length}
-use denote.Ref.{now}
+use Rattle.wire.proofs.Kit.{sym, _∙_, length, now, needs}
 use Rattle.image.proofs.Settle.{finished-ran}
 use Rattle.amf0.specs.Reading.{valueIn}
 use Rattle.amf0.proofs.Laws.{whole-read}
-use borrow.Author.Needs.{needs}
 use Rattle.amf0.proofs.read.parse_single_element.Statement.{statement}
 use Rattle.amf0.proofs.read.parse_single_element.Tie as tie
 

@@ -1,12 +1,9 @@
 -- A value at a cursor of a part of an input, with the part's limits looked at first.
-use mathlib.Core.Path.{sym, _∙_}
-use native.Mathlib.Omega.{arith}
-use denote.Ref.{now}
+use Rattle.wire.proofs.Kit.{sym, _∙_, arith, now, needs}
 use Rattle.wire.specs.Limit.{levels}
 use Rattle.wire.proofs.Laws.{u8-stop}
 use Rattle.image.proofs.Laws.{run-stop, within-stop}
 use Rattle.amf0.proofs.Laws.{u8-whole, value-cut, part-over, part-past, part-read}
-use borrow.Author.Needs.{needs}
 use Rattle.amf0.proofs.read.parse_value.Statement.{statement}
 use Rattle.amf0.proofs.read.parse_value.Tie as tie
 

@@ -1,6 +1,5 @@
 -- The answer to each marker where no level is left.
-use mathlib.Core.Path.{sym, ap}
-use borrow.Author.Tests.{ne-eqb}
+use Rattle.wire.proofs.Kit.{sym, ap, ne-eqb}
 use Rattle.amf0.specs.Fields.{shut as shutOf}
 use Rattle.amf0.proofs.read.shut.Statement.{statement}
 use Rattle.amf0.proofs.read.shut.Tie as tie

@@ -1,7 +1,6 @@
 -- Each marker is that of the table at its number.
 use Prim.Native.Nat.{zero-le}
-use mathlib.Core.Path.{sym, ap}
-use lib.ListN.{List·getD-eq-default}
+use Rattle.wire.proofs.Kit.{sym, ap, List·getD-eq-default}
 use Rattle.amf0.specs.declared.type_marker.TypeMarker.the-variants.{Unsupported}
 use Rattle.amf0.specs.Marker.{markers, markerOf}
 use Rattle.amf0.proofs.Laws.{up}

@@ -1,12 +1,5 @@
 -- The writers of a value and of the values that follow one, which call each other: each carries out what its part of the writing says.
-use Prim.Native.Nat.{ℕ, _+_, _-_, _*_, _≤_, _<_}
-use mathlib.Core.Path.{_≡_, refl, sym, ap, _∙_}
-use mathlib.Core.Logic.{⊎-elim}
-use native.Mathlib.Nat.{le-refl}
-use native.Mathlib.Omega.{arith}
-use lib.ListN.{length}
-use denote.Ref.{now}
-use borrow.Author.Needs.{needs}
+use Rattle.wire.proofs.Kit.{ℕ, _+_, _-_, _*_, _≤_, _<_, _≡_, refl, sym, ap, _∙_, ⊎-elim, le-refl, arith, length, now, needs, In, Measures, is, falls, and}
 use Rattle.wire.specs.declared.cursor.Cursor.{Cursor}
 use Rattle.image.specs.Out.{pour, _>>=_}
 use Rattle.image.specs.Taking.{recordAt}
@@ -19,8 +12,6 @@ use Rattle.amf0.specs.Code.{longest, growth, room, Owned, Paired, owed}
 use Rattle.amf0.specs.Writing.{valueAt, value as valueOf, pairs as pairsOf, rest as restOf}
 use Rattle.amf0.proofs.Putting.{ahead, ahead-stop, ahead-next, past, value-deep, value-none, value-opened, dense-value, pour-indexed, items-done, items-item, rest-nothing}
 use Rattle.amf0.proofs.Coming.{coming, Enough, coming-first, coming-due, pairs-coming, due-dense, owed-due}
-use borrow.Fn.Kinds.{In}
-use borrow.Fn.PlainCycle.{Measures, is, falls, and}
 use Rattle.amf0.proofs.write.value.Reads as value
 use Rattle.amf0.proofs.write.value.Kinds as value-kinds
 use Rattle.amf0.proofs.write.+value+values.Lts-value as value-lts

@@ -1,9 +1,6 @@
 -- The marker alone.
-use native.Mathlib.Omega.{arith}
-use mathlib.Core.Path.{refl}
-use denote.Ref.{now}
+use Rattle.wire.proofs.Kit.{arith, refl, now, needs}
 use Rattle.amf0.proofs.Begun.{owned-row}
-use borrow.Author.Needs.{needs}
 use Rattle.amf0.proofs.write.bare.Statement.{statement}
 use Rattle.amf0.proofs.write.bare.Tie as tie
 

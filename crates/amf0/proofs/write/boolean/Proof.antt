@@ -1,12 +1,9 @@
 -- The byte behind the marker.
-use mathlib.Core.Path.{refl, sym, _∙_}
-use native.Mathlib.Omega.{arith}
-use denote.Ref.{now}
+use Rattle.wire.proofs.Kit.{refl, sym, _∙_, arith, now, needs}
 use Rattle.image.specs.declared.record.Record.the-variants.{Boolean}
 use Rattle.image.specs.Taking.{bodyAt, flag}
 use Rattle.amf0.specs.declared.write.Rest.the-variants.{Nothing}
 use Rattle.amf0.proofs.Begun.{owned-row, owned-bad}
-use borrow.Author.Needs.{needs}
 use Rattle.amf0.proofs.write.boolean.Statement.{statement}
 use Rattle.amf0.proofs.write.boolean.Tie as tie
 

@@ -1,12 +1,9 @@
 -- The eight bytes and the zone behind the marker.
-use mathlib.Core.Path.{refl, sym, _∙_}
-use native.Mathlib.Omega.{arith}
-use denote.Ref.{now}
+use Rattle.wire.proofs.Kit.{refl, sym, _∙_, arith, now, needs}
 use Rattle.image.specs.declared.record.Record.the-variants.{Date}
 use Rattle.image.specs.Taking.{bodyAt, found, u64, flag, u16, zoned}
 use Rattle.amf0.specs.declared.write.Rest.the-variants.{Nothing}
 use Rattle.amf0.proofs.Begun.{zoned-fits, zoned-bad, owned-row, owned-bad}
-use borrow.Author.Needs.{needs}
 use Rattle.amf0.proofs.write.date.Statement.{statement}
 use Rattle.amf0.proofs.write.date.Tie as tie
 

@@ -1,6 +1,5 @@
 -- Values without a key come to pairs where no value begins.
-use mathlib.Core.Path.{sym, _∙_}
-use borrow.Author.Needs.{needs}
+use Rattle.wire.proofs.Kit.{sym, _∙_, needs}
 use Rattle.amf0.proofs.write.due_at.Statement.{statement}
 use Rattle.amf0.proofs.write.due_at.Tie as tie
 

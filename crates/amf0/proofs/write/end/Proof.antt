@@ -1,11 +1,8 @@
 -- The end is put out.
-use mathlib.Core.Path.{refl}
-use native.Mathlib.Omega.{arith}
-use denote.Ref.{now}
+use Rattle.wire.proofs.Kit.{refl, arith, now, needs}
 use Rattle.image.specs.declared.record.Record.the-variants.{ObjectEnd}
 use Rattle.image.specs.declared.taking.Taken.the-variants.{Found}
 use Rattle.amf0.proofs.Begun.{paired-end, paired-end-halt}
-use borrow.Author.Needs.{needs}
 use Rattle.amf0.proofs.write.end.Statement.{statement}
 use Rattle.amf0.proofs.write.end.Tie as tie
 

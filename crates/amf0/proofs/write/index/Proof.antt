@@ -1,11 +1,7 @@
 -- The key's length in two bytes, and its digits behind it.
-use mathlib.Core.Path.{_≡_}
-use native.Mathlib.Omega.{arith}
-use lib.ListN.{length}
-use denote.Ref.{now}
+use Rattle.wire.proofs.Kit.{_≡_, arith, length, now, needs}
 use Rattle.wire.specs.Number.{digits}
 use Rattle.wire.specs.Bytes.{laid, decimal}
-use borrow.Author.Needs.{needs}
 use Rattle.amf0.proofs.write.index.Statement.{statement}
 use Rattle.amf0.proofs.write.index.Tie as tie
 

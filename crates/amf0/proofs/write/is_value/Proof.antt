@@ -1,6 +1,5 @@
 -- The kinds of values, one by one.
-use mathlib.Core.Path.{sym, ap}
-use borrow.Author.Tests.{ne-eqb}
+use Rattle.wire.proofs.Kit.{sym, ap, ne-eqb}
 use Rattle.amf0.specs.Writing.{among, kinds}
 use Rattle.amf0.proofs.write.is_value.Statement.{statement}
 use Rattle.amf0.proofs.write.is_value.Tie as tie

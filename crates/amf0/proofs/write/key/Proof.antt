@@ -1,11 +1,8 @@
 -- The key behind its length.
-use mathlib.Core.Path.{refl, sym, _∙_}
-use native.Mathlib.Omega.{arith}
-use denote.Ref.{now}
+use Rattle.wire.proofs.Kit.{refl, sym, _∙_, arith, now, needs}
 use Rattle.image.specs.declared.record.Record.the-variants.{Key}
 use Rattle.image.specs.Taking.{bodyAt, short}
 use Rattle.amf0.proofs.Begun.{paired-key, paired-key-halt, paired-bad}
-use borrow.Author.Needs.{needs}
 use Rattle.amf0.proofs.write.key.Statement.{statement}
 use Rattle.amf0.proofs.write.key.Tie as tie
 

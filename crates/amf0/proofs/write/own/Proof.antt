@@ -1,11 +1,8 @@
 -- The kind, and then the own bytes of its values.
-use mathlib.Core.Path.{refl, sym, _∙_}
-use denote.Ref.{now}
-use borrow.Author.Tests.{ne-eqb}
+use Rattle.wire.proofs.Kit.{refl, sym, _∙_, now, ne-eqb, needs}
 use Rattle.image.specs.declared.record.Record.the-variants.{Object, Null, Undefined, Unsupported}
 use Rattle.image.specs.Taking.{bodyAt, recordAt}
 use Rattle.amf0.proofs.Begun.{record-body, record-none, owned-bad, owned-other}
-use borrow.Author.Needs.{needs}
 use Rattle.amf0.proofs.write.own.Statement.{statement}
 use Rattle.amf0.proofs.write.own.Tie as tie
 

@@ -1,9 +1,7 @@
 -- A key or the end, by the kind.
-use mathlib.Core.Path.{sym, _∙_}
-use denote.Ref.{now}
+use Rattle.wire.proofs.Kit.{sym, _∙_, now, needs}
 use Rattle.image.specs.Taking.{bodyAt, recordAt}
 use Rattle.amf0.proofs.Begun.{record-body, record-none, paired-bad, paired-other}
-use borrow.Author.Needs.{needs}
 use Rattle.amf0.proofs.write.pair.Statement.{statement}
 use Rattle.amf0.proofs.write.pair.Tie as tie
 

@@ -1,12 +1,9 @@
 -- The value is put out where what was asked for is within the limits.
-use mathlib.Core.Path.{sym}
-use native.Mathlib.Omega.{arith}
-use denote.Ref.{now}
+use Rattle.wire.proofs.Kit.{sym, arith, now, needs}
 use Rattle.image.proofs.Pouring.{pour-stop}
 use Rattle.wire.specs.Limit as limit
 use Rattle.amf0.specs.Writing.{value}
 use Rattle.amf0.proofs.Putting.{ahead-stop, in-text, in-image, in-place, in-count, in-value, rest-one}
-use borrow.Author.Needs.{needs}
 use Rattle.amf0.proofs.write.pour_value.Statement.{statement}
 use Rattle.amf0.proofs.write.pour_value.Tie as tie
 

@@ -1,12 +1,9 @@
 -- The count behind the marker, and then as many values.
-use mathlib.Core.Path.{refl, sym, _∙_}
-use native.Mathlib.Omega.{arith}
-use denote.Ref.{now}
+use Rattle.wire.proofs.Kit.{refl, sym, _∙_, arith, now, needs}
 use Rattle.image.specs.declared.record.Record.the-variants.{StrictArray}
 use Rattle.image.specs.Taking.{bodyAt, u32}
 use Rattle.amf0.specs.declared.write.Rest.the-variants.{Values}
 use Rattle.amf0.proofs.Begun.{owned-row, owned-bad}
-use borrow.Author.Needs.{needs}
 use Rattle.amf0.proofs.write.strict_array.Statement.{statement}
 use Rattle.amf0.proofs.write.strict_array.Tie as tie
 

@@ -1,14 +1,11 @@
 -- The text behind its length and the marker, which go by the length.
-use mathlib.Core.Path.{sym, _∙_}
-use native.Mathlib.Omega.{arith}
-use denote.Ref.{now}
+use Rattle.wire.proofs.Kit.{sym, _∙_, arith, now, needs}
 use Rattle.image.specs.declared.record.Record.the-variants.{Text}
 use Rattle.image.specs.Taking.{bodyAt, long}
 use Rattle.amf0.specs.declared.write.Rest.the-variants.{Nothing}
 use Rattle.amf0.specs.Standard.{short-most}
 use Rattle.amf0.proofs.Begun.{owned-row, owned-bad}
 use Rattle.wire.proofs.Laws.{pick-yes, pick-no}
-use borrow.Author.Needs.{needs}
 use Rattle.amf0.proofs.write.string.Statement.{statement}
 use Rattle.amf0.proofs.write.string.Tie as tie
 

@@ -1,5 +1,5 @@
 -- A step with what follows it.
-use borrow.Author.Needs.{needs}
+use Rattle.wire.proofs.Kit.{needs}
 use Rattle.amf0.proofs.write.then.Statement.{statement}
 use Rattle.amf0.proofs.write.then.Tie as tie
 

@@ -1,12 +1,9 @@
 -- The name behind its length and the marker, and then pairs.
-use mathlib.Core.Path.{refl, sym, _∙_}
-use native.Mathlib.Omega.{arith}
-use denote.Ref.{now}
+use Rattle.wire.proofs.Kit.{refl, sym, _∙_, arith, now, needs}
 use Rattle.image.specs.declared.record.Record.the-variants.{TypedObject}
 use Rattle.image.specs.Taking.{bodyAt, short}
 use Rattle.amf0.specs.declared.write.Rest.the-variants.{Pairs}
 use Rattle.amf0.proofs.Begun.{owned-row, owned-bad}
-use borrow.Author.Needs.{needs}
 use Rattle.amf0.proofs.write.typed_object.Statement.{statement}
 use Rattle.amf0.proofs.write.typed_object.Tie as tie
 

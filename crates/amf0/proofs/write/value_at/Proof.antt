@@ -1,7 +1,6 @@
 -- The kind at the cursor is that of a value, or there is none.
-use mathlib.Core.Path.{sym, _∙_}
+use Rattle.wire.proofs.Kit.{sym, _∙_, needs}
 use Rattle.amf0.specs.Writing.{valueAt}
-use borrow.Author.Needs.{needs}
 use Rattle.amf0.proofs.write.value_at.Statement.{statement}
 use Rattle.amf0.proofs.write.value_at.Tie as tie
 

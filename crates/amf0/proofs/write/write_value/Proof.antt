@@ -1,12 +1,8 @@
 -- The first pass, on no output, tells what the call comes to; the second puts it out.
-use mathlib.Core.Path.{ap, _∙_}
-use native.Mathlib.Omega.{arith}
-use lib.ListN.{length}
-use denote.Ref.{now}
+use Rattle.wire.proofs.Kit.{ap, _∙_, arith, length, now, needs}
 use Rattle.image.proofs.Pouring.{no-room, pour-onto}
 use Rattle.amf0.specs.Writing.{valueIn}
 use Rattle.amf0.proofs.Putting.{write-halt, write-past, write-over, write-full, write-fits, write-size}
-use borrow.Author.Needs.{needs}
 use Rattle.amf0.proofs.write.write_value.Statement.{statement}
 use Rattle.amf0.proofs.write.write_value.Tie as tie
 

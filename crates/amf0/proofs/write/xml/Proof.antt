@@ -1,12 +1,9 @@
 -- The text behind its length and the marker.
-use mathlib.Core.Path.{refl, sym, _∙_}
-use native.Mathlib.Omega.{arith}
-use denote.Ref.{now}
+use Rattle.wire.proofs.Kit.{refl, sym, _∙_, arith, now, needs}
 use Rattle.image.specs.declared.record.Record.the-variants.{Xml}
 use Rattle.image.specs.Taking.{bodyAt, long}
 use Rattle.amf0.specs.declared.write.Rest.the-variants.{Nothing}
 use Rattle.amf0.proofs.Begun.{owned-row, owned-bad}
-use borrow.Author.Needs.{needs}
 use Rattle.amf0.proofs.write.xml.Statement.{statement}
 use Rattle.amf0.proofs.write.xml.Tie as tie
 

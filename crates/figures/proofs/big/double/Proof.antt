@@ -1,5 +1,5 @@
 -- Fewer doublings are left with each turn.
-use borrow.Author.Needs.{needs}
+use Rattle.wire.proofs.Kit.{needs}
 use Rattle.figures.proofs.big.double.Statement.{statement}
 use Rattle.figures.proofs.big.double.Tie as tie
 

@@ -1,6 +1,5 @@
 -- Two words and the carry fit 64 bits; the carry stays below 2.
-use Prim.Native.Nat.{_-_, _<_}
-use borrow.Author.Needs.{needs}
+use Rattle.wire.proofs.Kit.{_-_, _<_, needs}
 use Rattle.figures.proofs.big.reaches.Statement.{statement}
 use Rattle.figures.proofs.big.reaches.Tie as tie
 

@@ -1,7 +1,5 @@
 -- A word and the carry fit 64 bits; the carry stays small.
-use Prim.Native.Nat.{_-_, _≤_}
-use native.Mathlib.Omega.{arith}
-use borrow.Author.Needs.{needs}
+use Rattle.wire.proofs.Kit.{_-_, _≤_, arith, needs}
 use Rattle.figures.proofs.Halving.{product}
 use Rattle.figures.proofs.big.times.Statement.{statement}
 use Rattle.figures.proofs.big.times.Tie as tie

@@ -1,6 +1,5 @@
 -- The rule, test by test.
-use native.Mathlib.Omega.{arith}
-use borrow.Author.Tests.{eq-eqb, ne-eqb}
+use Rattle.wire.proofs.Kit.{arith, eq-eqb, ne-eqb}
 use Rattle.figures.specs.Calendar.{leapDay}
 use Rattle.figures.proofs.date.leap_day.Statement.{statement}
 use Rattle.figures.proofs.date.leap_day.Tie as tie

@@ -1,11 +1,6 @@
 -- The table, line by line.
-use native.Mathlib.Omega.{arith}
-use Prim.Native.Nat.{ℕ, _+_}
-use mathlib.Core.Path.{ap}
-use borrow.Author.Tests.{ne-eqb}
+use Rattle.wire.proofs.Kit.{arith, ℕ, _+_, ap, ne-eqb, needs, needs}
 use Rattle.figures.specs.Calendar.{monthLength}
-use borrow.Author.Needs.{needs}
-use borrow.Author.Needs.{needs}
 use Rattle.figures.proofs.date.month_length.Statement.{statement}
 use Rattle.figures.proofs.date.month_length.Tie as tie
 

@@ -1,10 +1,6 @@
 -- The months before are taken off one by one.
-use Prim.Native.Nat.{_+_, _≤_}
-use mathlib.Core.Path.{_≡_}
+use Rattle.wire.proofs.Kit.{_+_, _≤_, _≡_, arith, add-one, needs}
 use Rattle.figures.specs.Calendar.{monthsDays}
-use native.Mathlib.Omega.{arith}
-use native.Mathlib.Numerals.{add-one}
-use borrow.Author.Needs.{needs}
 use Rattle.figures.proofs.date.month_of.Statement.{statement}
 use Rattle.figures.proofs.date.month_of.Tie as tie
 

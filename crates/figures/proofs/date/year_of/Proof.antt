@@ -1,7 +1,6 @@
 -- The parts of a day number give its year.
 use Rattle.figures.proofs.Calendar.{year-fits, year-fits-4, in-year, day-short}
-use borrow.Author.Needs.{needs}
-use borrow.Author.Needs.{needs}
+use Rattle.wire.proofs.Kit.{needs, needs}
 use Rattle.figures.proofs.date.year_of.Statement.{statement}
 use Rattle.figures.proofs.date.year_of.Tie as tie
 

@@ -1,6 +1,5 @@
 -- At most 310 turns.
-use Prim.Native.Nat.{_-_, _≤_}
-use borrow.Author.Needs.{needs}
+use Rattle.wire.proofs.Kit.{_-_, _≤_, needs}
 use Rattle.figures.proofs.double.bring_down.Statement.{statement}
 use Rattle.figures.proofs.double.bring_down.Tie as tie
 

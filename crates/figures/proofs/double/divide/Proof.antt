@@ -1,6 +1,5 @@
 -- At most 9 turns.
-use Prim.Native.Nat.{_-_, _≤_}
-use borrow.Author.Needs.{needs}
+use Rattle.wire.proofs.Kit.{_-_, _≤_, needs}
 use Rattle.figures.proofs.double.divide.Statement.{statement}
 use Rattle.figures.proofs.double.divide.Tie as tie
 

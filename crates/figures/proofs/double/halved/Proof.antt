@@ -1,9 +1,7 @@
 -- What is left to halve gives what the whole gives.
-use Prim.Native.Nat.{_-_}
-use mathlib.Core.Path.{_≡_, _∙_, sym}
+use Rattle.wire.proofs.Kit.{_-_, _≡_, _∙_, sym, needs}
 use Rattle.figures.specs.Double.{halvedOf}
 use Rattle.figures.proofs.Halving.{halved-odd, halved-even, halved-done, halved-whole}
-use borrow.Author.Needs.{needs}
 use Rattle.figures.proofs.double.halved.Statement.{statement}
 use Rattle.figures.proofs.double.halved.Tie as tie
 

@@ -1,8 +1,5 @@
 -- Each turn finds a digit or a zero before the first; there are at most so many of both.
-use Prim.Native.Nat.{_+_, _-_, _≤_}
-use native.Mathlib.Omega.{arith}
-use borrow.Author.Tests.{ltb-true}
-use borrow.Author.Needs.{needs}
+use Rattle.wire.proofs.Kit.{_+_, _-_, _≤_, arith, ltb-true, needs}
 use Rattle.figures.proofs.double.spell.Statement.{statement}
 use Rattle.figures.proofs.double.spell.Tie as tie
 

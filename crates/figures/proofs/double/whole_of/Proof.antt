@@ -1,6 +1,5 @@
 -- The exponent is tested, and then the fraction is halved.
-use borrow.Author.Needs.{needs}
-use borrow.Author.Tests.{le-leb, lt-leb}
+use Rattle.wire.proofs.Kit.{needs, le-leb, lt-leb}
 use Rattle.figures.specs.Double.{wholeOf}
 use Rattle.figures.proofs.double.whole_of.Statement.{statement}
 use Rattle.figures.proofs.double.whole_of.Tie as tie

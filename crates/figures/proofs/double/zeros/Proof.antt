@@ -1,6 +1,5 @@
 -- So many zeros, and then the loop ends.
-use Prim.Native.Nat.{_-_}
-use borrow.Author.Needs.{needs}
+use Rattle.wire.proofs.Kit.{_-_, needs}
 use Rattle.figures.proofs.double.zeros.Statement.{statement}
 use Rattle.figures.proofs.double.zeros.Tie as tie
 

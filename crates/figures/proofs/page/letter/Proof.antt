@@ -1,5 +1,5 @@
 -- The table, line by line.
-use borrow.Author.Tests.{ne-eqb, lt-ltb, le-ltb}
+use Rattle.wire.proofs.Kit.{ne-eqb, lt-ltb, le-ltb}
 use Rattle.figures.specs.Escape.{letterOf}
 use Rattle.figures.proofs.page.letter.Statement.{statement}
 use Rattle.figures.proofs.page.letter.Tie as tie

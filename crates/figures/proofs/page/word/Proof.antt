@@ -1,7 +1,5 @@
 -- Every byte of the text is put, and then the loop ends.
-use Prim.Native.Nat.{_-_}
-use lib.ListN.{length}
-use borrow.Author.Needs.{needs}
+use Rattle.wire.proofs.Kit.{_-_, length, needs}
 use Rattle.figures.proofs.page.word.Statement.{statement}
 use Rattle.figures.proofs.page.word.Tie as tie
 

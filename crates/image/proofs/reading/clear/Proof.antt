@@ -1,10 +1,5 @@
 -- Each turn stores one zero more; what is to come is the same zeros behind what stands before them.
-use Prim.Native.Nat.{_-_}
-use mathlib.Core.Path.{_≡_, sym, _∙_}
-use mathlib.Core.List.{_++_}
-use native.Mathlib.Omega.{arith}
-use lib.ListN.{length, take, replicate, length-set}
-use borrow.Author.Needs.{needs}
+use Rattle.wire.proofs.Kit.{_-_, _≡_, sym, _∙_, _++_, arith, length, take, replicate, length-set, needs}
 use Rattle.image.proofs.Laws.{clear-more, clear-all}
 use Rattle.image.proofs.reading.clear.Statement.{statement}
 use Rattle.image.proofs.reading.clear.Tie as tie

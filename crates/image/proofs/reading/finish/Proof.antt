@@ -1,7 +1,5 @@
 -- What is cleared is what is past the made part.
-use mathlib.Core.Path.{refl, _∙_}
-use borrow.Author.Needs.{needs}
-use denote.Ref.{now}
+use Rattle.wire.proofs.Kit.{refl, _∙_, needs, now}
 use Rattle.image.proofs.Laws.{padded-take}
 use Rattle.image.proofs.reading.finish.Statement.{statement}
 use Rattle.image.proofs.reading.finish.Tie as tie

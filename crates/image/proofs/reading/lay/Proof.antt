@@ -1,6 +1,5 @@
 -- The field has room, so it is stored.
-use mathlib.Core.Path.{refl, _∙_}
-use borrow.Author.Needs.{needs}
+use Rattle.wire.proofs.Kit.{refl, _∙_, needs}
 use Rattle.wire.proofs.Laws.{pick-yes}
 use Rattle.image.proofs.reading.lay.Statement.{statement}
 use Rattle.image.proofs.reading.lay.Tie as tie

@@ -1,11 +1,5 @@
 -- The record is laid field by field where it has room, and refused where it has none.
-use Prim.Native.Nat.{_+_, _≤_, _<_}
-use mathlib.Core.Path.{_≡_, ap}
-use mathlib.Core.List.{append-assoc}
-use native.Mathlib.Omega.{arith}
-use denote.Ref.{now}
-use lib.ListN.{length}
-use borrow.Author.Needs.{needs}
+use Rattle.wire.proofs.Kit.{_+_, _≤_, _<_, _≡_, ap, append-assoc, arith, now, length, needs}
 use Rattle.image.specs.Record.{size, sizeIn}
 use Rattle.image.proofs.Laws.{small, laid-kind, laid-field, laid-record, run-laid, run-full, within-next, within-stop}
 use Rattle.image.proofs.reading.put.Statement.{statement}

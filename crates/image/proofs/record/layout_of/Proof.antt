@@ -1,5 +1,5 @@
 -- Each arm's call says how its record lies; the match says which record it is.
-use borrow.Author.Needs.{needs}
+use Rattle.wire.proofs.Kit.{needs}
 use Rattle.image.proofs.record.layout_of.Statement.{statement}
 use Rattle.image.proofs.record.layout_of.Tie as tie
 

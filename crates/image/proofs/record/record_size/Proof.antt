@@ -1,8 +1,5 @@
 -- The sum of the widths, which are small.
-use Prim.Native.Nat.{_≤_}
-use mathlib.Core.Path.{ap}
-use native.Mathlib.Omega.{arith}
-use borrow.Author.Needs.{needs}
+use Rattle.wire.proofs.Kit.{_≤_, ap, arith, needs}
 use Rattle.image.specs.Record.{size, sizeIn}
 use Rattle.image.proofs.Laws.{small}
 use Rattle.image.proofs.record.record_size.Statement.{statement}

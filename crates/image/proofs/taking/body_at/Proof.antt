@@ -1,7 +1,5 @@
 -- The kind's line of the table, field by field.
-use mathlib.Core.Path.{sym, _∙_}
-use borrow.Author.Needs.{needs}
-use borrow.Author.Tests.{ne-eqb}
+use Rattle.wire.proofs.Kit.{sym, _∙_, needs, ne-eqb}
 use Rattle.image.specs.Taking.{bodyAt, u16, u32, u64, flag, short, long}
 use Rattle.image.proofs.taking.body_at.Statement.{statement}
 use Rattle.image.proofs.taking.body_at.Tie as tie

@@ -1,7 +1,5 @@
 -- The fields in their order, and then the zone.
-use mathlib.Core.Path.{sym, _∙_}
-use borrow.Author.Needs.{needs}
-use borrow.Author.Tests.{eq-eqb, ne-eqb}
+use Rattle.wire.proofs.Kit.{sym, _∙_, needs, eq-eqb, ne-eqb}
 use Rattle.image.specs.Taking.{bodyAt, u64, flag, u16, zoned}
 use Rattle.image.proofs.taking.date_at.Statement.{statement}
 use Rattle.image.proofs.taking.date_at.Tie as tie

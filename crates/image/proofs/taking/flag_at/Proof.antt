@@ -1,7 +1,5 @@
 -- The byte is not whole, or is 00, 01 or another.
-use mathlib.Core.Path.{sym, _∙_}
-use borrow.Author.Needs.{needs}
-use borrow.Author.Tests.{eq-eqb, ne-eqb}
+use Rattle.wire.proofs.Kit.{sym, _∙_, needs, eq-eqb, ne-eqb}
 use Rattle.image.specs.Taking.{flagAt}
 use Rattle.image.proofs.taking.flag_at.Statement.{statement}
 use Rattle.image.proofs.taking.flag_at.Tie as tie

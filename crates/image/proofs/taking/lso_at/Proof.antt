@@ -1,6 +1,5 @@
 -- The fields in their order.
-use mathlib.Core.Path.{sym, _∙_}
-use borrow.Author.Needs.{needs}
+use Rattle.wire.proofs.Kit.{sym, _∙_, needs}
 use Rattle.image.specs.Taking.{bodyAt, u32, short}
 use Rattle.image.proofs.taking.lso_at.Statement.{statement}
 use Rattle.image.proofs.taking.lso_at.Tie as tie

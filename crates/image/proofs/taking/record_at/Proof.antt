@@ -1,6 +1,5 @@
 -- The kind, and then its body.
-use mathlib.Core.Path.{sym, _∙_}
-use borrow.Author.Needs.{needs}
+use Rattle.wire.proofs.Kit.{sym, _∙_, needs}
 use Rattle.image.specs.Taking.{recordAt}
 use Rattle.image.proofs.taking.record_at.Statement.{statement}
 use Rattle.image.proofs.taking.record_at.Tie as tie

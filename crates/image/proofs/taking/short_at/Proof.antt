@@ -1,6 +1,5 @@
 -- The place and then the length, or the first of them that is not whole.
-use mathlib.Core.Path.{sym, _∙_}
-use borrow.Author.Needs.{needs}
+use Rattle.wire.proofs.Kit.{sym, _∙_, needs}
 use Rattle.image.specs.Taking.{shortAt}
 use Rattle.image.proofs.taking.short_at.Statement.{statement}
 use Rattle.image.proofs.taking.short_at.Tie as tie

@@ -1,11 +1,8 @@
 -- The numbers are laid behind the count.
-use mathlib.Core.Path.{sym}
-use native.Mathlib.Omega.{arith}
-use denote.Ref.{now}
+use Rattle.wire.proofs.Kit.{sym, arith, now, needs}
 use Rattle.image.specs.Record.{_bytes_}
 use Rattle.image.specs.Out.{end, rowOf}
 use Rattle.image.proofs.Pouring.{bytes-none, length-numbers, named-none, pour-row, pour-stop, rowIn-count, rowIn-mark, rowIn-a, rowIn-b, rowIn-row, grown-stop, grown-next}
-use borrow.Author.Needs.{needs}
 use Rattle.image.proofs.writing.emit_numbers.Statement.{statement}
 use Rattle.image.proofs.writing.emit_numbers.Tie as tie
 

@@ -1,11 +1,8 @@
 -- The row is laid behind the count where its text is named, and else refused.
-use mathlib.Core.Path.{sym, _∙_}
-use native.Mathlib.Omega.{arith}
-use denote.Ref.{now}
+use Rattle.wire.proofs.Kit.{sym, _∙_, arith, now, needs}
 use Rattle.image.specs.Record.{_bytes_, none}
 use Rattle.image.specs.Out.{end, rowOf}
 use Rattle.image.proofs.Pouring.{inside, pour-row, pour-unnamed, pour-stop, rowIn-count, rowIn-mark, rowIn-a, rowIn-row, grown-stop, grown-next}
-use borrow.Author.Needs.{needs}
 use Rattle.image.proofs.writing.emit_text.Statement.{statement}
 use Rattle.image.proofs.writing.emit_text.Tie as tie
 

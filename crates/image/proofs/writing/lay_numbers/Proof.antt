@@ -1,14 +1,10 @@
 -- The numbers are laid behind one another where they all have room.
-use mathlib.Core.Path.{sym}
-use mathlib.Core.List.{append-assoc}
-use native.Mathlib.Omega.{arith}
-use denote.Ref.{now}
+use Rattle.wire.proofs.Kit.{sym, append-assoc, arith, now, needs}
 use Rattle.wire.proofs.Laws.{laid-none}
 use Rattle.image.specs.Record.{_bytes_, fieldBytes}
 use Rattle.image.specs.Out.{numberBytes}
 use Rattle.image.proofs.Laws.{laid-number, laid-nothing, laid-same, laid-all}
 use Rattle.image.proofs.Pouring.{length-numbers}
-use borrow.Author.Needs.{needs}
 use Rattle.image.proofs.writing.lay_numbers.Statement.{statement}
 use Rattle.image.proofs.writing.lay_numbers.Tie as tie
 

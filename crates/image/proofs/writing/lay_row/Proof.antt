@@ -1,14 +1,9 @@
 -- The fields and the text are laid behind one another where they all have room.
-use mathlib.Core.Path.{refl, sym}
-use mathlib.Core.List.{[]}
-use native.Mathlib.Nat.{add-zero}
-use native.Mathlib.Omega.{arith}
-use denote.Ref.{now}
+use Rattle.wire.proofs.Kit.{refl, sym, [], add-zero, arith, now, needs}
 use Rattle.wire.proofs.Laws.{laid-none}
 use Rattle.image.specs.Out.{rowBytes}
 use Rattle.image.proofs.Laws.{laid-field, Laid}
 use Rattle.image.proofs.Pouring.{length-row, laid-row}
-use borrow.Author.Needs.{needs}
 use Rattle.image.proofs.writing.lay_row.Statement.{statement}
 use Rattle.image.proofs.writing.lay_row.Tie as tie
 

@@ -1,14 +1,10 @@
 -- The marker, the length and the text are laid behind one another where they all have room.
-use mathlib.Core.Path.{sym}
-use mathlib.Core.List.{append-nil}
-use native.Mathlib.Omega.{arith}
-use denote.Ref.{now}
+use Rattle.wire.proofs.Kit.{sym, append-nil, arith, now, needs}
 use Rattle.wire.proofs.Laws.{laid-none}
 use Rattle.image.specs.Record.{_bytes_, none}
 use Rattle.image.specs.Out.{rowBytes, rowOf}
 use Rattle.image.proofs.Laws.{laid-number, laid-nothing, laid-same}
 use Rattle.image.proofs.Pouring.{length-text, laid-row}
-use borrow.Author.Needs.{needs}
 use Rattle.image.proofs.writing.lay_text.Statement.{statement}
 use Rattle.image.proofs.writing.lay_text.Tie as tie
 

@@ -1,7 +1,6 @@
 -- The text is inside and UTF-8, or it is not named.
-use mathlib.Core.Path.{sym, ap, _∙_}
+use Rattle.wire.proofs.Kit.{sym, ap, _∙_, needs}
 use Rattle.wire.specs.Utf8.{utf8, ends}
-use borrow.Author.Needs.{needs}
 use Rattle.image.proofs.writing.named.Statement.{statement}
 use Rattle.image.proofs.writing.named.Tie as tie
 

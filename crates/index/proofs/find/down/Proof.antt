@@ -3,13 +3,7 @@ use Rattle.index.proofs.Finding.{down-done, down-short, down-over, down
 use Rattle.index.specs.Find.{downOf}
 use Rattle.index.specs.Mark.{rows}
 use Rattle.wire.proofs.Laws.{u16-next}
-use borrow.Author.Tests.{leb-true}
-use denote.Ref.{now}
-use lib.ListN.{length}
-use native.Mathlib.Omega.{arith}
-use mathlib.Core.Path.{_≡_, refl, sym, _∙_}
-use Prim.Native.Nat.{ℕ, _+_, _-_, _/_, _≤_}
-use borrow.Author.Needs.{needs}
+use Rattle.wire.proofs.Kit.{leb-true, now, length, arith, _≡_, refl, sym, _∙_, ℕ, _+_, _-_, _/_, _≤_, needs}
 use Rattle.index.proofs.find.down.Statement.{statement}
 use Rattle.index.proofs.find.down.Tie as tie
 

@@ -1,7 +1,6 @@
 -- A path can start, and then it goes down; or it can not.
 use Rattle.index.specs.Find.{findOf}
-use mathlib.Core.Path.{sym, _∙_}
-use borrow.Author.Needs.{needs}
+use Rattle.wire.proofs.Kit.{sym, _∙_, needs}
 use Rattle.index.proofs.find.find.Statement.{statement}
 use Rattle.index.proofs.find.find.Tie as tie
 

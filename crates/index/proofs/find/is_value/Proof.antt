@@ -1,7 +1,6 @@
 -- A value, or another record, or none.
 use Rattle.index.specs.Find.{isValue}
-use mathlib.Core.Path.{sym, _∙_}
-use borrow.Author.Needs.{needs}
+use Rattle.wire.proofs.Kit.{sym, _∙_, needs}
 use Rattle.index.proofs.find.is_value.Statement.{statement}
 use Rattle.index.proofs.find.is_value.Tie as tie
 

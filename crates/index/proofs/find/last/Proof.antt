@@ -2,12 +2,7 @@
 use Rattle.index.proofs.Finding.{last-none, last-some}
 use Rattle.index.proofs.Rows.{length-rowsAt, rows-get}
 use Rattle.index.specs.Mark.{rows}
-use denote.Ref.{now}
-use lib.ListN.{length}
-use native.Mathlib.Omega.{arith}
-use mathlib.Core.Path.{sym, _∙_}
-use Prim.Native.Nat.{_-_, _/_}
-use borrow.Author.Needs.{needs}
+use Rattle.wire.proofs.Kit.{now, length, arith, sym, _∙_, _-_, _/_, needs}
 use Rattle.index.proofs.find.last.Statement.{statement}
 use Rattle.index.proofs.find.last.Tie as tie
 

@@ -1,9 +1,7 @@
 -- Each test in turn; where one fails it does not lead on.
 use Rattle.index.specs.Find.{leadsOf}
 use Rattle.index.proofs.Others.{leads-other}
-use borrow.Author.Tests.{eq-eqb, ne-eqb}
-use mathlib.Core.Path.{sym, _∙_}
-use borrow.Author.Needs.{needs}
+use Rattle.wire.proofs.Kit.{eq-eqb, ne-eqb, sym, _∙_, needs}
 use Rattle.index.proofs.find.leads.Statement.{statement}
 use Rattle.index.proofs.find.leads.Tie as tie
 

@@ -1,7 +1,6 @@
 -- An object, an array with pairs or the file, or another record, or none.
 use Rattle.index.specs.Find.{opensAt}
-use mathlib.Core.Path.{sym, _∙_}
-use borrow.Author.Needs.{needs}
+use Rattle.wire.proofs.Kit.{sym, _∙_, needs}
 use Rattle.index.proofs.find.opens.Statement.{statement}
 use Rattle.index.proofs.find.opens.Tie as tie
 

@@ -1,7 +1,6 @@
 -- Depth 0, another container, or the order of the keys.
 use Rattle.index.proofs.Finding.{past-zero, past-differs, past-same}
-use denote.Ref.{now}
-use borrow.Author.Needs.{needs}
+use Rattle.wire.proofs.Kit.{now, needs}
 use Rattle.index.proofs.find.past.Statement.{statement}
 use Rattle.index.proofs.find.past.Tie as tie
 

@@ -1,7 +1,6 @@
 -- The record that stands there, or none.
 use Rattle.index.specs.Keys.{roleAt}
-use mathlib.Core.Path.{sym, _∙_}
-use borrow.Author.Needs.{needs}
+use Rattle.wire.proofs.Kit.{sym, _∙_, needs}
 use Rattle.index.proofs.find.role_at.Statement.{statement}
 use Rattle.index.proofs.find.role_at.Tie as tie
 

@@ -1,6 +1,5 @@
 -- The order of the two says it.
-use mathlib.Core.Path.{sym, _∙_}
-use borrow.Author.Needs.{needs}
+use Rattle.wire.proofs.Kit.{sym, _∙_, needs}
 use Rattle.index.proofs.find.same.Statement.{statement}
 use Rattle.index.proofs.find.same.Tie as tie
 

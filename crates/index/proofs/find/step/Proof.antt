@@ -1,7 +1,6 @@
 -- The record opens, and then it is the last pair; or it does not.
 use Rattle.index.specs.Find.{stepOf}
-use mathlib.Core.Path.{sym, _∙_}
-use borrow.Author.Needs.{needs}
+use Rattle.wire.proofs.Kit.{sym, _∙_, needs}
 use Rattle.index.proofs.find.step.Statement.{statement}
 use Rattle.index.proofs.find.step.Tie as tie
 

@@ -3,11 +3,7 @@ use Rattle.index.proofs.Finding.{upper-left, upper-right, upper-done}
 use Rattle.index.proofs.Rows.{rows-get}
 use Rattle.index.specs.Find.{pastOf, upperOf}
 use Rattle.index.specs.Mark.{rows}
-use denote.Ref.{now}
-use native.Mathlib.Omega.{arith}
-use mathlib.Core.Path.{_≡_, refl, sym, _∙_}
-use Prim.Native.Nat.{ℕ, _+_, _-_, _/_, _≤_}
-use borrow.Author.Needs.{needs}
+use Rattle.wire.proofs.Kit.{now, arith, _≡_, refl, sym, _∙_, ℕ, _+_, _-_, _/_, _≤_, needs}
 use Rattle.index.proofs.find.upper.Statement.{statement}
 use Rattle.index.proofs.find.upper.Tie as tie
 

@@ -2,12 +2,7 @@
 use Rattle.index.proofs.Making.{root-fits}
 use Rattle.index.specs.Index.{keysOf}
 use Rattle.image.proofs.Pouring.{pour-then, pour-halt, pour-stop, pour-end}
-use borrow.Author.Tests.{le-leb, lt-leb}
-use denote.Ref.{now}
-use lib.ListN.{length}
-use native.Mathlib.Omega.{arith}
-use mathlib.Core.Path.{sym, _∙_}
-use borrow.Author.Needs.{needs}
+use Rattle.wire.proofs.Kit.{le-leb, lt-leb, now, length, arith, sym, _∙_, needs}
 use Rattle.index.proofs.make.gather.Statement.{statement}
 use Rattle.index.proofs.make.gather.Tie as tie
 

@@ -5,12 +5,7 @@ use Rattle.index.specs.Index.{keysOf, indexing}
 use Rattle.index.specs.declared.make.Indexing.{Indexing}
 use Rattle.image.specs.Out.{bytes as bytesOut}
 use Rattle.image.proofs.Pouring.{pour-onto}
-use denote.Ref.{now}
-use lib.ListN.{length}
-use native.Mathlib.Omega.{arith}
-use mathlib.Core.Path.{sym, ap, _∙_}
-use Prim.Native.Nat.{ℕ, _/_}
-use borrow.Author.Needs.{needs}
+use Rattle.wire.proofs.Kit.{now, length, arith, sym, ap, _∙_, ℕ, _/_, needs}
 use Rattle.index.proofs.make.make_index.Statement.{statement}
 use Rattle.index.proofs.make.make_index.Tie as tie
 

@@ -1,8 +1,7 @@
 -- A file, whose name is right or not, or one value.
 use Rattle.index.specs.Index.{rootOf}
 use Rattle.index.proofs.Others.{root-other}
-use mathlib.Core.Path.{sym, _∙_}
-use borrow.Author.Needs.{needs}
+use Rattle.wire.proofs.Kit.{sym, _∙_, needs}
 use Rattle.index.proofs.make.root.Statement.{statement}
 use Rattle.index.proofs.make.root.Tie as tie
 

@@ -1,12 +1,7 @@
 -- The bytes stand there, and turned round they are the number that they give.
 use Rattle.index.proofs.Rows.{bytes4, turned}
-use denote.Ref.{now}
-use lib.ListN.{getD}
-use mathlib.Core.Path.{sym, ap, _∙_}
+use Rattle.wire.proofs.Kit.{now, getD, sym, ap, _∙_, arith, ℕ, _+_, _<_, needs}
 use Rattle.wire.specs.Number.{number}
-use native.Mathlib.Omega.{arith}
-use Prim.Native.Nat.{ℕ, _+_, _<_}
-use borrow.Author.Needs.{needs}
 use Rattle.index.proofs.mark.load4.Statement.{statement}
 use Rattle.index.proofs.mark.load4.Tie as tie
 

@@ -1,10 +1,6 @@
 -- The four stores are a run.
 use Rattle.index.proofs.Rows.{stores}
-use denote.Ref.{now}
-use lib.ListN.{length-set}
-use native.Mathlib.Omega.{arith}
-use mathlib.Core.Path.{_∙_}
-use borrow.Author.Needs.{needs}
+use Rattle.wire.proofs.Kit.{now, length-set, arith, _∙_, needs}
 use Rattle.index.proofs.mark.put_mark.Statement.{statement}
 use Rattle.index.proofs.mark.put_mark.Tie as tie
 

@@ -1,9 +1,5 @@
 -- The four stores are a run.
-use native.Mathlib.Nat.{div-one}
-use native.Mathlib.Numerals.{towards-suc}
-use native.Mathlib.Omega.{arith}
-use lib.ListN.{length-set}
-use borrow.Author.Needs.{needs}
+use Rattle.wire.proofs.Kit.{div-one, towards-suc, arith, length-set, needs}
 use Rattle.index.proofs.mark.store4.Statement.{statement}
 use Rattle.index.proofs.mark.store4.Tie as tie
 

@@ -1,12 +1,7 @@
 -- Byte by byte, as long as they are the same.
-use Prim.Native.Nat.{_-_, _≤_}
-use mathlib.Core.Path.{_≡_, refl, sym, _∙_}
-use native.Mathlib.Omega.{arith}
-use lib.ListN.{length, drop}
-use denote.Ref.{now}
+use Rattle.wire.proofs.Kit.{_-_, _≤_, _≡_, refl, sym, _∙_, arith, length, drop, now, needs}
 use Rattle.index.specs.Order.{orderOf}
 use Rattle.index.proofs.Ordering.{order-over, order-under, order-ends, order-less, order-more, order-next}
-use borrow.Author.Needs.{needs}
 use Rattle.index.proofs.order.compare.Statement.{statement}
 use Rattle.index.proofs.order.compare.Tie as tie
 

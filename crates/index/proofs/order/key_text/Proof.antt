@@ -1,8 +1,6 @@
 -- A key's record stands there, or it is not whole, or it is another's, or none.
 use Rattle.index.proofs.Finding.{key-none, key-there, key-cut, key-other}
-use denote.Ref.{now}
-use mathlib.Core.Path.{sym, _∙_}
-use borrow.Author.Needs.{needs}
+use Rattle.wire.proofs.Kit.{now, sym, _∙_, needs}
 use Rattle.index.proofs.order.key_text.Statement.{statement}
 use Rattle.index.proofs.order.key_text.Tie as tie
 

@@ -1,7 +1,6 @@
 -- Each test that tells them apart, in the order of the ranks.
 use Rattle.index.proofs.Ordering.{by-container, by-key, by-place, by-value, by-depth}
-use denote.Ref.{now}
-use borrow.Author.Needs.{needs}
+use Rattle.wire.proofs.Kit.{now, needs}
 use Rattle.index.proofs.order.sooner.Statement.{statement}
 use Rattle.index.proofs.order.sooner.Tie as tie
 

@@ -1,6 +1,5 @@
 -- Each parent stands above.
-use native.Mathlib.Omega.{arith}
-use Prim.Native.Nat.{_<_}
+use Rattle.wire.proofs.Kit.{arith, _<_}
 use Rattle.index.proofs.sort.belongs.Statement.{statement}
 use Rattle.index.proofs.sort.belongs.Tie as tie
 

@@ -1,7 +1,5 @@
 -- Both marks stand there.
-use mathlib.Core.Path.{sym}
-use native.Mathlib.Omega.{arith}
-use borrow.Author.Needs.{needs}
+use Rattle.wire.proofs.Kit.{sym, arith, needs}
 use Rattle.index.proofs.sort.comes.Statement.{statement}
 use Rattle.index.proofs.sort.comes.Tie as tie
 

@@ -1,8 +1,6 @@
 -- The two stores exchange the two marks.
 use Rattle.index.proofs.Sorting.{mixed-exchange}
-use denote.Ref.{now}
-use native.Mathlib.Omega.{arith}
-use mathlib.Core.Path.{_∙_}
+use Rattle.wire.proofs.Kit.{now, arith, _∙_}
 use Rattle.index.proofs.sort.exchange.Statement.{statement}
 use Rattle.index.proofs.sort.exchange.Tie as tie
 

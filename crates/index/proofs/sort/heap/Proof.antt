@@ -1,10 +1,7 @@
 -- Exchanges alone.
 use Rattle.index.proofs.Sorting.{mixed-same, mixed-then}
 use Rattle.index.specs.Code.{Mixed}
-use lib.ListN.{length}
-use native.Mathlib.Omega.{arith}
-use mathlib.Core.Path.{_≡_, refl, _∙_}
-use Prim.Native.Nat.{_/_, _≤_}
+use Rattle.wire.proofs.Kit.{length, arith, _≡_, refl, _∙_, _/_, _≤_}
 use Rattle.index.proofs.sort.heap.Statement.{statement}
 use Rattle.index.proofs.sort.heap.Tie as tie
 

@@ -1,6 +1,5 @@
 -- Each child stands below, and inside the heap.
-use native.Mathlib.Omega.{arith}
-use Prim.Native.Nat.{_-_, _<_}
+use Rattle.wire.proofs.Kit.{arith, _-_, _<_}
 use Rattle.index.proofs.sort.leaf.Statement.{statement}
 use Rattle.index.proofs.sort.leaf.Tie as tie
 

@@ -2,10 +2,7 @@
 use Rattle.index.proofs.Sorting.{mixed-same, mixed-then}
 use Rattle.index.specs.Order.{before}
 use Rattle.index.specs.Code.{Passed}
-use lib.ListN.{length}
-use native.Mathlib.Omega.{arith}
-use mathlib.Core.Path.{_≡_, refl, _∙_}
-use Prim.Native.Nat.{_-_, _≤_}
+use Rattle.wire.proofs.Kit.{length, arith, _≡_, refl, _∙_, _-_, _≤_}
 use Rattle.index.proofs.sort.pass.Statement.{statement}
 use Rattle.index.proofs.sort.pass.Tie as tie
 

@@ -4,12 +4,7 @@ use Rattle.index.proofs.Sorting.{Sinking, sink-starts, sink-goes, sink-
 use Rattle.index.proofs.Rows.{length-rowsAt, rows-get, rows-set, drop-past}
 use Rattle.index.specs.Order.{before}
 use Rattle.index.specs.Mark.{rows, markBytes}
-use denote.Ref.{now}
-use lib.ListN.{length, drop}
-use native.Mathlib.Omega.{arith}
-use mathlib.Core.Path.{_≡_, refl, sym, _∙_}
-use Prim.Native.Nat.{_-_, _*_, _≤_}
-use borrow.Author.Needs.{needs}
+use Rattle.wire.proofs.Kit.{now, length, drop, arith, _≡_, refl, sym, _∙_, _-_, _*_, _≤_, needs}
 use Rattle.index.proofs.sort.sink.Statement.{statement}
 use Rattle.index.proofs.sort.sink.Tie as tie
 

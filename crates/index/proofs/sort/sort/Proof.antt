@@ -1,8 +1,7 @@
 -- The heap keeps the marks, and the pass puts them in order.
 use Rattle.index.proofs.Sorting.{mixed-then}
 use Rattle.index.proofs.Rows.{length-rowsAt}
-use native.Mathlib.Omega.{arith}
-use mathlib.Core.Path.{_∙_}
+use Rattle.wire.proofs.Kit.{arith, _∙_}
 use Rattle.index.proofs.sort.sort.Statement.{statement}
 use Rattle.index.proofs.sort.sort.Tie as tie
 

@@ -4,15 +4,7 @@ use Rattle.index.specs.Code.{Ready}
 use Rattle.index.specs.declared.walk.Ahead.the-variants as Ahead
 use Rattle.image.proofs.Pouring.{pour-then, pour-halt, pour-stop, pour-end}
 use Rattle.image.specs.Out.{pour}
-use borrow.Author.Needs.{needs}
-use denote.Ref.{now}
-use lib.ListN.{length}
-use native.Mathlib.Omega.{arith}
-use mathlib.Core.Bool.{true, false}
-use mathlib.Core.Path.{_≡_, refl, sym, _∙_}
-use Prim.Native.Nat.{ℕ, suc, _+_, _-_, _*_, _≤_, _<_}
-use borrow.Fn.Kinds.{In}
-use borrow.Fn.PlainCycle.{Measures, is, falls, and}
+use Rattle.wire.proofs.Kit.{needs, now, length, arith, true, false, _≡_, refl, sym, _∙_, ℕ, suc, _+_, _-_, _*_, _≤_, _<_, In, Measures, is, falls, and}
 use Rattle.index.proofs.walk.follow.Reads as follow
 use Rattle.index.proofs.walk.follow.Kinds as follow-kinds
 use Rattle.index.proofs.walk.+follow.Lts-follow as follow-lts

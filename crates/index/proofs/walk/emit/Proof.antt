@@ -1,10 +1,7 @@
 -- It has room, or it is not laid.
 use Rattle.index.specs.Mark.{markBytes}
 use Rattle.wire.proofs.Laws.{laid-room, laid-none}
-use denote.Ref.{now}
-use native.Mathlib.Omega.{arith}
-use mathlib.Core.Path.{sym, _∙_}
-use borrow.Author.Needs.{needs}
+use Rattle.wire.proofs.Kit.{now, arith, sym, _∙_, needs}
 use Rattle.index.proofs.walk.emit.Statement.{statement}
 use Rattle.index.proofs.walk.emit.Tie as tie
 

@@ -2,11 +2,7 @@
 use Rattle.index.proofs.Walking.{turn-reached, rest-stops, rest-ends, rest-value, rest-key, pour-mark}
 use Rattle.index.specs.Keys.{turnOf}
 use Rattle.index.specs.declared.walk.Coming.the-variants as Coming
-use denote.Ref.{now}
-use native.Mathlib.Omega.{arith}
-use mathlib.Core.Path.{_≡_, sym, _∙_}
-use Prim.Native.Nat.{_-_}
-use borrow.Author.Needs.{needs}
+use Rattle.wire.proofs.Kit.{now, arith, _≡_, sym, _∙_, _-_, needs}
 use Rattle.index.proofs.walk.go_on.Statement.{statement}
 use Rattle.index.proofs.walk.go_on.Tie as tie
 

@@ -1,8 +1,6 @@
 -- The text is inside, and then it is UTF-8 or not; or it is not inside.
 use Rattle.index.proofs.Walking.{named-inside}
-use denote.Ref.{now}
-use mathlib.Core.Path.{sym, _∙_}
-use borrow.Author.Needs.{needs}
+use Rattle.wire.proofs.Kit.{now, sym, _∙_, needs}
 use Rattle.index.proofs.walk.named.Statement.{statement}
 use Rattle.index.proofs.walk.named.Tie as tie
 

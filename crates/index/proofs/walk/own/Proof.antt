@@ -1,8 +1,7 @@
 -- A value's record, whose text is right or not, or another, or none.
 use Rattle.index.specs.Keys.{ownOf}
 use Rattle.index.proofs.Others.{own-other}
-use mathlib.Core.Path.{sym, _∙_}
-use borrow.Author.Needs.{needs}
+use Rattle.wire.proofs.Kit.{sym, _∙_, needs}
 use Rattle.index.proofs.walk.own.Statement.{statement}
 use Rattle.index.proofs.walk.own.Tie as tie
 

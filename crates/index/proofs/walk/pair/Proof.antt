@@ -1,8 +1,7 @@
 -- A key's record, whose text is right or not, the end's, which may stand there or not, or another, or none.
 use Rattle.index.specs.Keys.{pairAt}
 use Rattle.index.proofs.Others.{pair-other}
-use mathlib.Core.Path.{sym, _∙_}
-use borrow.Author.Needs.{needs}
+use Rattle.wire.proofs.Kit.{sym, _∙_, needs}
 use Rattle.index.proofs.walk.pair.Statement.{statement}
 use Rattle.index.proofs.walk.pair.Tie as tie
 

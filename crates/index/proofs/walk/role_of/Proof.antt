@@ -1,5 +1,5 @@
 -- Each record, by its line.
-use borrow.Author.Needs.{needs}
+use Rattle.wire.proofs.Kit.{needs}
 use Rattle.index.proofs.walk.role_of.Statement.{statement}
 use Rattle.index.proofs.walk.role_of.Tie as tie
 

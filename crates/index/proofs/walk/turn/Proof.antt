@@ -1,10 +1,6 @@
 -- By what is due.
 use Rattle.index.specs.Keys.{turnOf}
-use borrow.Author.Tests.{eq-eqb, ne-eqb, le-leb, lt-leb}
-use denote.Ref.{now}
-use lib.ListN.{length}
-use mathlib.Core.Path.{sym, _∙_}
-use borrow.Author.Needs.{needs}
+use Rattle.wire.proofs.Kit.{eq-eqb, ne-eqb, le-leb, lt-leb, now, length, sym, _∙_, needs}
 use Rattle.index.proofs.walk.turn.Statement.{statement}
 use Rattle.index.proofs.walk.turn.Tie as tie
 

@@ -1,7 +1,5 @@
 -- A file that is the whole input: what its reading comes to in the lent image, and no byte may be left.
-use mathlib.Core.Path.{refl, sym}
-use native.Mathlib.Omega.{arith}
-use borrow.Author.Needs.{needs}
+use Rattle.wire.proofs.Kit.{refl, sym, arith, needs}
 use Rattle.lso.proofs.Settle.{incomplete-ran}
 use Rattle.lso.proofs.Outcome.{whole-refused, whole-left, whole-used}
 use Rattle.lso.proofs.read.parse.Statement.{statement}

@@ -1,12 +1,5 @@
 -- The body's elements, one after another: the whole from the start is what is left from here, with some fuel that is enough.
-use Prim.Native.Nat.{ℕ, _+_, _-_, _≤_}
-use mathlib.Core.Path.{_≡_, refl, sym, _∙_}
-use mathlib.Core.Logic.{inl, inr}
-use native.Mathlib.Nat.{le-refl}
-use native.Mathlib.Omega.{arith}
-use lib.ListN.{length}
-use denote.Ref.{now}
-use borrow.Author.Needs.{needs}
+use Rattle.wire.proofs.Kit.{ℕ, _+_, _-_, _≤_, _≡_, refl, sym, _∙_, inl, inr, le-refl, arith, length, now, needs}
 use Rattle.image.proofs.Laws.{within-stop, within-next}
 use Rattle.lso.specs.Code.{runBody}
 use Rattle.lso.proofs.Laws.{body-next, body-ends, body-stops}

@@ -1,10 +1,5 @@
 -- An element carries out what its reading says: the key's record is laid, then the value's, and then a zero stands.
-use Prim.Native.Nat.{ℕ, _+_, _≤_}
-use mathlib.Core.Path.{_≡_, sym, _∙_}
-use native.Mathlib.Omega.{arith}
-use lib.ListN.{length}
-use denote.Ref.{now}
-use borrow.Author.Needs.{needs}
+use Rattle.wire.proofs.Kit.{ℕ, _+_, _≤_, _≡_, sym, _∙_, arith, length, now, needs}
 use Rattle.wire.specs.Limit.{levels}
 use Rattle.wire.proofs.Laws.{text-next, tag-next}
 use Rattle.image.specs.declared.record.Record.the-variants.{Key}

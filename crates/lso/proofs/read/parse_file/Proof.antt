@@ -1,7 +1,5 @@
 -- A file within the limit: its header, and then its body.
-use mathlib.Core.Path.{sym}
-use native.Mathlib.Omega.{arith}
-use borrow.Author.Needs.{needs}
+use Rattle.wire.proofs.Kit.{sym, arith, needs}
 use Rattle.image.proofs.Laws.{within, within-stop}
 use Rattle.lso.proofs.Laws.{file-over, file-stops, file-body}
 use Rattle.lso.proofs.read.parse_file.Statement.{statement}

@@ -1,9 +1,5 @@
 -- The header carries out what its reading says: field after field, and then its one record is laid.
-use mathlib.Core.Path.{_≡_, sym, _∙_}
-use native.Mathlib.Nat.{le-refl}
-use native.Mathlib.Omega.{arith}
-use denote.Ref.{now}
-use borrow.Author.Needs.{needs}
+use Rattle.wire.proofs.Kit.{_≡_, sym, _∙_, le-refl, arith, now, needs}
 use Rattle.wire.specs.declared.cursor.Tag.the-variants as Tag
 use Rattle.wire.specs.declared.cursor.U32.the-variants as U32
 use Rattle.wire.specs.declared.cursor.Text.the-variants as Text

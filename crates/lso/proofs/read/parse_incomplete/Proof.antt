@@ -1,6 +1,5 @@
 -- A file as far as it can be read: what that comes to in the lent image.
-use mathlib.Core.Path.{sym}
-use borrow.Author.Needs.{needs}
+use Rattle.wire.proofs.Kit.{sym, needs}
 use Rattle.lso.proofs.Settle.{incomplete-ran}
 use Rattle.lso.proofs.read.parse_incomplete.Statement.{statement}
 use Rattle.lso.proofs.read.parse_incomplete.Tie as tie

@@ -1,7 +1,5 @@
 -- Zeros, one field after another: the whole from the start is what is left from here.
-use mathlib.Core.Path.{_≡_, refl, sym, _∙_}
-use native.Mathlib.Omega.{arith}
-use borrow.Author.Needs.{needs}
+use Rattle.wire.proofs.Kit.{_≡_, refl, sym, _∙_, arith, needs}
 use Rattle.lso.specs.Reading.{zerosAt}
 use Rattle.lso.proofs.Laws.{zeros-done, zeros-stop, zeros-next}
 use Rattle.lso.proofs.read.zeros.Statement.{statement}

@@ -1,5 +1,5 @@
 -- Each record as its part in a file.
-use borrow.Author.Needs.{needs}
+use Rattle.wire.proofs.Kit.{needs}
 use Rattle.lso.proofs.write.part_of.Statement.{statement}
 use Rattle.lso.proofs.write.part_of.Tie as tie
 

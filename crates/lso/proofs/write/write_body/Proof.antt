@@ -1,15 +1,10 @@
 -- The whole from the start is what is left from here; each element takes bytes of the image.
-use Prim.Native.Nat.{ℕ, _+_, _-_, _*_, _≤_}
-use mathlib.Core.Path.{_≡_, refl, sym, _∙_}
-use native.Mathlib.Omega.{arith}
-use lib.ListN.{length}
-use denote.Ref.{now}
+use Rattle.wire.proofs.Kit.{ℕ, _+_, _-_, _*_, _≤_, _≡_, refl, sym, _∙_, arith, length, now, needs}
 use Rattle.image.specs.Out.{pour}
 use Rattle.image.proofs.Pouring.{pour-then, pour-halt, pour-end}
 use Rattle.amf0.specs.Code.{growth}
 use Rattle.lso.specs.Writing.{element, body}
 use Rattle.lso.proofs.Putting.{body-done, body-more}
-use borrow.Author.Needs.{needs}
 use Rattle.lso.proofs.write.write_body.Statement.{statement}
 use Rattle.lso.proofs.write.write_body.Tie as tie
 

@@ -1,10 +1,5 @@
 -- A key, its value and a zero: what each puts out, and where the next goes on.
-use Prim.Native.Nat.{ℕ, _+_, _*_, _≤_}
-use mathlib.Core.Path.{_≡_, sym, ap, _∙_}
-use mathlib.Core.List.{List}
-use native.Mathlib.Omega.{arith}
-use lib.ListN.{length}
-use denote.Ref.{now}
+use Rattle.wire.proofs.Kit.{ℕ, _+_, _*_, _≤_, _≡_, sym, ap, _∙_, List, arith, length, now, needs}
 use Rattle.wire.specs.Limit as limit
 use Rattle.image.specs.Taking.{recordAt}
 use Rattle.image.specs.Out.{Out, end, row, pour}
@@ -15,7 +10,6 @@ use Rattle.amf0.proofs.Putting.{ahead-stop, ahead-grown, in-value}
 use Rattle.lso.specs.Code.{keyOf}
 use Rattle.lso.specs.Writing.{element}
 use Rattle.lso.proofs.Putting.{padding, padded, element-key}
-use borrow.Author.Needs.{needs}
 use Rattle.lso.proofs.write.write_element.Statement.{statement}
 use Rattle.lso.proofs.write.write_element.Tie as tie
 

@@ -1,16 +1,11 @@
 -- The header, and then the elements, from the record behind its own on.
-use Prim.Native.Nat.{_≤_}
-use mathlib.Core.Path.{_≡_, sym, _∙_}
-use native.Mathlib.Omega.{arith}
-use lib.ListN.{length}
-use denote.Ref.{now}
+use Rattle.wire.proofs.Kit.{_≤_, _≡_, sym, _∙_, arith, length, now, needs}
 use Rattle.image.specs.Out.{end}
 use Rattle.image.proofs.Pouring.{pour-then, pour-halt, pour-stop}
 use Rattle.amf0.proofs.Putting.{past}
 use Rattle.lso.specs.declared.write.Part.{Part}
 use Rattle.lso.specs.Writing.{header, body, file}
 use Rattle.lso.proofs.Putting.{filing, file-bad, file-parted, header-bind}
-use borrow.Author.Needs.{needs}
 use Rattle.lso.proofs.write.write_file.Statement.{statement}
 use Rattle.lso.proofs.write.write_file.Tie as tie
 

@@ -1,15 +1,10 @@
 -- The rows of the header, one behind the other.
-use Prim.Native.Nat.{ℕ, _+_, _*_, _≤_}
-use mathlib.Core.Path.{_≡_, sym, ap, _∙_}
-use native.Mathlib.Omega.{arith}
-use lib.ListN.{length}
-use denote.Ref.{now}
+use Rattle.wire.proofs.Kit.{ℕ, _+_, _*_, _≤_, _≡_, sym, ap, _∙_, arith, length, now, needs}
 use Rattle.image.specs.Out.{Out, end, row, pour}
 use Rattle.image.proofs.Pouring.{grown-stop, row-in, row-then, row-halt}
 use Rattle.amf0.proofs.Putting.{grown}
 use Rattle.lso.specs.Writing.{header}
 use Rattle.lso.proofs.Putting.{opening, naming, closing}
-use borrow.Author.Needs.{needs}
 use Rattle.lso.proofs.write.write_header.Statement.{statement}
 use Rattle.lso.proofs.write.write_header.Tie as tie
 

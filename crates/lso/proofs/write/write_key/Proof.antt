@@ -1,7 +1,5 @@
 -- A key's record is put out as a short text; any other is refused.
-use mathlib.Core.Path.{_≡_, sym, _∙_}
-use native.Mathlib.Omega.{arith}
-use denote.Ref.{now}
+use Rattle.wire.proofs.Kit.{_≡_, sym, _∙_, arith, now, needs}
 use Rattle.image.specs.declared.record.Record.the-variants.{Key}
 use Rattle.image.specs.declared.taking.Taken.the-variants.{Found, Bad}
 use Rattle.image.specs.Taking.{recordAt, bodyAt, short}
@@ -9,7 +7,6 @@ use Rattle.image.proofs.Pouring.{pour-stop, row-in}
 use Rattle.amf0.proofs.Putting.{ahead-stop, ahead-grown, past}
 use Rattle.amf0.proofs.Begun.{record-body, record-none}
 use Rattle.lso.proofs.Putting.{keying, key-other}
-use borrow.Author.Needs.{needs}
 use Rattle.lso.proofs.write.write_key.Statement.{statement}
 use Rattle.lso.proofs.write.write_key.Tie as tie
 

@@ -1,13 +1,8 @@
 -- The first pass, on no output, tells what the call comes to and the length; the second puts it out.
-use mathlib.Core.Path.{refl, ap, _∙_}
-use mathlib.Core.List.{[]}
-use native.Mathlib.Omega.{arith}
-use lib.ListN.{length}
-use denote.Ref.{now}
+use Rattle.wire.proofs.Kit.{refl, ap, _∙_, [], arith, length, now, needs}
 use Rattle.image.proofs.Pouring.{no-room, pour-onto}
 use Rattle.lso.specs.Writing.{file, lengthOf}
 use Rattle.lso.proofs.Putting.{write-text, write-image, write-halt, write-over, write-full, write-fits, write-size, write-fixed}
-use borrow.Author.Needs.{needs}
 use Rattle.lso.proofs.write.write_to_bytes.Statement.{statement}
 use Rattle.lso.proofs.write.write_to_bytes.Tie as tie
 

@@ -1,8 +1,5 @@
 -- An entry a turn; the image keeps its length.
-use Prim.Native.Nat.{_-_, _≤_}
-use mathlib.Core.Path.{_≡_}
-use lib.ListN.{length}
-use borrow.Author.Needs.{needs}
+use Rattle.wire.proofs.Kit.{_-_, _≤_, _≡_, length, needs}
 use Rattle.lso_show.proofs.entries.entries.Statement.{statement}
 use Rattle.lso_show.proofs.entries.entries.Tie as tie
 

@@ -1,9 +1,5 @@
 -- The part of the buffer is as long as it is asked for.
-use native.Mathlib.Omega.{arith}
-use mathlib.Core.Path.{sym}
-use lib.Seq.{length-take-le}
-use borrow.Author.Needs.{needs}
-use borrow.Author.Needs.{needs}
+use Rattle.wire.proofs.Kit.{arith, sym, length-take-le, needs, needs}
 use Rattle.lso_show.proofs.entries.value.Statement.{statement}
 use Rattle.lso_show.proofs.entries.value.Tie as tie
 

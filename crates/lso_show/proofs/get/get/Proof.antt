@@ -1,7 +1,5 @@
 -- The buffer is as long as it is declared.
-use Prim.Native.Nat.{ℕ}
-use mathlib.Core.Path.{_≡_, sym}
-use lib.ListN.{length, replicate, length-replicate}
+use Rattle.wire.proofs.Kit.{ℕ, _≡_, sym, length, replicate, length-replicate}
 use Rattle.lso_show.proofs.get.get.Statement.{statement}
 use Rattle.lso_show.proofs.get.get.Tie as tie
 

@@ -1,6 +1,5 @@
 -- A key a turn, up to the last argument.
-use Prim.Native.Nat.{_-_}
-use borrow.Author.Needs.{needs}
+use Rattle.wire.proofs.Kit.{_-_, needs}
 use Rattle.lso_show.proofs.get.way.Statement.{statement}
 use Rattle.lso_show.proofs.get.way.Tie as tie
 

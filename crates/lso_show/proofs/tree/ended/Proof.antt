@@ -1,5 +1,5 @@
 -- The depth falls with each array that ends.
-use borrow.Author.Needs.{needs}
+use Rattle.wire.proofs.Kit.{needs}
 use Rattle.lso_show.proofs.tree.ended.Statement.{statement}
 use Rattle.lso_show.proofs.tree.ended.Tie as tie
 

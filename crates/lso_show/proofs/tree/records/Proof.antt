@@ -1,5 +1,5 @@
 -- A record a turn, and no more turns than the image has bytes.
-use borrow.Author.Needs.{needs}
+use Rattle.wire.proofs.Kit.{needs}
 use Rattle.lso_show.proofs.tree.records.Statement.{statement}
 use Rattle.lso_show.proofs.tree.records.Tie as tie
 

@@ -1,12 +1,7 @@
 -- `clear` meets its contract: each turn stores one zero entry more. `Lts` and `Tie` are made, see docs/DECISIONS.md.
 mod Lts
 mod Tie
-use Prim.Native.Nat.{_-_}
-use mathlib.Core.Path.{_≡_, refl, sym, _∙_}
-use mathlib.Core.List.{_++_}
-use native.Mathlib.Omega.{arith}
-use lib.ListN.{length, take, replicate, length-set}
-use borrow.Author.Needs.{needs}
+use Rattle.wire.proofs.Kit.{_-_, _≡_, refl, sym, _∙_, _++_, arith, length, take, replicate, length-set, needs}
 use Rattle.image.proofs.Laws.{clear-all}
 use Rattle.packet.specs.Entry.{noEntry}
 use Rattle.packet.proofs.Laws.{zeros-more}

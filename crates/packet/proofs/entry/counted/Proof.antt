@@ -1,9 +1,7 @@
 -- `counted` meets its contract: where an entry is left, the list is too short, unless the cut is refused.
-use mathlib.Core.Path.{sym, _∙_}
-use denote.Ref.{now}
+use Rattle.wire.proofs.Kit.{sym, _∙_, now, needs}
 use Rattle.packet.specs.Code.{restOf}
 use Rattle.packet.proofs.Laws.{counted-stop, counted-over, end-never}
-use borrow.Author.Needs.{needs}
 use Rattle.packet.proofs.entry.counted.Statement.{statement}
 use Rattle.packet.proofs.entry.counted.Tie as tie
 

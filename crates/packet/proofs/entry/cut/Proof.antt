@@ -2,12 +2,7 @@
 -- docs/DECISIONS.md.
 mod Lts
 mod Tie
-use Prim.Native.Nat.{_-_, _≤_, _<_}
-use mathlib.Core.Path.{_≡_, refl, sym, _∙_}
-use mathlib.Core.Bool.{true}
-use native.Mathlib.Omega.{arith}
-use lib.ListN.{length, take, length-set}
-use borrow.Author.Needs.{needs}
+use Rattle.wire.proofs.Kit.{_-_, _≤_, _<_, _≡_, refl, sym, _∙_, true, arith, length, take, length-set, needs}
 use Rattle.packet.specs.Entry.{cutOf, listOf}
 use Rattle.packet.specs.Code.{goesOn, restOf, aheads}
 use Rattle.packet.proofs.Laws.{below-true, aheads-none, aheads-more, rest-short, listing}

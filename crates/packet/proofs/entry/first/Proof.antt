@@ -1,9 +1,7 @@
 -- `first` meets its contract: the entry is read, and then the walk goes on to the packet's end.
-use mathlib.Core.Path.{sym, _∙_}
-use denote.Ref.{now}
+use Rattle.wire.proofs.Kit.{sym, _∙_, now, needs}
 use Rattle.packet.specs.Code.{restOf}
 use Rattle.packet.proofs.Laws.{first-ahead, first-stop, end-never}
-use borrow.Author.Needs.{needs}
 use Rattle.packet.proofs.entry.first.Statement.{statement}
 use Rattle.packet.proofs.entry.first.Tie as tie
 

@@ -1,7 +1,5 @@
 -- `judged` meets its contract.
-use native.Mathlib.Omega.{arith}
-use borrow.Author.Tests.{eq-eqb, ne-eqb, le-leb, lt-leb}
-use borrow.Author.Needs.{needs}
+use Rattle.wire.proofs.Kit.{arith, eq-eqb, ne-eqb, le-leb, lt-leb, needs}
 use Rattle.packet.proofs.entry.judged.Statement.{statement}
 use Rattle.packet.proofs.entry.judged.Tie as tie
 

@@ -1,9 +1,7 @@
 -- `nth` meets its contract: the cut goes over the whole packet.
-use mathlib.Core.Path.{_∙_}
-use denote.Ref.{now}
+use Rattle.wire.proofs.Kit.{_∙_, now, needs}
 use Rattle.packet.specs.Entry.{cutOf}
 use Rattle.packet.proofs.Laws.{first-found}
-use borrow.Author.Needs.{needs}
 use Rattle.packet.proofs.entry.nth.Statement.{statement}
 use Rattle.packet.proofs.entry.nth.Tie as tie
 

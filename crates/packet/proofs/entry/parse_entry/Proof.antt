@@ -1,10 +1,7 @@
 -- `parse_entry` meets its contract: the span of the entry that was found is read.
-use mathlib.Core.Path.{sym, _∙_}
-use lib.ListN.{length}
-use denote.Ref.{now}
+use Rattle.wire.proofs.Kit.{sym, _∙_, length, now, needs}
 use Rattle.packet.specs.Entry.{cutOf, readEntry}
 use Rattle.packet.proofs.Laws.{cut-told, entry-none, entry-chosen, span-read}
-use borrow.Author.Needs.{needs}
 use Rattle.packet.proofs.entry.parse_entry.Statement.{statement}
 use Rattle.packet.proofs.entry.parse_entry.Tie as tie
 

@@ -1,17 +1,10 @@
 -- `parse_span` meets its contract: the value reader on the bytes of the span, its step judged.
-use Prim.Native.Nat.{_+_, _≤_}
-use mathlib.Core.Path.{sym, ap, _∙_}
-use native.Mathlib.Nat.{add-sub-cancel-left}
-use native.Mathlib.Omega.{arith}
-use lib.ListN.{length, length-take, length-drop}
-use denote.Ref.{now}
-use borrow.Author.Tests.{leb-true}
+use Rattle.wire.proofs.Kit.{_+_, _≤_, sym, ap, _∙_, add-sub-cancel-left, arith, length, length-take, length-drop, now, leb-true, needs}
 use Rattle.wire.specs.Limit.{bytes}
 use Rattle.image.specs.declared.reading.Step.{Step}
 use Rattle.image.specs.Whole.{finished}
 use Rattle.packet.specs.Head.{entry}
 use Rattle.packet.proofs.Laws.{entry-read, span-read, span-over, span-out}
-use borrow.Author.Needs.{needs}
 use Rattle.packet.proofs.entry.parse_span.Statement.{statement}
 use Rattle.packet.proofs.entry.parse_span.Tie as tie
 

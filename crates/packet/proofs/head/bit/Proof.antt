@@ -1,5 +1,5 @@
 -- `bit` meets its contract: 1 for a byte that is not 0.
-use borrow.Author.Tests.{lt-ltb, le-ltb}
+use Rattle.wire.proofs.Kit.{lt-ltb, le-ltb}
 use Rattle.packet.proofs.head.bit.Statement.{statement}
 use Rattle.packet.proofs.head.bit.Tie as tie
 

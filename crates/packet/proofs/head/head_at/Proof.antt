@@ -1,6 +1,5 @@
 -- `head_at` meets its contract: a header, or else a message.
-use borrow.Author.Tests.{eq-eqb, ne-eqb}
-use borrow.Author.Needs.{needs}
+use Rattle.wire.proofs.Kit.{eq-eqb, ne-eqb, needs}
 use Rattle.packet.proofs.head.head_at.Statement.{statement}
 use Rattle.packet.proofs.head.head_at.Tie as tie
 

@@ -1,7 +1,6 @@
 -- `header` meets its contract, field by field.
-use mathlib.Core.Path.{sym, _∙_}
+use Rattle.wire.proofs.Kit.{sym, _∙_, needs}
 use Rattle.packet.specs.Head.{headerAt}
-use borrow.Author.Needs.{needs}
 use Rattle.packet.proofs.head.header.Statement.{statement}
 use Rattle.packet.proofs.head.header.Tie as tie
 

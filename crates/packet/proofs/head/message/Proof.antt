@@ -1,7 +1,6 @@
 -- `message` meets its contract, field by field.
-use mathlib.Core.Path.{sym, _∙_}
+use Rattle.wire.proofs.Kit.{sym, _∙_, needs}
 use Rattle.packet.specs.Head.{messageAt}
-use borrow.Author.Needs.{needs}
 use Rattle.packet.proofs.head.message.Statement.{statement}
 use Rattle.packet.proofs.head.message.Tie as tie
 

@@ -1,8 +1,6 @@
 -- `version` meets its contract: a zero and the version, each a field of its own.
-use mathlib.Core.Path.{sym, _∙_}
-use borrow.Author.Tests.{ne-eqb}
+use Rattle.wire.proofs.Kit.{sym, _∙_, ne-eqb, needs}
 use Rattle.packet.specs.Head.{versionAt}
-use borrow.Author.Needs.{needs}
 use Rattle.packet.proofs.head.version.Statement.{statement}
 use Rattle.packet.proofs.head.version.Tie as tie
 

@@ -1,8 +1,6 @@
 -- `parse` meets its contract: bytes left over are refused after everything else.
-use mathlib.Core.Path.{sym}
-use denote.Ref.{now}
+use Rattle.wire.proofs.Kit.{sym, now, needs}
 use Rattle.packet.proofs.Packing.{whole-stop, whole-more, whole-all}
-use borrow.Author.Needs.{needs}
 use Rattle.packet.proofs.read.parse.Statement.{statement}
 use Rattle.packet.proofs.read.parse.Tie as tie
 

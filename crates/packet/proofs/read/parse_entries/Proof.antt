@@ -1,10 +1,5 @@
 -- `parse_entries` meets its contract. The invariant: the whole reading from the start is what is left from here.
-use Prim.Native.Nat.{ℕ, _-_, _≤_}
-use mathlib.Core.Path.{_≡_, refl, sym, _∙_}
-use native.Mathlib.Nat.{le-refl}
-use native.Mathlib.Omega.{arith}
-use lib.ListN.{length}
-use denote.Ref.{now}
+use Rattle.wire.proofs.Kit.{ℕ, _-_, _≤_, _≡_, refl, sym, _∙_, le-refl, arith, length, now, needs}
 use Rattle.wire.specs.Limit.{levels}
 use Rattle.image.specs.Due.{Due, end, due, _>>=_, run}
 use Rattle.image.proofs.Laws.{run-then, run-halt, run-stop, run-end, within-stop, within-next}
@@ -12,7 +7,6 @@ use Rattle.amf0.specs.Reading.{value}
 use Rattle.packet.specs.Reading.{recordOf, entriesAt}
 use Rattle.packet.proofs.Laws.{head-begun}
 use Rattle.packet.proofs.Packing.{value-read, entries-done, entries-cut, entries-more}
-use borrow.Author.Needs.{needs}
 use Rattle.packet.proofs.read.parse_entries.Statement.{statement}
 use Rattle.packet.proofs.read.parse_entries.Tie as tie
 

@@ -1,8 +1,6 @@
 -- `parse_incomplete` meets its contract: what the packet's reading comes to in the lent image.
-use mathlib.Core.Path.{sym}
-use denote.Ref.{now}
+use Rattle.wire.proofs.Kit.{sym, now, needs}
 use Rattle.packet.proofs.Packing.{packed-finished}
-use borrow.Author.Needs.{needs}
 use Rattle.packet.proofs.read.parse_incomplete.Statement.{statement}
 use Rattle.packet.proofs.read.parse_incomplete.Tie as tie
 

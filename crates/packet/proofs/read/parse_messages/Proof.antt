@@ -1,10 +1,7 @@
 -- `parse_messages` meets its contract: the count is set in the record, and then the messages are read.
-use mathlib.Core.Path.{sym, _∙_}
-use native.Mathlib.Omega.{arith}
-use denote.Ref.{now}
+use Rattle.wire.proofs.Kit.{sym, _∙_, arith, now, needs}
 use Rattle.wire.proofs.Laws.{u16-next, stored-room}
 use Rattle.image.proofs.Laws.{within, within-stop}
-use borrow.Author.Needs.{needs}
 use Rattle.packet.proofs.read.parse_messages.Statement.{statement}
 use Rattle.packet.proofs.read.parse_messages.Tie as tie
 

@@ -1,11 +1,5 @@
 -- `parse_packet` meets its contract: the packet's record is laid with no count of messages, and has it where the messages are read.
-use Prim.Native.Nat.{ℕ, _≤_}
-use mathlib.Core.Path.{_≡_, sym, _∙_}
-use native.Mathlib.Nat.{le-refl}
-use native.Mathlib.Omega.{arith}
-use lib.ListN.{length}
-use denote.Ref.{now}
-use borrow.Author.Tests.{le-leb, lt-leb}
+use Rattle.wire.proofs.Kit.{ℕ, _≤_, _≡_, sym, _∙_, le-refl, arith, length, now, le-leb, lt-leb, needs}
 use Rattle.wire.specs.declared.cursor.U16.the-variants as U16
 use Rattle.wire.specs.declared.cursor.Tag.the-variants as Tag
 use Rattle.wire.specs.Limit.{bytes}
@@ -19,7 +13,6 @@ use Rattle.image.proofs.Laws.{run-then, run-halt, within, within-stop}
 use Rattle.packet.specs.Head.{versionAt}
 use Rattle.packet.specs.Reading.{entriesAt, packetAt}
 use Rattle.packet.proofs.Packing.{messagesAt, uncounted, run-next, packed-none, packed-stop, packed-messages}
-use borrow.Author.Needs.{needs}
 use Rattle.packet.proofs.read.parse_packet.Statement.{statement}
 use Rattle.packet.proofs.read.parse_packet.Tie as tie
 

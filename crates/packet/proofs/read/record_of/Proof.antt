@@ -1,5 +1,5 @@
 -- `record_of` meets its contract.
-use borrow.Author.Tests.{eq-eqb, ne-eqb}
+use Rattle.wire.proofs.Kit.{eq-eqb, ne-eqb}
 use Rattle.packet.proofs.read.record_of.Statement.{statement}
 use Rattle.packet.proofs.read.record_of.Tie as tie
 

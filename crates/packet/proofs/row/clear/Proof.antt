@@ -1,10 +1,5 @@
 -- `clear` meets its contract: each turn stores one zero more.
-use Prim.Native.Nat.{_-_}
-use mathlib.Core.Path.{_≡_, refl, sym, _∙_}
-use mathlib.Core.List.{_++_}
-use native.Mathlib.Omega.{arith}
-use lib.ListN.{length, take, replicate, length-set}
-use borrow.Author.Needs.{needs}
+use Rattle.wire.proofs.Kit.{_-_, _≡_, refl, sym, _∙_, _++_, arith, length, take, replicate, length-set, needs}
 use Rattle.image.proofs.Laws.{clear-more, clear-all}
 use Rattle.packet.proofs.row.clear.Statement.{statement}
 use Rattle.packet.proofs.row.clear.Tie as tie

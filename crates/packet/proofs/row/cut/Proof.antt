@@ -1,12 +1,5 @@
 -- `cut` meets its contract. The invariant: the whole cut is the entries whose numbers are in the row, and then what is left from here.
-use Prim.Native.Nat.{_+_, _*_, _-_, _/_, _≤_, _<_}
-use mathlib.Core.Path.{_≡_, refl, sym, ap, _∙_}
-use mathlib.Core.Bool.{true}
-use native.Mathlib.Omega.{arith}
-use lib.ListN.{length}
-use lib.Seq.{length-sets}
-use denote.Ref.{now}
-use borrow.Author.Needs.{needs}
+use Rattle.wire.proofs.Kit.{_+_, _*_, _-_, _/_, _≤_, _<_, _≡_, refl, sym, ap, _∙_, true, arith, length, length-sets, now, needs}
 use Rattle.packet.specs.declared.entry.Cutting.{Cutting}
 use Rattle.packet.specs.Entry.{cutOf, listOf}
 use Rattle.packet.specs.Code.{goesOn, restOf}

@@ -1,8 +1,5 @@
 -- `put` meets its contract: the eight stores.
-use native.Mathlib.Numerals.{towards-suc}
-use native.Mathlib.Omega.{arith}
-use lib.ListN.{length-set}
-use borrow.Author.Needs.{needs}
+use Rattle.wire.proofs.Kit.{towards-suc, arith, length-set, needs}
 use Rattle.packet.proofs.row.put.Statement.{statement}
 use Rattle.packet.proofs.row.put.Tie as tie
 

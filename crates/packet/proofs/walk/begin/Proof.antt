@@ -1,11 +1,7 @@
 -- `begin` meets its contract: what is left at the first entry is the whole cut.
-use mathlib.Core.Path.{sym, _∙_}
-use lib.ListN.{length}
-use denote.Ref.{now}
-use borrow.Author.Tests.{le-leb, lt-leb}
+use Rattle.wire.proofs.Kit.{sym, _∙_, length, now, le-leb, lt-leb, needs}
 use Rattle.wire.specs.Limit.{bytes}
 use Rattle.packet.specs.Entry.{cutOf}
-use borrow.Author.Needs.{needs}
 use Rattle.packet.proofs.walk.begin.Statement.{statement}
 use Rattle.packet.proofs.walk.begin.Tie as tie
 

@@ -1,6 +1,5 @@
 -- `below` meets its contract.
-use borrow.Author.Tests.{lt-ltb, le-ltb}
-use borrow.Author.Needs.{needs}
+use Rattle.wire.proofs.Kit.{lt-ltb, le-ltb, needs}
 use Rattle.packet.proofs.walk.below.Statement.{statement}
 use Rattle.packet.proofs.walk.below.Tie as tie
 

@@ -1,6 +1,5 @@
 -- `end` meets its contract.
-use native.Mathlib.Omega.{arith}
-use borrow.Author.Tests.{le-leb, lt-leb}
+use Rattle.wire.proofs.Kit.{arith, le-leb, lt-leb}
 use Rattle.packet.proofs.walk.end.Statement.{statement}
 use Rattle.packet.proofs.walk.end.Tie as tie
 

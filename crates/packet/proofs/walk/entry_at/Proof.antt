@@ -1,9 +1,6 @@
 -- `entry_at` meets its contract: the head, and the end of the value by the length that it declares.
-use mathlib.Core.Path.{sym, _∙_}
-use native.Mathlib.Omega.{arith}
-use denote.Ref.{now}
+use Rattle.wire.proofs.Kit.{sym, _∙_, arith, now, needs}
 use Rattle.packet.proofs.Laws.{head-begun, entry-cut, entry-fits, entry-over}
-use borrow.Author.Needs.{needs}
 use Rattle.packet.proofs.walk.entry_at.Statement.{statement}
 use Rattle.packet.proofs.walk.entry_at.Tie as tie
 

@@ -1,10 +1,7 @@
 -- `messages` meets its contract: the count of messages, and the first of them or the packet's end.
-use mathlib.Core.Path.{sym, _∙_}
-use native.Mathlib.Omega.{arith}
-use denote.Ref.{now}
+use Rattle.wire.proofs.Kit.{sym, _∙_, arith, now, needs}
 use Rattle.wire.proofs.Laws.{u16-next}
 use Rattle.packet.proofs.Laws.{one-more, walk-none}
-use borrow.Author.Needs.{needs}
 use Rattle.packet.proofs.walk.messages.Statement.{statement}
 use Rattle.packet.proofs.walk.messages.Tie as tie
 

@@ -1,10 +1,6 @@
 -- `onward` meets its contract: the next entry, or what comes behind the last.
-use mathlib.Core.Path.{sym, _∙_}
-use native.Mathlib.Omega.{arith}
-use denote.Ref.{now}
-use borrow.Author.Tests.{ne-eqb}
+use Rattle.wire.proofs.Kit.{sym, _∙_, arith, now, ne-eqb, needs}
 use Rattle.packet.proofs.Laws.{one-more, walk-none}
-use borrow.Author.Needs.{needs}
 use Rattle.packet.proofs.walk.onward.Statement.{statement}
 use Rattle.packet.proofs.walk.onward.Tie as tie
 

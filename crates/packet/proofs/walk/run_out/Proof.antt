@@ -1,9 +1,7 @@
 -- `run_out` meets its contract. The invariant: the walk from here ends as the whole of it.
-use mathlib.Core.Path.{_≡_, refl, sym, _∙_}
-use denote.Ref.{now}
+use Rattle.wire.proofs.Kit.{_≡_, refl, sym, _∙_, now, needs}
 use Rattle.packet.specs.Code.{restOf, leftOf, endOf}
 use Rattle.packet.proofs.Laws.{rest-ended, end-ahead}
-use borrow.Author.Needs.{needs}
 use Rattle.packet.proofs.walk.run_out.Statement.{statement}
 use Rattle.packet.proofs.walk.run_out.Tie as tie
 

@@ -1,12 +1,7 @@
 -- `skip` meets its contract. The invariant: what is to be left of the cut is what is to be left from here.
-use Prim.Native.Nat.{_+_, _-_, _≤_}
-use mathlib.Core.Path.{_≡_, sym, _∙_}
-use native.Mathlib.Nat.{sub-zero}
-use native.Mathlib.Omega.{arith}
-use denote.Ref.{now}
+use Rattle.wire.proofs.Kit.{_+_, _-_, _≤_, _≡_, sym, _∙_, sub-zero, arith, now, needs}
 use Rattle.packet.specs.Code.{restOf, without}
 use Rattle.packet.proofs.Laws.{below-true, without-more, without-done}
-use borrow.Author.Needs.{needs}
 use Rattle.packet.proofs.walk.skip.Statement.{statement}
 use Rattle.packet.proofs.walk.skip.Tie as tie
 

@@ -1,9 +1,6 @@
 -- `step` meets its contract: an entry is read, and what is left comes behind it.
-use mathlib.Core.Path.{sym, _∙_}
-use native.Mathlib.Omega.{arith}
-use denote.Ref.{now}
+use Rattle.wire.proofs.Kit.{sym, _∙_, arith, now, needs}
 use Rattle.packet.proofs.Laws.{entry-spanned, rest-stop, rest-more, not-going}
-use borrow.Author.Needs.{needs}
 use Rattle.packet.proofs.walk.step.Statement.{statement}
 use Rattle.packet.proofs.walk.step.Tie as tie
 

@@ -1,5 +1,5 @@
 -- Each record as its part in a packet.
-use borrow.Author.Needs.{needs}
+use Rattle.wire.proofs.Kit.{needs}
 use Rattle.packet.proofs.write.part_of.Statement.{statement}
 use Rattle.packet.proofs.write.part_of.Tie as tie
 

@@ -1,17 +1,11 @@
 -- The whole from the start is what is left from here.
-use Prim.Native.Nat.{_+_, _-_, _*_, _≤_}
-use mathlib.Core.Path.{_≡_, refl, sym, ap, _∙_}
-use native.Mathlib.Nat.{le-refl}
-use native.Mathlib.Omega.{arith}
-use lib.ListN.{length}
-use denote.Ref.{now}
+use Rattle.wire.proofs.Kit.{_+_, _-_, _*_, _≤_, _≡_, refl, sym, ap, _∙_, le-refl, arith, length, now, needs}
 use Rattle.image.specs.Out.{Out, Poured, pour}
 use Rattle.image.proofs.Pouring.{pour-then, pour-halt, pour-end}
 use Rattle.amf0.specs.Code.{growth}
 use Rattle.amf0.proofs.Putting.{ahead-stop, ahead-next}
 use Rattle.packet.specs.Writing.{entry, entries}
 use Rattle.packet.proofs.Putting.{carried, carried-stop, went-on, halted, entries-done, entries-entry}
-use borrow.Author.Needs.{needs}
 use Rattle.packet.proofs.write.write_entries.Statement.{statement}
 use Rattle.packet.proofs.write.write_entries.Tie as tie
 

@@ -1,10 +1,5 @@
 -- The label, a length and the value; where lengths are exact, the length is set behind the value.
-use Prim.Native.Nat.{ℕ, _+_, _-_, _*_, _≤_}
-use mathlib.Core.Path.{_≡_, sym, ap, _∙_}
-use mathlib.Core.List.{List}
-use native.Mathlib.Omega.{arith}
-use lib.ListN.{length}
-use denote.Ref.{now}
+use Rattle.wire.proofs.Kit.{ℕ, _+_, _-_, _*_, _≤_, _≡_, sym, ap, _∙_, List, arith, length, now, needs}
 use Rattle.wire.specs.Limit as limit
 use Rattle.image.specs.declared.reading.Step.the-variants.{Next}
 use Rattle.image.specs.Out.{Out, row, Poured, poured, pour, bytes as bytesOut}
@@ -14,7 +9,6 @@ use Rattle.amf0.specs.Writing.{value, valueIn}
 use Rattle.amf0.proofs.Putting.{ahead-stop, ahead-next, in-value}
 use Rattle.packet.specs.Writing.{label, entry}
 use Rattle.packet.proofs.Putting.{carried, carried-stop, sizing, size-set, size-step, following, entry-labelled}
-use borrow.Author.Needs.{needs}
 use Rattle.packet.proofs.write.write_entry.Statement.{statement}
 use Rattle.packet.proofs.write.write_entry.Tie as tie
 

@@ -1,13 +1,9 @@
 -- The text, and then the row behind it.
-use Prim.Native.Nat.{ℕ}
-use mathlib.Core.Path.{sym, ap, _∙_}
-use native.Mathlib.Omega.{arith}
-use denote.Ref.{now}
+use Rattle.wire.proofs.Kit.{ℕ, sym, ap, _∙_, arith, now, needs}
 use Rattle.image.specs.Out.{Out, end, row, pour}
 use Rattle.image.proofs.Pouring.{Slim, grown-stop, row-in, row-then, row-halt}
 use Rattle.amf0.proofs.Putting.{grown}
 use Rattle.packet.proofs.Putting.{naming}
-use borrow.Author.Needs.{needs}
 use Rattle.packet.proofs.write.write_head.Statement.{statement}
 use Rattle.packet.proofs.write.write_head.Tie as tie
 

@@ -1,17 +1,11 @@
 -- The label that a record is, where its kind is due.
-use Prim.Native.Nat.{_+_, _≤_}
-use mathlib.Core.Path.{_≡_, sym, _∙_}
-use native.Mathlib.Omega.{arith}
-use lib.ListN.{length}
-use borrow.Author.Tests.{eq-eqb, ne-eqb}
-use denote.Ref.{now}
+use Rattle.wire.proofs.Kit.{_+_, _≤_, _≡_, sym, _∙_, arith, length, eq-eqb, ne-eqb, now, needs}
 use Rattle.image.specs.Out.{end}
 use Rattle.image.proofs.Pouring.{pour-stop}
 use Rattle.amf0.proofs.Putting.{ahead-stop, ahead-grown, past}
 use Rattle.packet.specs.declared.write.Part.{Part}
 use Rattle.packet.specs.Writing.{labelled, label}
 use Rattle.packet.proofs.Putting.{label-bad, label-parted}
-use borrow.Author.Needs.{needs}
 use Rattle.packet.proofs.write.write_label.Statement.{statement}
 use Rattle.packet.proofs.write.write_label.Tie as tie
 

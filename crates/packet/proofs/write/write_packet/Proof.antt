@@ -1,9 +1,5 @@
 -- The head, the headers, the count of messages and the messages, one behind the other.
-use Prim.Native.Nat.{_*_, _≤_}
-use mathlib.Core.Path.{_≡_, sym, ap, _∙_}
-use native.Mathlib.Omega.{arith}
-use lib.ListN.{length}
-use denote.Ref.{now}
+use Rattle.wire.proofs.Kit.{_*_, _≤_, _≡_, sym, ap, _∙_, arith, length, now, needs}
 use Rattle.image.specs.Out.{Poured, pour}
 use Rattle.image.proofs.Pouring.{pour-then, pour-halt, pour-stop, row-then, row-halt}
 use Rattle.amf0.specs.Code.{longest, growth}
@@ -11,7 +7,6 @@ use Rattle.amf0.proofs.Putting.{past}
 use Rattle.packet.specs.declared.write.Part.{Part}
 use Rattle.packet.specs.Writing.{entries, packet}
 use Rattle.packet.proofs.Putting.{carried, carried-stop, carried-from, went-on, halted, heading, counting, messages, contents, packing, packet-bad, packet-parted}
-use borrow.Author.Needs.{needs}
 use Rattle.packet.proofs.write.write_packet.Statement.{statement}
 use Rattle.packet.proofs.write.write_packet.Tie as tie
 

@@ -1,13 +1,8 @@
 -- The first pass, on no output, tells what the call comes to; the second puts it out.
-use mathlib.Core.Path.{ap, _∙_}
-use mathlib.Core.List.{[]}
-use native.Mathlib.Omega.{arith}
-use lib.ListN.{length}
-use denote.Ref.{now}
+use Rattle.wire.proofs.Kit.{ap, _∙_, [], arith, length, now, needs}
 use Rattle.image.proofs.Pouring.{no-room, pour-onto}
 use Rattle.packet.specs.Writing.{packet}
 use Rattle.packet.proofs.Putting.{went-on, halted, again, write-text, write-image, write-halt, write-past, write-over, write-full, write-fits, write-size}
-use borrow.Author.Needs.{needs}
 use Rattle.packet.proofs.write.write_to_bytes.Statement.{statement}
 use Rattle.packet.proofs.write.write_to_bytes.Tie as tie
 

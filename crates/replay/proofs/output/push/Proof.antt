@@ -1,7 +1,5 @@
 -- A byte's digits stay within the text.
-use native.Mathlib.Omega.{arith}
-use lib.ListN.{length-set}
-use borrow.Author.Needs.{needs}
+use Rattle.wire.proofs.Kit.{arith, length-set, needs}
 use Rattle.replay.proofs.output.push.Statement.{statement}
 use Rattle.replay.proofs.output.push.Tie as tie
 

@@ -1,10 +1,5 @@
 -- Printing a row ends and stays within its text.
-use Prim.Native.Nat.{_-_, _≤_}
-use mathlib.Core.Path.{_≡_, sym}
-use native.Mathlib.Omega.{arith}
-use lib.ListN.{length}
-use lib.Seq.{length-take-le}
-use borrow.Author.Needs.{needs}
+use Rattle.wire.proofs.Kit.{_-_, _≤_, _≡_, sym, arith, length, length-take-le, needs}
 use Rattle.replay.proofs.output.row.Statement.{statement}
 use Rattle.replay.proofs.output.row.Tie as tie
 

@@ -1,8 +1,5 @@
 -- `copy4` meets its contract: the bytes that are stored are those of the row.
-use native.Mathlib.Numerals.{towards-suc}
-use native.Mathlib.Omega.{arith}
-use denote.Ref.{now}
-use borrow.Author.Needs.{needs}
+use Rattle.wire.proofs.Kit.{towards-suc, arith, now, needs}
 use Rattle.wire.proofs.Copies.{bytes-loads}
 use Rattle.wire.proofs.bytes.copy4.Statement.{statement}
 use Rattle.wire.proofs.bytes.copy4.Tie as tie

@@ -1,13 +1,5 @@
 -- `copy8` meets its contract: four bytes, and the four behind them, which were loaded before.
-use Prim.Native.Nat.{ℕ, _+_, _≤_}
-use mathlib.Core.Path.{_≡_}
-use mathlib.Core.List.{List, [], _∷_}
-use native.Mathlib.Numerals.{towards-suc}
-use native.Mathlib.Omega.{arith}
-use lib.ListN.{length, getD}
-use lib.Seq.{sets}
-use denote.Ref.{now}
-use borrow.Author.Needs.{needs}
+use Rattle.wire.proofs.Kit.{ℕ, _+_, _≤_, _≡_, List, [], _∷_, towards-suc, arith, length, getD, sets, now, needs}
 use Rattle.wire.specs.Field.{bytesAt}
 use Rattle.wire.proofs.Copies.{bytes-loads}
 use Rattle.wire.proofs.bytes.copy8.Statement.{statement}

@@ -1,11 +1,5 @@
 -- `copy_eights` meets its contract. The loop's invariant: the row's first i bytes are laid.
-use Prim.Native.Nat.{_-_, _≤_}
-use mathlib.Core.Path.{_≡_, refl}
-use native.Mathlib.Omega.{arith}
-use lib.ListN.{length, take}
-use lib.Seq.{sets, length-sets}
-use denote.Ref.{now}
-use borrow.Author.Needs.{needs}
+use Rattle.wire.proofs.Kit.{_-_, _≤_, _≡_, refl, arith, length, take, sets, length-sets, now, needs}
 use Rattle.wire.proofs.Copies.{laid-on, laid-last}
 use Rattle.wire.proofs.bytes.copy_eights.Statement.{statement}
 use Rattle.wire.proofs.bytes.copy_eights.Tie as tie

@@ -1,10 +1,5 @@
 -- `copy_short` meets its contract. The four bytes at the end meet or overlap the first four.
-use Prim.Native.Nat.{_-_}
-use native.Mathlib.Nat.{add-zero}
-use native.Mathlib.Omega.{arith}
-use lib.ListN.{length}
-use denote.Ref.{now}
-use borrow.Author.Needs.{needs}
+use Rattle.wire.proofs.Kit.{_-_, add-zero, arith, length, now, needs}
 use Rattle.wire.proofs.Copies.{laid-last}
 use Rattle.wire.proofs.bytes.copy_short.Statement.{statement}
 use Rattle.wire.proofs.bytes.copy_short.Tie as tie

@@ -1,11 +1,5 @@
 -- `copy_tiny` meets its contract. Each byte stands behind those before it, or is stored over the last of them.
-use Prim.Native.Nat.{_+_, _-_, _/_}
-use native.Mathlib.Nat.{add-zero}
-use native.Mathlib.Omega.{arith}
-use lib.ListN.{length, length-set}
-use lib.Seq.{take-all}
-use denote.Ref.{now}
-use borrow.Author.Needs.{needs}
+use Rattle.wire.proofs.Kit.{_+_, _-_, _/_, add-zero, arith, length, length-set, take-all, now, needs}
 use Rattle.wire.proofs.Copies.{laid-last, byte-on}
 use Rattle.wire.proofs.bytes.copy_tiny.Statement.{statement}
 use Rattle.wire.proofs.bytes.copy_tiny.Tie as tie

@@ -1,10 +1,5 @@
 -- `decimal_width` meets its contract. The loop's invariant: one digit less than `w` and the digits of the number that `rest` is the tenth of are those of `n`.
-use Prim.Native.Nat.{ℕ, suc, _+_, _-_, _/_, _≤_}
-use mathlib.Core.Path.{_≡_, refl}
-use native.Mathlib.Omega.{arith}
-use native.Mathlib.Nat.{le-refl}
-use lib.ListN.{length}
-use borrow.Author.Needs.{needs}
+use Rattle.wire.proofs.Kit.{ℕ, suc, _+_, _-_, _/_, _≤_, _≡_, refl, arith, le-refl, length, needs}
 use Rattle.wire.specs.Bytes.{places, decimal}
 use Rattle.wire.proofs.Decimal.{one-place, more-places, some-place, ten-at-most}
 use Rattle.wire.proofs.bytes.decimal_width.Statement.{statement}

@@ -1,8 +1,5 @@
 -- `store4` meets its contract: the four stores are a run.
-use native.Mathlib.Numerals.{towards-suc}
-use native.Mathlib.Omega.{arith}
-use lib.ListN.{length-set}
-use borrow.Author.Needs.{needs}
+use Rattle.wire.proofs.Kit.{towards-suc, arith, length-set, needs}
 use Rattle.wire.proofs.bytes.store4.Statement.{statement}
 use Rattle.wire.proofs.bytes.store4.Tie as tie
 

@@ -1,12 +1,5 @@
 -- `write_bytes` meets its contract. The loop's invariant: what is to be stored at first is what is to be stored yet, the row from the place `i` on.
-use Prim.Native.Nat.{_+_, _-_, _≤_}
-use mathlib.Core.Path.{_≡_, refl, sym, _∙_}
-use native.Mathlib.Nat.{add-zero}
-use native.Mathlib.Omega.{arith}
-use lib.ListN.{length, drop, length-set}
-use lib.Seq.{sets}
-use denote.Ref.{now}
-use borrow.Author.Needs.{needs}
+use Rattle.wire.proofs.Kit.{_+_, _-_, _≤_, _≡_, refl, sym, _∙_, add-zero, arith, length, drop, length-set, sets, now, needs}
 use Rattle.wire.proofs.Laws.{sets-next, sets-done, laid-room, laid-none}
 use Rattle.wire.proofs.bytes.write_bytes.Statement.{statement}
 use Rattle.wire.proofs.bytes.write_bytes.Tie as tie

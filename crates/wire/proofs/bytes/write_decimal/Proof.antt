@@ -1,11 +1,5 @@
 -- `write_decimal` meets its contract. The loop's invariant: what is to be stored at first is what is to be stored yet, the k digits of `rest`.
-use Prim.Native.Nat.{suc, _≤_}
-use mathlib.Core.Path.{_≡_, refl, sym, _∙_}
-use native.Mathlib.Omega.{arith}
-use lib.ListN.{length, length-set}
-use lib.Seq.{sets}
-use denote.Ref.{now}
-use borrow.Author.Needs.{needs}
+use Rattle.wire.proofs.Kit.{suc, _≤_, _≡_, refl, sym, _∙_, arith, length, length-set, sets, now, needs}
 use Rattle.wire.specs.Bytes.{decimal}
 use Rattle.wire.proofs.Laws.{laid-room, laid-none}
 use Rattle.wire.proofs.Decimal.{tens, tens-last, places-tens}

@@ -1,11 +1,6 @@
 -- `same` meets its contract. The loop's invariant: the rows are equal if what is behind i is.
-use Prim.Native.Nat.{_-_, _≤_}
-use mathlib.Core.Path.{_≡_, refl, sym, _∙_}
-use native.Mathlib.Omega.{arith}
-use lib.ListN.{length, drop}
+use Rattle.wire.proofs.Kit.{_-_, _≤_, _≡_, refl, sym, _∙_, arith, length, drop, now, needs}
 use lib.Seq.{drop-length}
-use denote.Ref.{now}
-use borrow.Author.Needs.{needs}
 use Rattle.wire.specs.Field.{equal}
 use Rattle.wire.proofs.Steps.{equal-unlike, equal-ends, equal-more}
 use Rattle.wire.proofs.cursor.same.Statement.{statement}

@@ -1,11 +1,5 @@
 -- `whole` meets its contract: the bytes behind a place are as many as asked for, or more.
-use Prim.Native.Nat.{_+_}
-use mathlib.Core.Path.{sym}
-use native.Mathlib.Omega.{arith}
-use lib.ListN.{length}
-use denote.Ref.{now}
-use borrow.Author.Tests.{lt-leb}
-use borrow.Author.Needs.{needs}
+use Rattle.wire.proofs.Kit.{_+_, sym, arith, length, now, lt-leb, needs}
 use Rattle.wire.proofs.Laws.{leb-sub}
 use Rattle.wire.proofs.cursor.whole.Statement.{statement}
 use Rattle.wire.proofs.cursor.whole.Tie as tie

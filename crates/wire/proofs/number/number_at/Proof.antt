@@ -1,14 +1,7 @@
 -- `number_at` meets its contract. The loop's invariant: n is the number of the first i bytes, and is below 256 ^ i.
-use Prim.Native.Nat.{ℕ, _+_, _-_, _^_, _≤_, _<_}
-use mathlib.Core.Path.{_≡_, refl}
-use native.Mathlib.Omega.{arith}
-use native.Mathlib.Nat.{pow-suc, pow-le-pow-right, le-trans}
-use native.Mathlib.Numerals.{add-one}
+use Rattle.wire.proofs.Kit.{ℕ, _+_, _-_, _^_, _≤_, _<_, _≡_, refl, arith, pow-suc, add-one, lit<, getD, now, needs}
+use native.Mathlib.Nat.{pow-le-pow-right, le-trans}
 use lib.Arith.{digits-lt}
-use lib.Dec.{lit<}
-use lib.ListN.{getD}
-use denote.Ref.{now}
-use borrow.Author.Needs.{needs}
 use Rattle.wire.specs.Number.{number}
 use Rattle.wire.specs.Field.{bytesAt}
 use Rattle.wire.proofs.Laws.{bytes-more, number-snoc}

@@ -1,7 +1,5 @@
 -- `store1` meets its contract: the stores are those of the digits.
-use native.Mathlib.Nat.{div-one}
-use native.Mathlib.Numerals.{towards-suc}
-use borrow.Author.Needs.{needs}
+use Rattle.wire.proofs.Kit.{div-one, towards-suc, needs}
 use Rattle.wire.proofs.number.store1.Statement.{statement}
 use Rattle.wire.proofs.number.store1.Tie as tie
 

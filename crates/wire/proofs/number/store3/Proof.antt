@@ -1,9 +1,5 @@
 -- `store3` meets its contract: the stores are those of the digits.
-use native.Mathlib.Nat.{div-one}
-use native.Mathlib.Numerals.{towards-suc}
-use native.Mathlib.Omega.{arith}
-use lib.ListN.{length-set}
-use borrow.Author.Needs.{needs}
+use Rattle.wire.proofs.Kit.{div-one, towards-suc, arith, length-set, needs}
 use Rattle.wire.proofs.number.store3.Statement.{statement}
 use Rattle.wire.proofs.number.store3.Tie as tie
 

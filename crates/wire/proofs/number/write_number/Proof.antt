@@ -1,11 +1,5 @@
 -- `write_number` meets its contract. The loop's invariant: what is to be stored at first is what is to be stored yet, the k bytes of `rest`.
-use Prim.Native.Nat.{_≤_}
-use mathlib.Core.Path.{_≡_, refl, sym, _∙_}
-use native.Mathlib.Omega.{arith}
-use lib.ListN.{length, length-set}
-use lib.Seq.{sets}
-use denote.Ref.{now}
-use borrow.Author.Needs.{needs}
+use Rattle.wire.proofs.Kit.{_≤_, _≡_, refl, sym, _∙_, arith, length, length-set, sets, now, needs}
 use Rattle.wire.specs.Number.{digits}
 use Rattle.wire.proofs.Laws.{sets-last, stored-room, stored-none}
 use Rattle.wire.proofs.number.write_number.Statement.{statement}

@@ -1,11 +1,5 @@
 -- `part` meets its contract: the part where it is inside, and else the empty one at the front.
-use Prim.Native.Nat.{_+_}
-use mathlib.Core.Path.{sym, ap}
-use native.Mathlib.Omega.{arith}
-use native.Mathlib.Nat.{add-sub-cancel-left}
-use lib.ListN.{length}
-use denote.Ref.{now}
-use borrow.Author.Needs.{needs}
+use Rattle.wire.proofs.Kit.{_+_, sym, ap, arith, add-sub-cancel-left, length, now, needs}
 use Rattle.wire.specs.Text.{further}
 use Rattle.wire.proofs.Laws.{pick-yes, pick-no}
 use Rattle.wire.proofs.text.part.Statement.{statement}

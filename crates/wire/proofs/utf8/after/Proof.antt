@@ -1,11 +1,5 @@
 -- `after` meets its contract: what the first byte leaves to check, the steps behind it check.
-use Prim.Native.Nat.{_+_}
-use mathlib.Core.Path.{_≡_, _∙_}
-use mathlib.Core.List.{[]}
-use native.Mathlib.Omega.{arith}
-use lib.ListN.{drop}
-use denote.Ref.{now}
-use borrow.Author.Needs.{needs}
+use Rattle.wire.proofs.Kit.{_+_, _≡_, _∙_, [], arith, drop, now, needs}
 use Rattle.wire.specs.declared.utf8.Lead.{Lead}
 use Rattle.wire.specs.Utf8.{ends}
 use Rattle.wire.specs.Code.{goes}

@@ -1,7 +1,5 @@
 -- `ascii4` meets its contract: no byte is above what they are or-ed together.
-use native.Mathlib.Omega.{arith}
-use borrow.Author.Needs.{needs}
-use borrow.Author.Tests.{ltb-true}
+use Rattle.wire.proofs.Kit.{arith, needs, ltb-true}
 use Rattle.wire.proofs.Steps.{plain-ored}
 use Rattle.wire.proofs.utf8.ascii4.Statement.{statement}
 use Rattle.wire.proofs.utf8.ascii4.Tie as tie

@@ -1,9 +1,5 @@
 -- `ascii64` meets its contract. The loop's invariant: if what the bytes are or-ed to is ASCII, so are they all.
-use Prim.Native.Nat.{_+_, _-_, _≤_, _<_}
-use mathlib.Core.Path.{_≡_}
-use native.Mathlib.Omega.{arith}
-use borrow.Author.Needs.{needs}
-use borrow.Author.Tests.{ltb-true}
+use Rattle.wire.proofs.Kit.{_+_, _-_, _≤_, _<_, _≡_, arith, needs, ltb-true}
 use Rattle.wire.specs.Code.{Plain}
 use Rattle.wire.proofs.Steps.{plain-none, plain-or}
 use Rattle.wire.proofs.utf8.ascii64.Statement.{statement}

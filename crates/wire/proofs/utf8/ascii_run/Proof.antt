@@ -1,5 +1,5 @@
 -- `ascii_run` meets its contract: one run and then another.
-use borrow.Author.Needs.{needs}
+use Rattle.wire.proofs.Kit.{needs}
 use Rattle.wire.proofs.Steps.{run-on}
 use Rattle.wire.proofs.utf8.ascii_run.Statement.{statement}
 use Rattle.wire.proofs.utf8.ascii_run.Tie as tie

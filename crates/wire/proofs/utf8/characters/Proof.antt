@@ -1,9 +1,5 @@
 -- `characters` meets its contract. The loop's invariant: whole characters stand up to i.
-use Prim.Native.Nat.{_-_}
-use mathlib.Core.Path.{sym, _∙_}
-use native.Mathlib.Omega.{arith}
-use lib.ListN.{length}
-use borrow.Author.Needs.{needs}
+use Rattle.wire.proofs.Kit.{_-_, sym, _∙_, arith, length, needs}
 use Rattle.wire.specs.Code.{Run}
 use Rattle.wire.proofs.Steps.{run-on, run-end, step-run}
 use Rattle.wire.proofs.utf8.characters.Statement.{statement}

@@ -1,8 +1,5 @@
 -- `eights` meets its contract. The loop's invariant: the bytes up to the eight before i are ASCII.
-use Prim.Native.Nat.{_-_, _≤_}
-use native.Mathlib.Omega.{arith}
-use lib.ListN.{length}
-use borrow.Author.Needs.{needs}
+use Rattle.wire.proofs.Kit.{_-_, _≤_, arith, length, needs}
 use Rattle.wire.specs.Code.{Plain}
 use Rattle.wire.proofs.Laws.{false-true}
 use Rattle.wire.proofs.Steps.{plain-none, plain-join}

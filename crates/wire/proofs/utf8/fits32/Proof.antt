@@ -1,9 +1,5 @@
 -- `fits32` meets its contract. The loop's invariant: if all is well so far, what was left to check at first is what is left behind the k-th byte.
-use Prim.Native.Nat.{_+_, _-_, _≤_}
-use mathlib.Core.Path.{_≡_}
-use mathlib.Core.Bool.{true}
-use native.Mathlib.Omega.{arith}
-use borrow.Author.Needs.{needs}
+use Rattle.wire.proofs.Kit.{_+_, _-_, _≤_, _≡_, true, arith, needs}
 use Rattle.wire.specs.Code.{Owed}
 use Rattle.wire.proofs.Steps.{both-true, owed-none, owed-on}
 use Rattle.wire.proofs.utf8.fits32.Statement.{statement}

@@ -1,7 +1,5 @@
 -- `is_utf8` meets its contract: ASCII is UTF-8, and what is left behind the ASCII at the front of a long text is what there is to check.
-use mathlib.Core.Path.{sym, _∙_}
-use native.Mathlib.Omega.{arith}
-use borrow.Author.Needs.{needs}
+use Rattle.wire.proofs.Kit.{sym, _∙_, arith, needs}
 use Rattle.wire.proofs.Steps.{plain-run, run-end}
 use Rattle.wire.proofs.utf8.is_utf8.Statement.{statement}
 use Rattle.wire.proofs.utf8.is_utf8.Tie as tie

@@ -1,6 +1,5 @@
 -- `lead_of` meets its contract: each answer is the form that the byte begins, or none.
-use mathlib.Core.Path.{refl}
-use native.Mathlib.Omega.{arith}
+use Rattle.wire.proofs.Kit.{refl, arith}
 use Rattle.wire.proofs.Steps.{begins, begins-none}
 use Rattle.wire.proofs.utf8.lead_of.Statement.{statement}
 use Rattle.wire.proofs.utf8.lead_of.Tie as tie

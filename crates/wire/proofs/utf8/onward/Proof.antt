@@ -1,6 +1,5 @@
 -- `onward` meets its contract: nothing is due behind the two bytes before the place, and what is due behind them all is settled.
-use native.Mathlib.Omega.{arith}
-use borrow.Author.Needs.{needs}
+use Rattle.wire.proofs.Kit.{arith, needs}
 use Rattle.wire.proofs.Steps.{onward-none, onward-paid}
 use Rattle.wire.proofs.utf8.onward.Statement.{statement}
 use Rattle.wire.proofs.utf8.onward.Tie as tie

@@ -1,7 +1,5 @@
 -- `over` meets its contract: it goes on behind a byte of the range, and is stuck at any other, at the end, and where it was.
-use mathlib.Core.Logic.{inl, inr, ⊎-elim}
-use borrow.Author.Needs.{needs}
-use borrow.Author.Tests.{leb-true, leb-false}
+use Rattle.wire.proofs.Kit.{inl, inr, ⊎-elim, needs, leb-true, leb-false}
 use Rattle.wire.proofs.Steps.{over-in, over-out, over-end, over-stuck}
 use Rattle.wire.proofs.utf8.over.Statement.{statement}
 use Rattle.wire.proofs.utf8.over.Tie as tie

@@ -1,6 +1,5 @@
 -- `settle` meets its contract: each way checks what the two bytes leave to check.
-use native.Mathlib.Omega.{arith}
-use borrow.Author.Needs.{needs}
+use Rattle.wire.proofs.Kit.{arith, needs}
 use Rattle.wire.proofs.Steps.{paid-none, paid-last, paid-pair, paid-e0, paid-ed, paid-three}
 use Rattle.wire.proofs.utf8.settle.Statement.{statement}
 use Rattle.wire.proofs.utf8.settle.Tie as tie

@@ -1,6 +1,5 @@
 -- `short_ascii` meets its contract: four bytes at the front and four at the end are all of four to seven.
-use native.Mathlib.Omega.{arith}
-use borrow.Author.Needs.{needs}
+use Rattle.wire.proofs.Kit.{arith, needs}
 use Rattle.wire.proofs.Steps.{both-true, plain-join}
 use Rattle.wire.proofs.utf8.short_ascii.Statement.{statement}
 use Rattle.wire.proofs.utf8.short_ascii.Tie as tie

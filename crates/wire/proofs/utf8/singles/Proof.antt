@@ -1,8 +1,5 @@
 -- `singles` meets its contract. The loop's invariant: whole characters stand up to i.
-use Prim.Native.Nat.{_-_}
-use mathlib.Core.Path.{refl}
-use lib.ListN.{length}
-use borrow.Author.Needs.{needs}
+use Rattle.wire.proofs.Kit.{_-_, refl, length, needs}
 use Rattle.wire.specs.Code.{Run}
 use Rattle.wire.proofs.Steps.{run-on, run-one}
 use Rattle.wire.proofs.utf8.singles.Statement.{statement}

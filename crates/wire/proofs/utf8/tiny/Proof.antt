@@ -1,11 +1,5 @@
 -- `tiny` meets its contract: no byte is above what the three are or-ed together, and of three bytes each is one of them.
-use Prim.Native.Nat.{_+_, _-_, _/_}
-use mathlib.Core.Path.{refl}
-use native.Mathlib.Omega.{arith}
-use lib.ListN.{length}
-use denote.Ref.{now}
-use borrow.Author.Needs.{needs}
-use borrow.Author.Tests.{ltb-true}
+use Rattle.wire.proofs.Kit.{_+_, _-_, _/_, refl, arith, length, now, needs, ltb-true}
 use Rattle.wire.proofs.Steps.{or-below, plain-one, plain-join}
 use Rattle.wire.proofs.utf8.tiny.Statement.{statement}
 use Rattle.wire.proofs.utf8.tiny.Tie as tie

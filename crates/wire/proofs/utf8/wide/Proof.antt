@@ -1,8 +1,5 @@
 -- `wide` meets its contract. The loop's invariant: whole characters stand up to i.
-use Prim.Native.Nat.{_-_}
-use native.Mathlib.Omega.{arith}
-use lib.ListN.{length}
-use borrow.Author.Needs.{needs}
+use Rattle.wire.proofs.Kit.{_-_, arith, length, needs}
 use Rattle.wire.specs.Code.{Run}
 use Rattle.wire.proofs.Steps.{run-on, plain-run}
 use Rattle.wire.proofs.utf8.wide.Statement.{statement}

@@ -1,9 +1,5 @@
 -- `windows` meets its contract. The loop's invariant: what was left to check at first is what is left behind the two bytes at i.
-use Prim.Native.Nat.{_-_}
-use mathlib.Core.Path.{refl}
-use native.Mathlib.Omega.{arith}
-use lib.ListN.{length}
-use borrow.Author.Needs.{needs}
+use Rattle.wire.proofs.Kit.{_-_, refl, arith, length, needs}
 use Rattle.wire.specs.Code.{Owed}
 use Rattle.wire.proofs.Steps.{owed-none, owed-trans}
 use Rattle.wire.proofs.utf8.windows.Statement.{statement}

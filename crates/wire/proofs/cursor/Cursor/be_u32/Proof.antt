@@ -1,11 +1,5 @@
 -- `Cursor::be_u32` meets its contract: the number of its 4 bytes, where they are all there.
-use Prim.Native.Nat.{_+_, _≤_}
-use mathlib.Core.Path.{sym, _∙_}
-use native.Mathlib.Omega.{arith}
-use lib.ListN.{length}
-use denote.Ref.{now}
-use borrow.Author.Needs.{needs}
-use borrow.Author.Tests.{le-leb, leb-true}
+use Rattle.wire.proofs.Kit.{_+_, _≤_, sym, _∙_, arith, length, now, needs, le-leb, leb-true}
 use Rattle.wire.specs.Field.{u32At}
 use Rattle.wire.proofs.cursor.Cursor.be_u32.Statement.{statement}
 use Rattle.wire.proofs.cursor.Cursor.be_u32.Tie as tie

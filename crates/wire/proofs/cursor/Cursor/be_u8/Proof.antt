@@ -1,10 +1,5 @@
 -- `Cursor::be_u8` meets its contract: the byte at the place, where there is one.
-use Prim.Native.Nat.{_+_}
-use mathlib.Core.Path.{sym}
-use native.Mathlib.Omega.{arith}
-use lib.ListN.{length}
-use denote.Ref.{now}
-use borrow.Author.Needs.{needs}
+use Rattle.wire.proofs.Kit.{_+_, sym, arith, length, now, needs}
 use Rattle.wire.specs.Field.{u8At}
 use Rattle.wire.proofs.Laws.{pick-yes, pick-no, number-one}
 use Rattle.wire.proofs.cursor.Cursor.be_u8.Statement.{statement}

@@ -1,6 +1,5 @@
 -- `Cursor::parse_long_string` meets its contract, as `parse_string` does.
-use mathlib.Core.Path.{sym, _∙_}
-use borrow.Author.Needs.{needs}
+use Rattle.wire.proofs.Kit.{sym, _∙_, needs}
 use Rattle.wire.proofs.Laws.{text-of, text-cut, u32-next, u32-stop}
 use Rattle.wire.proofs.cursor.Cursor.parse_long_string.Statement.{statement}
 use Rattle.wire.proofs.cursor.Cursor.parse_long_string.Tie as tie

@@ -1,6 +1,5 @@
 -- `Cursor::parse_string` meets its contract: a text goes on from its length, or stops where that does.
-use mathlib.Core.Path.{sym, _∙_}
-use borrow.Author.Needs.{needs}
+use Rattle.wire.proofs.Kit.{sym, _∙_, needs}
 use Rattle.wire.proofs.Laws.{text-of, text-cut, u16-next, u16-stop}
 use Rattle.wire.proofs.cursor.Cursor.parse_string.Statement.{statement}
 use Rattle.wire.proofs.cursor.Cursor.parse_string.Tie as tie

@@ -1,12 +1,5 @@
 -- `Cursor::take_str` meets its contract: n bytes where they are all there and UTF-8.
-use Prim.Native.Nat.{_+_, _≤_}
-use mathlib.Core.Path.{sym, _∙_}
-use native.Mathlib.Nat.{add-sub-cancel-left}
-use native.Mathlib.Omega.{arith}
-use lib.ListN.{length}
-use denote.Ref.{now}
-use borrow.Author.Needs.{needs}
-use borrow.Author.Tests.{le-leb, leb-true}
+use Rattle.wire.proofs.Kit.{_+_, _≤_, sym, _∙_, add-sub-cancel-left, arith, length, now, needs, le-leb, leb-true}
 use Rattle.wire.specs.Field.{strAt}
 use Rattle.wire.proofs.cursor.Cursor.take_str.Statement.{statement}
 use Rattle.wire.proofs.cursor.Cursor.take_str.Tie as tie
