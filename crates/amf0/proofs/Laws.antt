@@ -17,7 +17,7 @@ use Rattle.amf0.specs.declared.read.Fields.{Fields}
 use Rattle.amf0.specs.declared.read.Fields.the-variants.{Got, Stop}
 use Rattle.amf0.specs.Marker.{markerOf}
 use Rattle.amf0.specs.Fields.{fieldsAt, basedFields, gotFields, shut}
-use Rattle.amf0.specs.Reading.{value, pair, pairs, items, follow, valueIn, readOf}
+use Rattle.amf0.specs.Reading.{value, topValue, pair, pairs, items, follow, valueIn, readOf}
 use Rattle.amf0.specs.Code.{FieldsWithin}
 
 -- a number that is at least k and is not k
@@ -129,7 +129,7 @@ module _ (base : ℕ) (s : List ℕ) (at : ℕ) where
   unfolding valueIn
   part-past h g = pick-yes (base + length s) limit.bytes _ _ h ∙ pick-no at (length s) _ _ g
 
-  pub part-read : base + length s ≤ limit.bytes → at ≤ length s → valueIn base s at ≡ based base (value limit.levels s at)
+  pub part-read : base + length s ≤ limit.bytes → at ≤ length s → valueIn base s at ≡ based base (topValue s at)
   unfolding valueIn
   part-read h g = pick-yes (base + length s) limit.bytes _ _ h ∙ pick-yes at (length s) _ _ g
 
@@ -139,7 +139,7 @@ whole-read s room =
     picked (λ (x : Whole). settled (valueIn 0 s 0) room ≡ x) (leb (length s) limit.bytes) _ _
     (λ h.
     let g : 0 + length s ≤ limit.bytes = omega (arith, leb-true (length s) limit.bytes h) in
-    ap (λ (d : Due). settled d room) (part-read 0 s 0 g (omega arith) ∙ based-zero (value limit.levels s 0)))
+    ap (λ (d : Due). settled d room) (part-read 0 s 0 g (omega arith) ∙ based-zero (topValue s 0)))
     (λ h.
     let g : limit.bytes < 0 + length s = omega (arith, leb-false (length s) limit.bytes h) in
     ap (λ (d : Due). settled d room) (part-over 0 s 0 g) ∙ settled-stop 1 0 room)

@@ -21,7 +21,7 @@ use Rattle.amf0.specs.declared.write.Rest.the-variants.{Nothing, Pairs, 
 use Rattle.amf0.specs.Standard.{short-most}
 use Rattle.amf0.specs.Shape.{Shape}
 use Rattle.amf0.specs.Shape as S
-use Rattle.amf0.specs.Writing.{shapeOf, indexed, valueAt, items, pairs, dense, rest, value, before, valueIn, whole, writeOf}
+use Rattle.amf0.specs.Writing.{shapeOf, indexed, valueAt, items, pairs, dense, rest, value, topValue, before, valueIn, whole, writeOf}
 use Rattle.amf0.specs.Code.{Ahead, growth, opened, keyed}
 
 -- ---- the places that a step goes on at
@@ -211,7 +211,7 @@ module _ (image text : List ℕ) (count at : ℕ) where
             pick-yes (length text) limit.bytes _ _ t ∙ pick-yes (length image) limit.image _ _ i ∙ pick-yes at (length image) _ _ p
             ∙ pick-no count before _ _ h
 
-        pub in-value : count ≤ before → valueIn image text count at ≡ value limit.levels image text at
+        pub in-value : count ≤ before → valueIn image text count at ≡ topValue image text at
         unfolding valueIn
         in-value h =
             pick-yes (length text) limit.bytes _ _ t ∙ pick-yes (length image) limit.image _ _ i ∙ pick-yes at (length image) _ _ p

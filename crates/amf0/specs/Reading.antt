@@ -42,13 +42,17 @@ value (suc left) s at =
     gotFields stop (fieldsAt s at p (markerOf m)) λ r f q.
     due r at (follow (value left s) s f q)
 
+-- the value at a place, with every level left
+abbrev pub topValue : List ℕ → ℕ → Due
+topValue s at = value limit.levels s at
+
 -- the value at a place of a part that begins at the place `base` of an input; a part over the limit, or a place past its end, is refused with 1
 unfoldable pub valueIn : ℕ → List ℕ → ℕ → Due
 valueIn base s at =
     pick (leb (base + length s) limit.bytes)
-    (pick (leb at (length s)) (based base (value limit.levels s at)) (stop 1 0))
+    (pick (leb at (length s)) (based base (topValue s at)) (stop 1 0))
     (stop 1 0)
 
 -- what the public call comes to, in a room
 abbrev pub readOf : List ℕ → ℕ → Whole
-readOf s room = pick (leb (length s) limit.bytes) (settled (value limit.levels s 0) room) (refused 1)
+readOf s room = pick (leb (length s) limit.bytes) (settled (topValue s 0) room) (refused 1)

@@ -125,6 +125,10 @@ value (suc left) image text at =
     valued at (shapeOf r) λ w f.
     row text w at (rest (value left image text) image text f q)
 
+-- the value at a place, with every level left
+abbrev pub topValue : List ℕ → List ℕ → ℕ → Out
+topValue image text at = value limit.levels image text at
+
 -- ---- the calls
 
 -- the most bytes that a layer may have put out before
@@ -137,7 +141,7 @@ valueIn image text count at =
     pick (leb (length text) limit.bytes)
     (pick (leb (length image) limit.image)
     (pick (leb at (length image))
-    (pick (leb count before) (value limit.levels image text at) (stop 1 0))
+    (pick (leb count before) (topValue image text at) (stop 1 0))
     (stop 1 0))
     (stop 1 0))
     (stop 1 0)
@@ -150,5 +154,5 @@ whole image d = d >>= λ n. pick (leb (length image) n) (end n) (stop 6 n)
 abbrev pub writeOf : List ℕ → List ℕ → ℕ → Written
 writeOf image text room =
     pick (leb (length text) limit.bytes)
-    (pick (leb (length image) limit.image) (settled (whole image (value limit.levels image text 0)) room) (unwritten 1))
+    (pick (leb (length image) limit.image) (settled (whole image (topValue image text 0)) room) (unwritten 1))
     (unwritten 1)

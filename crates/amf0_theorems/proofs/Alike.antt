@@ -6,7 +6,7 @@ use Rattle.image.specs.declared.record.Record.{Record}
 use Rattle.image.specs.declared.record.Record.the-variants as R
 use Rattle.image.specs.Due.{Due, end}
 use Rattle.image.specs.Whole.{bytes}
-use Rattle.amf0.specs.Reading.{value}
+use Rattle.amf0.specs.Reading.{topValue}
 use Rattle.amf0.specs.Standard.{Item, Sort, Tree, depth, Row, Encodes}
 use Rattle.amf0.specs.Standard.UTF-8.{short}
 use Rattle.amf0.specs.Standard.UTF-8-long.{long}
@@ -78,8 +78,8 @@ marks-alike (Encodes.cons {x} e f) at d =
 
 -- what is read of an encoding that stands at a place
 pub record Of (s : List ℕ) (at : ℕ) (t : Tree Sort.value) : Type 0 where
-  pub right : Right s (recordsOf (value limit.levels s at))
-  pub same : map unplaced (recordsOf (value limit.levels s at)) ≡ ofTree t []
+  pub right : Right s (recordsOf (topValue s at))
+  pub same : map unplaced (recordsOf (topValue s at)) ≡ ofTree t []
 
 pub read : {t : Tree Sort.value} (s x z : List ℕ) (at : ℕ) → Encodes Sort.value t x → Here s at x z → depth t ≤ limit.levels → length s ≤ limit.bytes → Of s at t
 read s x z at e h d l =
@@ -91,16 +91,16 @@ read s x z at e h d l =
 
 pub read-alike : {s x z b y w : List ℕ} {at to : ℕ} {t : Tree Sort.value} → Encodes Sort.value t x → Here s at x z → Encodes Sort.value t y → Here b to y w
     → depth t ≤ limit.levels → length s ≤ limit.bytes → length b ≤ limit.bytes
-    → Alike s b (bytes (value limit.levels s at)) (bytes (value limit.levels b to))
+    → Alike s b (bytes (topValue s at)) (bytes (topValue b to))
 read-alike {s} {x} {z} {b} {y} {w} {at} {to} e h f i d l k =
     let m = read s x z at e h d l in
     let n = read b y w to f i d k in
     record {
-      first = recordsOf (value limit.levels s at);
-      second = recordsOf (value limit.levels b to);
+      first = recordsOf (topValue s at);
+      second = recordsOf (topValue b to);
       right = m .right;
       right-too = n .right;
-      lies = bytes-laid (value limit.levels s at);
-      lies-too = bytes-laid (value limit.levels b to);
+      lies = bytes-laid (topValue s at);
+      lies-too = bytes-laid (topValue b to);
       same = m .same ∙ sym (n .same);
     }

@@ -7,7 +7,7 @@ use Rattle.wire.proofs.Laws.{picked}
 use Rattle.wire.proofs.Stands.{bytes-left}
 use Rattle.image.specs.Due.{Due, end, stop, due, Ends, Stops}
 use Rattle.image.specs.Whole.{Whole, accepted, refused, ended, settled}
-use Rattle.amf0.specs.Reading.{value, readOf}
+use Rattle.amf0.specs.Reading.{value, topValue, readOf}
 use Rattle.amf0.specs.Standard.{Item, Sort, Tree, depth, Row, Encodes}
 use Rattle.amf0.proofs.Outcome.{roomy}
 use Rattle.amf0_theorems.specs.Refusal.{Field, Bars, Refuses, Leads, RefusedValue, records, Comes}
@@ -36,7 +36,7 @@ one-stop (stop c m) a p b q g h = (g .0 ∙ sym (h .0), g .1 ∙ sym (h .1))
 one-stop (due r m d) a p b q g h = one-stop d a p b q g h
 
 -- a call that is refused neither for the limit nor for room
-called : (s : List ℕ) (room : ℕ) → length s ≤ limit.bytes → readOf s room .reading .answer ≢ 4 → readOf s room ≡ ended (value limit.levels s 0) (records s)
+called : (s : List ℕ) (room : ℕ) → length s ≤ limit.bytes → readOf s room .reading .answer ≢ 4 → readOf s room ≡ ended (topValue s 0) (records s)
 called s room h ne = either (length (records s)) room (λ i. roomy s room h i) (λ i. absurd (ne (room-exact s room h .1 i)))
 
 -- ---- the theorems
@@ -53,7 +53,7 @@ one-refusal left s at a p b q l t u = one-stop (value left s at) a p b q (refuse
 pub call-refused : (s : List ℕ) (room a p : ℕ) → length s ≤ limit.bytes → readOf s room .reading .answer ≢ 4 → RefusedValue limit.levels s 0 a p
     → readOf s room ≡ refused a
 call-refused s room a p h i t =
-    let d : Due = value limit.levels s 0 in
+    let d : Due = topValue s 0 in
     let g = refused-stops limit.levels s 0 a p (omega arith) t in
     called s room h i
     ∙ ended-stop d (records s) a p g
@@ -63,7 +63,7 @@ pub refused-exactly : (s : List ℕ) (room a : ℕ) → Bytes s → length s ≤
     → readOf s room ≡ refused a ↔ (p : ℕ) × RefusedValue limit.levels s 0 a p
 refused-exactly s room a bs h i some = (
   λ e.
-      ended-either (λ w. w ≡ refused a → (p : ℕ) × RefusedValue limit.levels s 0 a p) (value limit.levels s 0) (records s)
+      ended-either (λ w. w ≡ refused a → (p : ℕ) × RefusedValue limit.levels s 0 a p) (topValue s 0) (records s)
       (λ n t g. absurd (some (ap (λ (w : Whole). w .reading .answer) (sym g))))
       (λ b p t g.
       let same : b ≡ a = ap (λ (w : Whole). w .reading .answer) g in
@@ -76,7 +76,7 @@ refused-exactly s room a bs h i some = (
 pub reasons : (s : List ℕ) (room : ℕ) → Bytes s → Comes s room (readOf s room)
 unfolding settled
 reasons s room bs =
-    let d : Due = value limit.levels s 0 in
+    let d : Due = topValue s 0 in
     picked (Comes s room) (leb (length s) limit.bytes) _ _
     (λ h. picked (Comes s room) (leb (length (records s)) room) _ _
     (λ i. ended-either (Comes s room) d (records s) (λ n e. begins n (leb-true _ _ h) (leb-true _ _ i) (soundness.sound limit.levels s 0 n bs e))

@@ -11,7 +11,7 @@ use Rattle.image.specs.Record.{layoutOf}
 use Rattle.image.specs.Taking.{Small, Fits}
 use Rattle.image.specs.Due.{Due, end}
 use Rattle.image.specs.Whole.{bytes}
-use Rattle.amf0.specs.Reading.{value}
+use Rattle.amf0.specs.Reading.{value, topValue}
 use Rattle.amf0.specs.Standard.{Item, Sort, Tree, depth, follows, Row, Encodes}
 use Rattle.amf0.specs.Standard.UTF-8.{short}
 use Rattle.amf0.specs.Standard.UTF-8-long.{long}
@@ -182,13 +182,13 @@ marks-right (Encodes.cons {x} {y} e f) s r at d l h g =
 
 -- what is read of an encoding that stands at a place can stand in an image
 pub read-right : {t : Tree Sort.value} {x : List ℕ} (s r : List ℕ) (at : ℕ) → Encodes Sort.value t x → Here s at x r → depth t ≤ limit.levels
-    → length s ≤ limit.bytes → Right s (recordsOf (value limit.levels s at))
+    → length s ≤ limit.bytes → Right s (recordsOf (topValue s at))
 read-right {x} s r at e h d l =
     rw (complete e s r at (at + length x) limit.levels (length x) h refl d (omega arith)) (marks-right e s r at (end (at + length x)) l h tt)
 
 -- and shows its tree
 pub shown : {t : Tree Sort.value} {x : List ℕ} (s r : List ℕ) (at : ℕ) → Encodes Sort.value t x → Here s at x r → depth t ≤ limit.levels
-    → length s ≤ limit.bytes → Shows s t (bytes (value limit.levels s at))
+    → length s ≤ limit.bytes → Shows s t (bytes (topValue s at))
 shown s r at e h d l =
-    let u : Due = value limit.levels s at in
+    let u : Due = topValue s at in
     record { records = recordsOf u; right = read-right s r at e h d l; tells = reads limit.levels s r at e h d .tells; lies = bytes-laid u }

@@ -6,7 +6,7 @@ use Rattle.wire.specs.Limit as limit
 use Rattle.wire.proofs.Stands.{here-front}
 use Rattle.image.specs.Due.{Due, end, _>>=_, based, shifted, Ends}
 use Rattle.image.specs.Whole.{Whole, bytes, accepted, refused, ended, settled}
-use Rattle.amf0.specs.Reading.{value, readOf}
+use Rattle.amf0.specs.Reading.{value, topValue, readOf}
 use Rattle.amf0.specs.Standard.{Sort, Tree, depth, Encodes}
 use Rattle.amf0.specs.Shown.{Shows}
 use Rattle.amf0_theorems.proofs.More.{settled-more, pick-more}
@@ -31,7 +31,7 @@ pub record Means (s : List ℕ) (w : Whole) : Type 0 where
   pub made : w .reading .made ≡ length (w .bytes)
   pub used : w .reading .used ≤ length s
 
-found-means : (s : List ℕ) (n : ℕ) → length s ≤ limit.bytes → Found Sort.value limit.levels s 0 n → n ≤ length s → Means s (accepted n (bytes (value limit.levels s 0)))
+found-means : (s : List ℕ) (n : ℕ) → length s ≤ limit.bytes → Found Sort.value limit.levels s 0 n → n ≤ length s → Means s (accepted n (bytes (topValue s 0)))
 found-means s n b f l =
     let e : n ≡ length (f .row) = omega arith in
     record {
@@ -52,7 +52,7 @@ sound s room bs = go (readOf s room) (comes s room)
     go w (Comes.no-room h i) e = absurd (omega arith)
     go w (Comes.not-read p h i t y) e = absurd (omega arith)
     go w (Comes.read {n} h i f) e =
-        found-means s n h (soundness.sound limit.levels s 0 n bs f) (forward s 0 n (value limit.levels s 0) (kept limit.levels s 0 (omega arith)) f .1)
+        found-means s n h (soundness.sound limit.levels s 0 n bs f) (forward s 0 n (topValue s 0) (kept limit.levels s 0 (omega arith)) f .1)
 
 -- an acceptance of n bytes, with an image that tells the tree t
 pub record Accepts (s : List ℕ) (t : Tree Sort.value) (n : ℕ) (w : Whole) : Type 0 where
@@ -66,7 +66,7 @@ pub complete : (t : Tree Sort.value) (x r : List ℕ) (room : ℕ) → Encodes S
     → 3 * length (x ++ r) ≤ room → Accepts (x ++ r) t (length x) (readOf (x ++ r) room)
 complete t x r room e l h i =
     let y = reads limit.levels (x ++ r) r 0 e (record { same = refl }) l in
-    let d : Due = value limit.levels (x ++ r) 0 in
+    let d : Due = topValue (x ++ r) 0 in
     rw (roomy (x ++ r) room h (omega (arith, thrice (x ++ r))), ended-at d (bytes d) (0 + length x) (y .ends))
     (record { answer = refl; used = omega arith; shows = shown (x ++ r) r 0 e (record { same = refl }) l h })
 
@@ -110,10 +110,10 @@ room-enough s room h = go (readOf s room) (comes s room)
     go w (Comes.read i j f) e = omega arith
 
 -- Within the limit, the answer is 4 exactly where the records that the reading finds have more bytes than the room.
-pub room-exact : (s : List ℕ) (room : ℕ) → length s ≤ limit.bytes → readOf s room .reading .answer ≡ 4 ↔ room < length (bytes (value limit.levels s 0))
+pub room-exact : (s : List ℕ) (room : ℕ) → length s ≤ limit.bytes → readOf s room .reading .answer ≡ 4 ↔ room < length (bytes (topValue s 0))
 room-exact s room h = go (readOf s room) (comes s room)
   where
-    go : (w : Whole) → Comes s room w → w .reading .answer ≡ 4 ↔ room < length (bytes (value limit.levels s 0))
+    go : (w : Whole) → Comes s room w → w .reading .answer ≡ 4 ↔ room < length (bytes (topValue s 0))
     go w (Comes.over-limit i) = absurd (omega arith)
     go w (Comes.no-room i j) = (λ e. j, λ e. refl)
     go w (Comes.not-read p i j t y) = (λ e. absurd (y .other e), λ e. absurd (omega arith))
@@ -121,7 +121,7 @@ room-exact s room h = go (readOf s room) (comes s room)
 
 -- Where a room does, every larger room gives the same.
 pub room-more : (s : List ℕ) (room more : ℕ) → room ≤ more → readOf s room .reading .answer ≢ 4 → readOf s more ≡ readOf s room
-room-more s = pick-more (leb (length s) limit.bytes) (refused 1) (settled-more (value limit.levels s 0))
+room-more s = pick-more (leb (length s) limit.bytes) (refused 1) (settled-more (topValue s 0))
 
 -- ---- the answers
 

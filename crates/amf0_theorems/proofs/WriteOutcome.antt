@@ -60,13 +60,13 @@ image-written {image} {s} room m d h i =
 -- ---- the image that a reading makes
 
 pub read-image : {s x r : List ℕ} {at : ℕ} {t : Tree Sort.value} → Encodes Sort.value t x → Here s at x r → depth t ≤ limit.levels → length s ≤ limit.bytes
-    → Images s t (read.bytes (reading.value limit.levels s at))
+    → Images s t (read.bytes (reading.topValue s at))
 read-image {s} {r} {at} e h d l = images (shown s r at e h d l)
 
 -- an accepted call makes the records of its reading, which are within the limit and the room
 pub record Read (s : List ℕ) (room : ℕ) (w : Whole) : Type 0 where
   pub text-size : length s ≤ limit.bytes
-  pub made : w .bytes ≡ read.bytes (reading.value limit.levels s 0)
+  pub made : w .bytes ≡ read.bytes (reading.topValue s 0)
   pub image-size : length (w .bytes) ≤ limit.image
   pub fits : length (w .bytes) ≤ room
 
@@ -81,9 +81,9 @@ accepted-read s room = go (readOf s room) (comes s room)
 
 -- an encoding is read to its end
 pub read-all : {b : List ℕ} {t : Tree Sort.value} (room : ℕ) → Encodes Sort.value t b → depth t ≤ limit.levels → length b ≤ limit.bytes → 3 * length b ≤ room
-    → readOf b room ≡ accepted (length b) (read.bytes (reading.value limit.levels b 0))
+    → readOf b room ≡ accepted (length b) (read.bytes (reading.topValue b 0))
 read-all {b} room e d l h =
-    let g : Due = reading.value limit.levels b 0 in
+    let g : Due = reading.topValue b 0 in
     let r = reads limit.levels b [] 0 e (record { same = sym (append-nil b) }) d in
     roomy b room l (omega (arith, thrice b)) ∙ ended-at g (read.bytes g) (length b) (rw zero-add at (r .ends))
 

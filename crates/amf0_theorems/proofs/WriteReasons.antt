@@ -15,7 +15,7 @@ use Rattle.amf0.specs.declared.write.Rest.the-variants.{Nothing, Pairs, Dense, 
 use Rattle.amf0.specs.Shape.{Shape}
 use Rattle.amf0.specs.Shape as S
 use Rattle.amf0.specs.Standard.{Sort, Tree, depth}
-use Rattle.amf0.specs.Writing.{shapeOf, valueAt, taken, valued, paired, items, pairs, dense, rest, value, whole, writeOf}
+use Rattle.amf0.specs.Writing.{shapeOf, valueAt, taken, valued, paired, items, pairs, dense, rest, value, topValue, whole, writeOf}
 use Rattle.amf0.specs.Written.{write, Images, Writable}
 use Rattle.amf0_theorems.specs.Unwritten.{Stops, Refused, Outcome, OutcomeOf}
 use Rattle.amf0_theorems.proofs.Puts.{Puts}
@@ -183,7 +183,7 @@ module _ (image s : List ℕ) (room : ℕ) where
       → ((b : List ℕ) → length b ≤ room → P (written b)) → P (writeOf image s room)
   unfolding settled
   answered P one four five six done =
-      let d : Out = whole image (value limit.levels image s 0) in
+      let d : Out = whole image (topValue image s 0) in
       picked P (leb (length s) limit.bytes) _ _
       (λ h. picked P (leb (length image) limit.image) _ _
       (λ i. ended-either P d (bytes d) room (whole-refuses s image limit.levels)
@@ -194,7 +194,7 @@ module _ (image s : List ℕ) (room : ℕ) where
   pub reasons : Bytes image → Outcome image s room (writeOf image s room)
   unfolding settled
   reasons bs =
-      let d : Out = whole image (value limit.levels image s 0) in
+      let d : Out = whole image (topValue image s 0) in
       let P : Written → Type 0 = Outcome image s room in
       picked P (leb (length s) limit.bytes) _ _
       (λ h. picked P (leb (length image) limit.image) _ _
@@ -206,7 +206,7 @@ module _ (image s : List ℕ) (room : ℕ) where
       (λ h. OutcomeOf.text-over (leb-false _ _ h))
     where
       tree : length s ≤ limit.bytes → length image ≤ limit.image → (t : Tree Sort.value) × Images s t image × (depth t ≤ limit.levels)
-          → Outcome image s room (sized (bytes (whole image (value limit.levels image s 0))) room)
+          → Outcome image s room (sized (bytes (whole image (topValue image s 0))) room)
       tree h i x =
           let w : Writable image s (x .0) = record { text-size = h; image-size = i; images = x .1; deep = x .2 } in
           rw (puts-bytes (image-puts limit.levels (x .1) λ l. omega (arith, x .2)))

@@ -13,7 +13,7 @@ use Rattle.image.proofs.Laws.{size-bytes, size-some}
 use Rattle.amf0.specs.declared.write.Rest.{Rest}
 use Rattle.amf0.specs.Standard.{Item, Sort, follows}
 use Rattle.amf0.specs.Shown.{laid, Named, Right}
-use Rattle.amf0.specs.Writing.{valueAt, items, pairs, dense, rest, value, whole}
+use Rattle.amf0.specs.Writing.{valueAt, items, pairs, dense, rest, value, topValue, whole}
 use Rattle.amf0.specs.Written.{Lead, lead}
 use Rattle.amf0.specs.Written.Lead.{keyed, keyless}
 use Rattle.amf0_theorems.specs.Unwritten.{Stops, Slot, Begins, Opens, Fronts, NoPair, Valued, Refuses, Refused}
@@ -211,9 +211,9 @@ module _ (s image : List ℕ) (bs : Bytes image) where
       by (SeenValue.unseen n) go e = halted (no-record (e .1)) Begins.value (rw (e .0) (Refuses.value n))
 
   -- an image that is refused
-  pub refused-by : (a p : ℕ) → Stops (whole image (value limit.levels image s 0)) a p → Refused image s a p
+  pub refused-by : (a p : ℕ) → Stops (whole image (topValue image s 0)) a p → Refused image s a p
   refused-by a p e =
-      bind-stops (value limit.levels image s 0) (λ n. pick (leb (length image) n) (end n) (stop 6 n)) a p e
+      bind-stops (topValue image s 0) (λ n. pick (leb (length image) n) (end n) (stop 6 n)) a p e
       (λ f.
       let x = value-halt limit.levels 0 a p f in
       record {

@@ -11,7 +11,7 @@ use Rattle.image.proofs.Laws.{size-some}
 use Rattle.amf0.specs.declared.write.Rest.{Rest}
 use Rattle.amf0.specs.Standard.{Item, Sort, follows}
 use Rattle.amf0.specs.Shown.{Word, look, laid, Right}
-use Rattle.amf0.specs.Writing.{valueAt, items, pairs, dense, rest, value, whole}
+use Rattle.amf0.specs.Writing.{valueAt, items, pairs, dense, rest, value, topValue, whole}
 use Rattle.amf0.specs.Written.{Lead, lead}
 use Rattle.amf0.specs.Written.Lead.{keyed, keyless}
 use Rattle.amf0_theorems.specs.Unwritten.{Stops, Slot, Begins, Opens, Refuses, NoValue, NoPair, Refused}
@@ -169,14 +169,14 @@ module _ (s image : List ℕ) (bs : Bytes image) where
   -- ---- from the start of the image
 
   opened : {rs : List Record} {d : Slot} {z : List ℕ} {a : ℕ} (p : ℕ) → Opens s rs d → Right s rs → Refuses s d z a → Here image 0 (laid rs) z
-      → p ≡ length (laid rs) → Stops (whole image (value limit.levels image s 0)) a p
+      → p ≡ length (laid rs) → Stops (whole image (topValue image s 0)) a p
   opened {a} p (Opens.inside b) g r h m =
-      stops-first (value limit.levels image s 0) _ a p (value-stops b g r 0 p h (omega arith))
+      stops-first (topValue image s 0) _ a p (value-stops b g r 0 p h (omega arith))
   opened {rs} p (Opens.behind t n) g (Refuses.past {b} {x}) h m =
       let l : p < length image = omega (arith, ap length (h .same), length-append (laid rs) (b ∷ x)) in
       stops-then (puts s image t g (b ∷ x) 0 p limit.levels (length (laid rs)) h (omega arith) (λ o. omega arith) (omega arith)) _ 6 p
       (rw (pick-no (length image) p (end p) (stop 6 p) l) (refl, refl))
 
   -- an image that is refused
-  pub refuses-by : (a p : ℕ) → Refused image s a p → Stops (whole image (value limit.levels image s 0)) a p
+  pub refuses-by : (a p : ℕ) → Refused image s a p → Stops (whole image (topValue image s 0)) a p
   refuses-by a p x = opened p (x .opens) (x .right) (x .refuses) (record { same = x .lies }) (x .stands)

@@ -13,7 +13,7 @@ use Rattle.amf0.specs.Standard.{Item, Sort, Tree, depth, Encodes}
 use Rattle.amf0.specs.Shown.{laid, Right, Shows}
 use Rattle.amf0.specs.Reading as reading
 use Rattle.amf0.specs.Reading.{readOf}
-use Rattle.amf0.specs.Writing.{value, whole, writeOf}
+use Rattle.amf0.specs.Writing.{topValue, whole, writeOf}
 use Rattle.amf0.specs.Written.{write, Shortest, Spells, Images, Writable, Over, numbered, Alike, rewriteOf}
 use Rattle.amf0.specs.Written.Lead.{keyed, keyless}
 use Rattle.amf0_theorems.specs.Unwritten.{Stops, Slot, Begins, Opens, Refuses, Refused, Outcome, OutcomeOf}
@@ -139,7 +139,7 @@ pub record Trip (s x b : List ℕ) (t : Tree Sort.value) (image : List ℕ) (w :
   pub alike : Alike s b image (w .bytes)
 
 -- The image that a reading makes of a tree which stands anywhere in s, written in full, reads back, given room, as the same tree.
-pub trip : {image s x r : List ℕ} {at : ℕ} {t : Tree Sort.value} (b : List ℕ) (out more : ℕ) → image ≡ bytes (reading.value limit.levels s at) → Encodes Sort.value t x
+pub trip : {image s x r : List ℕ} {at : ℕ} {t : Tree Sort.value} (b : List ℕ) (out more : ℕ) → image ≡ bytes (reading.topValue s at) → Encodes Sort.value t x
     → Here s at x r → Writable image s t → writeOf image s out ≡ written b → 3 * length b ≤ more → Trip s x b t image (readOf b more)
 trip {image} {s} {t} b out more made e h w f i =
     let g = written-sized (write t) out b (sym (written-tree image s t out w .0) ∙ f) in
@@ -196,12 +196,12 @@ write-answers image text room =
 
 -- The writing is refused with an answer at a place exactly where the records before it begin a tree, and what stands there is not what is due and gives
 -- that answer.
-pub refusal : (image text : List ℕ) (a p : ℕ) → Bytes image → Stops (whole image (value limit.levels image text 0)) a p ↔ Refused image text a p
+pub refusal : (image text : List ℕ) (a p : ℕ) → Bytes image → Stops (whole image (topValue image text 0)) a p ↔ Refused image text a p
 refusal image text a p bs = (refused-by text image bs a p, refuses-by text image bs a p)
 
 -- An image is refused with one answer, at one place.
 pub one-refusal : (image text : List ℕ) (a b p q : ℕ) → Bytes image → Refused image text a p → Refused image text b q → (a ≡ b) × (p ≡ q)
-one-refusal image text a b p q bs x y = stops-once (whole image (value limit.levels image text 0)) a b p q (refuses-by text image bs a p x) (refuses-by text image bs b q y)
+one-refusal image text a b p q bs x y = stops-once (whole image (topValue image text 0)) a b p q (refuses-by text image bs a p x) (refuses-by text image bs b q y)
 
 -- The empty image, which is that of no tree, is refused with 6 at its start, and with nothing else.
 pub empty-image : (text : List ℕ) (a p : ℕ) → Refused [] text a p ↔ (a ≡ 6) × (p ≡ 0)
@@ -230,7 +230,7 @@ pub tree-or-refusal : (image text : List ℕ) → Bytes image
     → ((t : Tree Sort.value) × Images text t image × (depth t ≤ limit.levels)) ⊎ ((a : ℕ) × (p : ℕ) × Refused image text a p)
 tree-or-refusal image text bs =
     ⊎-elim (λ e. inl (image-of text image bs limit.levels (e .0) (e .1))) (λ e. inr (e .0, e .1, refused-by text image bs (e .0) (e .1) (e .2)))
-    (ends-or-stops (whole image (value limit.levels image text 0)))
+    (ends-or-stops (whole image (topValue image text 0)))
 
 -- A call is refused for a size, by what stands at a place of the image, or for the room; else it puts out what the tree is written as.
 pub write-reasons : (image text : List ℕ) (room : ℕ) → Bytes image → Outcome image text room (writeOf image text room)
@@ -240,7 +240,7 @@ write-reasons = reasons
 pub write-refusals : (image text : List ℕ) (room a : ℕ) → Bytes image → length text ≤ limit.bytes → length image ≤ limit.image → (a ≡ 5) ⊎ (a ≡ 6)
     → writeOf image text room ≡ unwritten a ↔ (p : ℕ) × Refused image text a p
 write-refusals image text room a bs h i o =
-    call-refusals image text (whole image (value limit.levels image text 0)) room a (Refused image text a) (whole-refuses text image limit.levels) h i o λ p.
+    call-refusals image text (whole image (topValue image text 0)) room a (Refused image text a) (whole-refuses text image limit.levels) h i o λ p.
     refusal image text a p bs
 
 -- The answer is 1 exactly where the text or the image is over its limit, or the image is that of a tree whose bytes are.

@@ -107,7 +107,7 @@ RefusedValue left s at answer place = Refused (λ r x f. Leads r left value x f)
 
 -- the bytes of the records that an input's reading finds
 abbrev pub records : List ℕ → List ℕ
-records s = bytes (reading.value limit.levels s 0)
+records s = bytes (reading.topValue s 0)
 
 -- What the public call comes to in a room, and when: a room too small refuses before any other reason but the limit.
 pub data Comes (s : List ℕ) (room : ℕ) : Whole → Type 0 where

@@ -11,7 +11,7 @@ use Rattle.image.specs.declared.reading.Step.the-variants.{Next, Stop}
 use Rattle.image.specs.declared.record.Record.the-variants.{Key}
 use Rattle.image.specs.Due.{Due, end, stop, due, _>>=_, Ran, ran, run}
 use Rattle.image.proofs.Laws.{run-stop}
-use Rattle.amf0.specs.Reading.{value}
+use Rattle.amf0.specs.Reading.{value, topValue}
 use Rattle.lso.specs.Reading.{zerosAt, headerAt, elementAt}
 use Rattle.lso.specs.Code.{tried, runBody, runFile}
 
@@ -64,7 +64,7 @@ module _ (s : List ℕ) (at : ℕ) where
   element-cut e = rw e
 
   pub element-key : {p n : ℕ} {c : Cursor} → textAt 2 s at ≡ Text.Got p n c
-      → elementAt s at ≡ due (Key p n) at (value limit.levels s (c .at) >>= closing s)
+      → elementAt s at ≡ due (Key p n) at (topValue s (c .at) >>= closing s)
   unfolding elementAt
   element-key e = rw e
 

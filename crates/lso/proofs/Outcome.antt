@@ -13,7 +13,7 @@ use Rattle.image.specs.Record.{bytesOf}
 use Rattle.image.specs.Due.{Due, end, stop, due, _>>=_}
 use Rattle.image.specs.Whole.{Whole, bytes, accepted, refused}
 use Rattle.image.proofs.Laws.{size-bytes, size-some}
-use Rattle.amf0.specs.Reading.{value}
+use Rattle.amf0.specs.Reading.{topValue}
 use Rattle.amf0.proofs.Reasons.{Named, Kept, kept}
 use Rattle.lso.specs.File.{version, signature}
 use Rattle.lso.specs.Reading.{End, endOf, headerAt, elementAt, Body, bodyAt, headed, everDue, incompleteOf, all, wholeOf}
@@ -59,7 +59,7 @@ module _ (s : List ℕ) where
   element-sized at h = goText (Sized Named s (3 * at)) stop s at 2 _
       (λ n e i u.
       let q : ℕ = at + 2 + n in
-      let d : Due = value limit.levels s q in
+      let d : Due = topValue s q in
       fewer s (3 * at + 6) (3 * q) (d >>= closing s) (omega arith)
       (bind-sized s (3 * q) d (closing s) (from-kept s (3 * q) d (kept limit.levels s q i)) closing-sized))
       (λ i. (omega arith, field-named (inl refl))) (λ n e i j. (omega arith, field-named (inl refl))) (λ n e i u. (omega arith, field-named (inr refl)))
@@ -103,10 +103,10 @@ unfolding elementAt bytes
 element-some s at n = go (textAt 2 s at)
   where
     go : (t : Text)
-        → endOf (gotText stop t λ p m q. due (Key p m) at (value limit.levels s q >>= closing s)) ≡ ends n
-        → 1 ≤ length (bytes (gotText stop t λ p m q. due (Key p m) at (value limit.levels s q >>= closing s)))
+        → endOf (gotText stop t λ p m q. due (Key p m) at (topValue s q >>= closing s)) ≡ ends n
+        → 1 ≤ length (bytes (gotText stop t λ p m q. due (Key p m) at (topValue s q >>= closing s)))
     go (Text.Got p m c) e =
-        let d : Due = value limit.levels s (c .at) >>= closing s in
+        let d : Due = topValue s (c .at) >>= closing s in
         omega (arith, length-append (bytesOf (Key p m)) (bytes d), size-bytes (Key p m), size-some (Key p m))
     go (Text.Stop a p) e = let z : _≡_ {A = ℕ} 0 1 = cc in absurd (omega arith)
 

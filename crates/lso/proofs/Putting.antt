@@ -18,7 +18,7 @@ use Rattle.image.specs.Taking.{recordAt}
 use Rattle.image.specs.Out.{Out, end, stop, put, _>>=_, rowBytes, namedOf, row, Poured, poured, pour, bytes as bytesOut, settled, written, unwritten}
 use Rattle.image.proofs.Found.{found-kind}
 use Rattle.image.proofs.Pouring.{Inside, inside, length-row, row-bind, went, settled-halt, settled-over, settled-full, settled-fits}
-use Rattle.amf0.specs.Writing.{value, taken}
+use Rattle.amf0.specs.Writing.{value, topValue, taken}
 use Rattle.amf0.proofs.Putting.{known-bytes}
 use Rattle.lso.specs.declared.write.Part.{Part}
 use Rattle.lso.specs.declared.write.Part.the-variants as P
@@ -48,7 +48,7 @@ padding = rowOf (1 bytes 0) none none 0 0
 
 -- a value and a zero
 abbrev pub padded : List ℕ → List ℕ → ℕ → ℕ → Out
-padded image text at q = value limit.levels image text q >>= λ e. row text padding at (end e)
+padded image text at q = topValue image text q >>= λ e. row text padding at (end e)
 
 module _ (image text : List ℕ) (at : ℕ) where
   -- it is its key, and then its value and the zero

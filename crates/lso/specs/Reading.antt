@@ -8,7 +8,7 @@ use Rattle.wire.specs.declared.cursor.Tag.the-variants as Tag
 use Rattle.image.specs.declared.record.Record.the-variants.{Key, Lso}
 use Rattle.image.specs.Due.{Due, end, stop, due, _>>=_}
 use Rattle.image.specs.Whole.{Whole, bytes, accepted, refused}
-use Rattle.amf0.specs.Reading.{value}
+use Rattle.amf0.specs.Reading.{value, topValue}
 use Rattle.lso.specs.File.{version, signature}
 
 -- ---- the fields
@@ -32,7 +32,7 @@ headerAt s =
 unfoldable pub elementAt : List ℕ → ℕ → Due
 elementAt s at =
     gotText stop (textAt 2 s at) λ p n q.
-    due (Key p n) at (value limit.levels s q >>= λ e. pastTag stop (tagAt (0 ∷ []) s e) end)
+    due (Key p n) at (topValue s q >>= λ e. pastTag stop (tagAt (0 ∷ []) s e) end)
 
 -- ---- the body
 

@@ -9,7 +9,7 @@ use Rattle.image.specs.declared.writing.Row.{Row}
 use Rattle.image.specs.Record.{_bytes_, none}
 use Rattle.image.specs.Taking.{recordAt}
 use Rattle.image.specs.Out.{Out, end, stop, _>>=_, row, bytes as bytesOut, Written, unwritten, settled}
-use Rattle.amf0.specs.Writing.{value, taken}
+use Rattle.amf0.specs.Writing.{value, topValue, taken}
 use Rattle.lso.specs.declared.write.Part.{Part}
 use Rattle.lso.specs.declared.write.Part.the-variants as P
 
@@ -61,7 +61,7 @@ element image text at =
     taken at (recordAt image at) λ r q.
     keyed at (partOf r) λ p n.
     row text (rowOf none (2 bytes n) none p n) at
-    (value limit.levels image text q >>= λ e. row text (rowOf (1 bytes 0) none none 0 0) at (end e))
+    (topValue image text q >>= λ e. row text (rowOf (1 bytes 0) none none 0 0) at (end e))
 
 -- elements to the image's end; each takes bytes of the image, so the image's length bounds their number
 unfoldable pub body : List ℕ → List ℕ → ℕ → ℕ → Out

@@ -7,7 +7,7 @@ use Rattle.wire.specs.Limit as limit
 use Rattle.wire.proofs.Stands.{Here, join, bytes-left}
 use Rattle.image.specs.Whole.{refused}
 use Rattle.image.specs.Due.{Due, end, stop, due, shifted, Stops}
-use Rattle.amf0.specs.Reading.{value}
+use Rattle.amf0.specs.Reading.{value, topValue}
 use Rattle.amf0.specs.Standard.{Sort, Tree, depth, UTF-8, Encodes}
 use Rattle.amf0.specs.Standard.UTF-8.{short}
 use Rattle.amf0_theorems.specs.Refusal.{Field, width, InText, Refuses}
@@ -237,8 +237,8 @@ module _ (x w : List ℕ) (bs : Bytes (x ++ w)) where
       let o : q ≡ n + 0 = omega (arith, length-append x y) in
       let i : q ≤ length (x ++ w) = omega (arith, length-append x w, ap length same, length-append y v) in
       let r : x ++ w ≡ (x ++ y) ++ v = ap (λ z. x ++ z) same ∙ sym (append-assoc x y v) in
-      let s : Stops (value limit.levels (x ++ w) q) 2 p =
-      rw (r, o, shift limit.levels (x ++ y) v 0) (stops-shifted (value limit.levels v 0) n 2 (b .0) (value-refused limit.levels v 0 2 (b .0) (bytes-left v m (encoding e)) (omega arith) .1 (b .1))) in
+      let s : Stops (topValue (x ++ w) q) 2 p =
+      rw (r, o, shift limit.levels (x ++ y) v 0) (stops-shifted (topValue v 0) n 2 (b .0) (value-refused limit.levels v 0 2 (b .0) (bytes-left v m (encoding e)) (omega arith) .1 (b .1))) in
       let g = value-refused limit.levels (x ++ w) q 2 p bs i .0 s in
       let h : Here (x ++ w) (length x) y v = record { same = drop-append-seam x w ∙ same } in
       let j : Here (x ++ w) (length x) (y ++ g .before) (g .rest) = join {y = g .before} {z = g .rest} h refl (record { same = g .stands }) in (

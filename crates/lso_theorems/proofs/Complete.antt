@@ -13,7 +13,7 @@ use Rattle.image.specs.Record.{bytesOf}
 use Rattle.image.specs.Taking.{Fits}
 use Rattle.image.specs.Due.{Due, end, stop, due, _>>=_, Ends}
 use Rattle.image.specs.Whole.{bytes}
-use Rattle.amf0.specs.Reading.{value}
+use Rattle.amf0.specs.Reading.{value, topValue}
 use Rattle.amf0.specs.Standard.{Sort, Tree, depth, UTF-8, Encodes}
 use Rattle.amf0.specs.Standard.UTF-8.{short}
 use Rattle.amf0.specs.Standard.Tree.{node, none, property, nil, cons}
@@ -77,7 +77,7 @@ element-reads {y} {v} s r at n (short k h u) e d g l =
     let p = reads limit.levels s ((0 ∷ []) ++ r) q e (cut y (0 ∷ []) c) d in
     let t = cut k (y ++ (0 ∷ [])) (skip (digits 2 (length k)) (k ++ (y ++ (0 ∷ []))) g) in
     let w : q + length y + 1 ≡ n = omega (arith, length-append k (y ++ (0 ∷ [])), length-append y (0 ∷ [])) in
-    let b = closes (value limit.levels s q) (closing s) (q + length y) n (p .ends) (rw z (ap end w)) in
+    let b = closes (topValue s q) (closing s) (q + length y) n (p .ends) (rw z (ap end w)) in
     let f = element-key s at (text-at 2 k (cut x (y ++ (0 ∷ [])) g) h u (omega arith)) in
     record {
       ends = ap endOf f ∙ b .ends;
@@ -88,7 +88,7 @@ element-reads {y} {v} s r at n (short k h u) e d g l =
       images = λ i o rs m.
           let key : Placed s (at + 2) k =
           record { inside = omega (arith, inside g (omega arith), length-append k (y ++ (0 ∷ []))); same = there (length k) t refl; right = u; small = h } in
-          let same : recordsOf (elementAt s at) ≡ Record.Key (at + 2) (length k) ∷ recordsOf (value limit.levels s q) =
+          let same : recordsOf (elementAt s at) ≡ Record.Key (at + 2) (length k) ∷ recordsOf (topValue s q) =
           ap recordsOf f ∙ ap (λ x. Record.Key (at + 2) (length k) ∷ x) (b .same) in
           rw same
           (imaged-element (at + 2) q i key (p .tells) (read s y ((0 ∷ []) ++ r) q e (cut y (0 ∷ []) c) d i) m);

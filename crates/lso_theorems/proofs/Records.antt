@@ -5,7 +5,7 @@ use Rattle.wire.specs.Field.{bytesAt}
 use Rattle.wire.specs.Limit as limit
 use Rattle.image.specs.declared.record.Record.{Record}
 use Rattle.image.specs.declared.record.Record.the-variants as R
-use Rattle.amf0.specs.Reading.{value}
+use Rattle.amf0.specs.Reading.{topValue}
 use Rattle.amf0.specs.Standard.{Sort, Tree}
 use Rattle.amf0.specs.Shown.{told, words, Stands, Right}
 use Rattle.amf0.specs.Written.{unplaced}
@@ -41,10 +41,10 @@ stands h = record { inside = h .inside; right = rw (h .same) (h .right) }
 
 -- an element, and then others
 pub imaged-element : {s k : List ℕ} {v : Tree Sort.value} {b : Body} {qs : List Record} (p q : ℕ) → length s ≤ limit.bytes → Placed s p k
-    → words s (recordsOf (value limit.levels s q)) ≡ told v [] → Of s q v → Imaged s b qs
-    → Imaged s (Body.element k v b) ((R.Key p (length k) ∷ recordsOf (value limit.levels s q)) ++ qs)
+    → words s (recordsOf (topValue s q)) ≡ told v [] → Of s q v → Imaged s b qs
+    → Imaged s (Body.element k v b) ((R.Key p (length k) ∷ recordsOf (topValue s q)) ++ qs)
 imaged-element {s} {k} {v} {b} {qs} p q l h t o m =
-    let vs : List Record = recordsOf (value limit.levels s q) in
+    let vs : List Record = recordsOf (topValue s q) in
     record {
       right =
           (record { a = omega (arith, h .inside); b = h .small; c = lit< tt; d = lit< tt; zone = λ n z e. cc }, stands h, right-both s vs qs (o .right) (m .right));

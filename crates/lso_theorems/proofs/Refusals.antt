@@ -6,7 +6,7 @@ use Rattle.wire.specs.Limit as limit
 use Rattle.wire.proofs.Laws.{length-digits}
 use Rattle.wire.proofs.Stands.{Here, after, join, cut, skip, inside, u32-at, text-at, tag-at}
 use Rattle.image.specs.Due.{Due, end, stop, Stops}
-use Rattle.amf0.specs.Reading.{value}
+use Rattle.amf0.specs.Reading.{topValue}
 use Rattle.amf0.specs.Standard.{Sort, UTF-8}
 use Rattle.amf0.specs.Standard.UTF-8.{short}
 use Rattle.amf0_theorems.specs.Refusal.{Field, InText, Refuses, RefusedValue}
@@ -122,8 +122,8 @@ element-told s bs at =
     (λ t r h b u.
     let q : ℕ = at + 2 + length t in
     let m : q ≤ length s = omega (arith, inside h (omega arith)) in
-    told-bind (RefusedElement s at) (value limit.levels s q) (closing s)
-    (told-map (value limit.levels s q) (λ a p. onward h (omega arith) λ r x f e. LeadsElement.value (short t b u)) (value-told limit.levels s q bs m))
+    told-bind (RefusedElement s at) (topValue s q) (closing s)
+    (told-map (topValue s q) (λ a p. onward h (omega arith) λ r x f e. LeadsElement.value (short t b u)) (value-told limit.levels s q bs m))
     (λ n f. closed t r h (short t b u) (amf0.sound limit.levels s q n bs f)))
     (λ a p. reworded λ r x f. LeadsElement.key)
   where
@@ -144,12 +144,12 @@ module _ (s : List ℕ) (bs : Bytes s) (at a p : ℕ) where
       let v : RefusedValue limit.levels s q a p =
       record { before = y; rest = r; field = g; stands = past k y h .same; here = omega (arith, length-append k y); leads = d; refuses = f } in
       rw (element-key s at (text-at 2 k (cut (digits 2 (length k) ++ k) y h) b u (omega arith)))
-      (stops-first (value limit.levels s q) (closing s) a p (value-refused limit.levels s q a p bs m .1 v))
+      (stops-first (topValue s q) (closing s) a p (value-refused limit.levels s q a p bs m .1 v))
   element-stops {r} (LeadsElement.zero {y} (short k b u) v d) h e f =
       let q : ℕ = at + 2 + length k in
       let g = past k y h in
       rw (element-key s at (text-at 2 k (cut (digits 2 (length k) ++ k) y h) b u (omega arith)))
-      (stops-behind (value limit.levels s q) (closing s) (q + length y) a p (reads limit.levels s r q v g d .ends)
+      (stops-behind (topValue s q) (closing s) (q + length y) a p (reads limit.levels s r q v g d .ends)
       (rw (tag-stops s (q + length y) (0 ∷ []) (omega arith) {a = a} (left g refl f)) (refl, omega (arith, length-append k y))))
 
   -- An element is refused exactly as its fields say.

@@ -8,7 +8,7 @@ use Rattle.wire.specs.declared.cursor.Tag.the-variants as Tag
 use Rattle.wire.proofs.Laws.{tag-next, length-digits}
 use Rattle.wire.proofs.Stands.{Here, join, inside, tag-ends, end32, endText}
 use Rattle.image.specs.Due.{Due, end, stop, due, Ends}
-use Rattle.amf0.specs.Reading.{value}
+use Rattle.amf0.specs.Reading.{value, topValue}
 use Rattle.amf0.specs.Standard.{Sort, Tree, depth, UTF-8, Encodes}
 use Rattle.amf0.specs.Standard.UTF-8.{short}
 use Rattle.amf0_theorems.proofs.Sound as amf0
@@ -58,7 +58,7 @@ module _ (s : List ℕ) (bs : Bytes s) where
   element-sound at n =
       endText (λ d. Ends d n → FoundElement s at n) stop (λ a p e. absurd e) s bs at 2 _ λ k r h b u e.
       let q : ℕ = at + 2 + length k in
-      bind-ends (value limit.levels s q) (closing s) n e λ m f g. go k r h (short k b u) (amf0.sound limit.levels s q m bs f) (closing-sound s m n g)
+      bind-ends (topValue s q) (closing s) n e λ m f g. go k r h (short k b u) (amf0.sound limit.levels s q m bs f) (closing-sound s m n g)
     where
       go : (k r : List ℕ) → Here s at (digits 2 (length k) ++ k) r → UTF-8 k (digits 2 (length k) ++ k) → {m : ℕ}
           → amf0.Found Sort.value limit.levels s (at + 2 + length k) m → Closed s m n → FoundElement s at n

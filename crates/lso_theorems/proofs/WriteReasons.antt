@@ -5,7 +5,7 @@ use Rattle.wire.specs.Limit as limit
 use Rattle.wire.proofs.Laws.{picked}
 use Rattle.image.specs.Taking.{recordAt}
 use Rattle.image.specs.Out.{Out, end, bytes as putOut, settled, sized, Written, written, unwritten}
-use Rattle.amf0.specs.Writing.{value}
+use Rattle.amf0.specs.Writing.{topValue}
 use Rattle.amf0_theorems.specs.Unwritten.{OutcomeOf}
 use Rattle.amf0_theorems.proofs.WriteReasons.{Refuses, six, bind-refuses, taken-refuses, row-refuses, value-refuses, ended-either, sized-either, stops-deep}
 use Rattle.amf0_theorems.proofs.WriteOutcome.{puts-bytes}
@@ -37,7 +37,7 @@ module _ (s image : List ℕ) where
   unfolding element
   element-refuses at =
       taken-refuses at (recordAt image at) _ λ r q. keyed-refuses at (partOf r) _ λ p n. row-refuses s image _ at _
-      (bind-refuses (value limit.levels image s q) _ (value-refuses s image limit.levels q) λ e. row-refuses s image _ at (end e) tt)
+      (bind-refuses (topValue image s q) _ (value-refuses s image limit.levels q) λ e. row-refuses s image _ at (end e) tt)
 
   body-refuses : (fuel at : ℕ) → Refuses (body image s fuel at)
   unfolding body

@@ -5,7 +5,7 @@ use Rattle.wire.specs.Limit as limit
 use Rattle.wire.proofs.Laws.{picked}
 use Rattle.image.specs.Record.{_bytes_, none}
 use Rattle.image.specs.Out.{Out, end, _>>=_, row, bytes as putOut}
-use Rattle.amf0.specs.Writing.{value}
+use Rattle.amf0.specs.Writing.{topValue}
 use Rattle.amf0_theorems.specs.Unwritten.{Stops}
 use Rattle.amf0_theorems.proofs.WriteRefusal.{bind-stops, Reached, no-record, past-record, past-records, past-tree, value-halt}
 use Rattle.lso.specs.Writing.{rowOf, element, body, file}
@@ -38,12 +38,12 @@ module _ (s image : List ℕ) (bs : Bytes image) where
   -- an element, and then all of them
   element-halt : (at a p : ℕ) → at + 1 ≤ length image → Stops (element image s at) a p → Halted at a p
   unfolding element no-record past-record
-  element-halt at a p l e = by (see-key s image bs at (λ q. value limit.levels image s q >>= λ n. row s (rowOf (1 bytes 0) none none 0 0) at (end n))) e
+  element-halt at a p l e = by (see-key s image bs at (λ q. topValue image s q >>= λ n. row s (rowOf (1 bytes 0) none none 0 0) at (end n))) e
     where
-      by : {d : Out} → SeenKey s image bs at (λ q. value limit.levels image s q >>= λ n. row s (rowOf (1 bytes 0) none none 0 0) at (end n)) d
+      by : {d : Out} → SeenKey s image bs at (λ q. topValue image s q >>= λ n. row s (rowOf (1 bytes 0) none none 0 0) at (end n)) d
           → Stops d a p → Halted at a p
       by (SeenKey.seen {q} t h) e =
-          bind-stops (value limit.levels image s q) _ a p e
+          bind-stops (topValue image s q) _ a p e
           (λ f. let x = value-halt s image bs limit.levels q a p f in halted (past-record s image bs t h (x .reached)) (Elements.key (x .begins)) (Refuses.inside (x .refuses)))
           (λ n f g. absurd (zeroed-goes at n a p g))
       by (SeenKey.unseen n) e =

@@ -1,7 +1,6 @@
 -- What stands where something else is due refuses the writing of a file, at its place.
 use Rattle.wire.proofs.Kit.{ℕ, zero, suc, _+_, _<_, _≡_, refl, ap, List, _∷_, _++_, arith, length, drop, length-drop}
 use Rattle.wire.specs.Number.{Bytes}
-use Rattle.wire.specs.Limit as limit
 use Rattle.wire.proofs.Laws.{pick-no}
 use Rattle.wire.proofs.Stands.{Here, skip, inside}
 use Rattle.image.specs.declared.record.Record.{Record}
@@ -10,7 +9,7 @@ use Rattle.image.specs.Record.{_bytes_, none, size}
 use Rattle.image.specs.Out.{Out, end, _>>=_, row, bytes as putOut}
 use Rattle.image.proofs.Laws.{size-some}
 use Rattle.amf0.specs.Shown.{laid, Right}
-use Rattle.amf0.specs.Writing.{value}
+use Rattle.amf0.specs.Writing.{value, topValue}
 use Rattle.amf0_theorems.specs.Unwritten.{Stops}
 use Rattle.amf0_theorems.proofs.Puts.{first, others, laid-append, laid-length, laid-size, right-right}
 use Rattle.amf0_theorems.proofs.Seen.{took-fronts}
@@ -50,10 +49,10 @@ module _ (s image : List ℕ) (bs : Bytes image) where
 
   -- in the value behind a key
   key-stops : {at : ℕ} (u n : ℕ) (rs : List Record) (z : List ℕ) → Here image at (laid (R.Key u n ∷ rs)) z → Right s (R.Key u n ∷ rs) → (a p : ℕ)
-      → Stops (value limit.levels image s (at + size (R.Key u n))) a p → Stops (element image s at) a p
+      → Stops (topValue image s (at + size (R.Key u n))) a p → Stops (element image s at) a p
   unfolding element row
   key-stops {at} u n rs z h g a p e =
-      rw (first s image (R.Key u n) rs z h (g .0), named s none (2 bytes n) none (g .1)) (stops-first (value limit.levels image s (at + size (R.Key u n))) _ a p e)
+      rw (first s image (R.Key u n) rs z h (g .0), named s none (2 bytes n) none (g .1)) (stops-first (topValue image s (at + size (R.Key u n))) _ a p e)
 
   -- elements that are begun are refused where their records end
   body-stops : {rs : List Record} {d : Slot} {z : List ℕ} {a : ℕ} → Elements s rs d → Right s rs → Refuses s d z a → (at p fuel : ℕ) → Here image at (laid rs) z

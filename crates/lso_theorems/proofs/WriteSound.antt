@@ -12,7 +12,7 @@ use Rattle.image.specs.Out.{Out, end, _>>=_, row, bytes as putOut}
 use Rattle.image.proofs.Laws.{size-bytes, size-some}
 use Rattle.amf0.specs.Standard.{Sort}
 use Rattle.amf0.specs.Shown.{laid, Stands, Right}
-use Rattle.amf0.specs.Writing.{value}
+use Rattle.amf0.specs.Writing.{topValue}
 use Rattle.amf0.specs.Written.Lead.{keyed}
 use Rattle.amf0_theorems.proofs.Puts.{laid-append, laid-length, right-both}
 use Rattle.amf0_theorems.proofs.Seen.{nothing, Took}
@@ -71,14 +71,14 @@ module _ (s image : List ℕ) (bs : Bytes image) where
   pub element-sound : (at m : ℕ) {A : Type 0} → Ends (element image s at) m
       → ((p n q : ℕ) → Took s image bs at (R.Key p n) q → Stands s p n → Stood s image bs keyed Sort.value limit.levels q m → A) → A
   unfolding element
-  element-sound at m {A} e go = by (see-key s image bs at (λ q. value limit.levels image s q >>= zeroed)) e
+  element-sound at m {A} e go = by (see-key s image bs at (λ q. topValue image s q >>= zeroed)) e
     where
       zeroed : ℕ → Out
       zeroed x = row s (rowOf (1 bytes 0) none none 0 0) at (end x)
 
-      by : {d : Out} → SeenKey s image bs at (λ q. value limit.levels image s q >>= zeroed) d → Ends d m → A
+      by : {d : Out} → SeenKey s image bs at (λ q. topValue image s q >>= zeroed) d → Ends d m → A
       by (SeenKey.seen {p} {n} {q} t h) e =
-          bind-ends (value limit.levels image s q) zeroed m e λ x f g.
+          bind-ends (topValue image s q) zeroed m e λ x f g.
           let z = row-ends s image bs (rowOf (1 bytes 0) none none 0 0) at m (end x) g .1 in
           go p n q t h (rw z (sound s image bs limit.levels q x f))
       by (SeenKey.unseen x) e = absurd e

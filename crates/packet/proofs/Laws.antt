@@ -22,7 +22,7 @@ use Rattle.image.specs.Due.{Due, end, stop, due, based, Ran, ran, run}
 use Rattle.image.specs.Whole.{refused, finished}
 use Rattle.image.proofs.Laws.{clear-more}
 use Rattle.image.proofs.Settle.{finished-ran}
-use Rattle.amf0.specs.Reading.{value, valueIn}
+use Rattle.amf0.specs.Reading.{value, topValue, valueIn}
 use Rattle.amf0.proofs.Laws.{part-read}
 use Rattle.amf0.proofs.Reasons.{Kept, kept}
 use Rattle.packet.specs.declared.head.Entry.{Entry}
@@ -518,7 +518,7 @@ pub entry-read : (s image i : List ℕ) (e : Entry) (x : Step) → length s ≤ 
     → finished (judgedOf x (e .place) (length (spanOf s e))) i ≡ valueOf s e (length image)
 entry-read s image i e x l h r =
     let n : length (spanOf s e) ≡ e .length = simp (length-take, length-drop) (omega arith) in
-    let v = value limit.levels (spanOf s e) 0 in
+    let v = topValue (spanOf s e) 0 in
     let d = based (e .place) v in
     let q = r ∙ ap (λ (d : Due). run d 0 image) (part-read (e .place) (spanOf s e) 0 (omega arith) (omega arith)) in
     let w = kept-answers (e .place) (spanOf s e) 0 v (kept limit.levels (spanOf s e) 0 (omega arith)) in

@@ -18,7 +18,7 @@ use Rattle.image.specs.Due.{Due, end, stop, due, _>>=_, Ends, Ran, ran, run}
 use Rattle.image.specs.Whole.{bytes, refused, settled, finished}
 use Rattle.image.proofs.Laws.{based-zero, run-length, run-stop, size-bytes}
 use Rattle.image.proofs.Settle.{finished-run, settled-stop}
-use Rattle.amf0.specs.Reading.{value, valueIn}
+use Rattle.amf0.specs.Reading.{value, topValue, valueIn}
 use Rattle.amf0.proofs.Laws.{part-read}
 use Rattle.packet.specs.declared.head.Entry.{Entry}
 use Rattle.packet.specs.declared.head.Head.the-variants as Head
@@ -31,8 +31,8 @@ use Rattle.packet.proofs.Reasons.{packet-kept, answered}
 -- ---- entry by entry
 
 -- a value of the input itself
-pub value-read : (s : List ℕ) (at : ℕ) → length s ≤ limit.bytes → at ≤ length s → valueIn 0 s at ≡ value limit.levels s at
-value-read s at l h = part-read 0 s at (omega arith) h ∙ based-zero (value limit.levels s at)
+pub value-read : (s : List ℕ) (at : ℕ) → length s ≤ limit.bytes → at ≤ length s → valueIn 0 s at ≡ topValue s at
+value-read s at l h = part-read 0 s at (omega arith) h ∙ based-zero (topValue s at)
 
 module _ (kind : ℕ) (s : List ℕ) (n at : ℕ) where
   pub entries-done : n ≤ 0 → entriesAt kind s n at ≡ end at
@@ -52,11 +52,11 @@ module _ (kind : ℕ) (s : List ℕ) (n at : ℕ) where
       go (suc n) h = rw e
 
   pub entries-more : {e : Entry} {c : Cursor} → 0 < n → headAt kind s at ≡ Head.Got e c
-      → entriesAt kind s n at ≡ due (recordOf e) at (value limit.levels s (c .at) >>= entriesAt kind s (n - 1))
+      → entriesAt kind s n at ≡ due (recordOf e) at (topValue s (c .at) >>= entriesAt kind s (n - 1))
   unfolding entriesAt
   entries-more {e} {c} h g = go n h
     where
-      go : (n : ℕ) → 0 < n → entriesAt kind s n at ≡ due (recordOf e) at (value limit.levels s (c .at) >>= entriesAt kind s (n - 1))
+      go : (n : ℕ) → 0 < n → entriesAt kind s n at ≡ due (recordOf e) at (topValue s (c .at) >>= entriesAt kind s (n - 1))
       go zero h = absurd (omega arith)
       go (suc n) h = rw (g, sub-one (suc n))
 

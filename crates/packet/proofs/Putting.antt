@@ -16,7 +16,7 @@ use Rattle.image.specs.Record.{_bytes_, none}
 use Rattle.image.specs.Taking.{recordAt}
 use Rattle.image.specs.Out.{Out, end, stop, put, _>>=_, rowBytes, textOf, namedOf, row, Poured, poured, pour, bytes as bytesOut, settled, written, unwritten}
 use Rattle.image.proofs.Pouring.{length-row, pour-stop}
-use Rattle.amf0.specs.Writing.{value, whole}
+use Rattle.amf0.specs.Writing.{value, topValue, whole}
 use Rattle.amf0.proofs.Putting.{whole-halt, whole-past, whole-over, whole-full, whole-fits, whole-size}
 use Rattle.packet.specs.declared.write.Part.{Part}
 use Rattle.packet.specs.Carried.{Carried}
@@ -183,7 +183,7 @@ module _ (kind : ℕ) (image text : List ℕ) (at : ℕ) where
 
   -- what follows a label
   abbrev pub following : Bool → ℕ → Out
-  following exact q = row text (sizing (declared exact (length (bytesOut (value limit.levels image text q))))) at (value limit.levels image text q)
+  following exact q = row text (sizing (declared exact (length (bytesOut (topValue image text q))))) at (topValue image text q)
 
   pub entry-labelled : (exact : Bool) → entry kind exact image text at ≡ label kind image text at >>= following exact
   unfolding entry

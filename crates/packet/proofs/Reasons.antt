@@ -13,7 +13,7 @@ use Rattle.image.specs.Record.{bytesOf, moved}
 use Rattle.image.specs.Due.{Due, end, stop, due, _>>=_, based, Ends, Stops}
 use Rattle.image.specs.Whole.{bytes}
 use Rattle.image.proofs.Laws.{based-zero, size-bytes, size-moved}
-use Rattle.amf0.specs.Reading.{value}
+use Rattle.amf0.specs.Reading.{topValue}
 use Rattle.amf0.proofs.Reasons as values
 use Rattle.packet.specs.declared.head.Entry.{Entry}
 use Rattle.packet.specs.declared.head.Head.{Head}
@@ -70,15 +70,15 @@ entry-kept : (s : List ℕ) (at : ℕ) (k : ℕ → Due) (x : Head) → at ≤ l
 entry-kept s at k (Head.Got e c) l h g = fewer s _ (3 * c .at) (k (c .at)) (omega (arith, record-small e, h .from)) (g (c .at) (h .within))
 entry-kept s at k (Head.Stop a p) l h g = (omega arith, field-tells h)
 
-pub plain-kept : (s : List ℕ) (at : ℕ) → at ≤ length s → Kept s (3 * at) (value limit.levels s at)
-plain-kept s at h = rw (based-zero (value limit.levels s at)) at (value-kept 0 s (3 * at) (value limit.levels s at) (values.kept limit.levels s at h))
+pub plain-kept : (s : List ℕ) (at : ℕ) → at ≤ length s → Kept s (3 * at) (topValue s at)
+plain-kept s at h = rw (based-zero (topValue s at)) at (value-kept 0 s (3 * at) (topValue s at) (values.kept limit.levels s at h))
 
 entries-kept : (kind : ℕ) (s : List ℕ) (n at : ℕ) → at ≤ length s → Kept s (3 * at) (entriesAt kind s n at)
 unfolding entriesAt
 entries-kept kind s zero at h = (le-refl _, h)
 entries-kept kind s (suc n) at h =
-    entry-kept s at (λ v. value limit.levels s v >>= entriesAt kind s n) (headAt kind s at) h (head-told s at kind)
-    (λ v l. bind-kept s (3 * v) (value limit.levels s v) (entriesAt kind s n) (plain-kept s v l) (entries-kept kind s n))
+    entry-kept s at (λ v. topValue s v >>= entriesAt kind s n) (headAt kind s at) h (head-told s at kind)
+    (λ v l. bind-kept s (3 * v) (topValue s v) (entriesAt kind s n) (plain-kept s v l) (entries-kept kind s n))
 
 -- whatever count of messages the packet's record has
 version-kept : (s : List ℕ) (n : ℕ → ℕ → ℕ) (x : Tag) → Versioned s x

@@ -6,7 +6,7 @@ use Rattle.wire.specs.Text.{insideOf}
 use Rattle.wire.specs.Field.{to, bytesAt, u16At, got16, pastTag}
 use Rattle.image.specs.Due.{based}
 use Rattle.image.specs.Whole.{Whole, settled, refused}
-use Rattle.amf0.specs.Reading.{value}
+use Rattle.amf0.specs.Reading.{value, topValue}
 use Rattle.packet.specs.declared.head.Entry.{Entry}
 use Rattle.packet.specs.declared.entry.Cutting.{Cutting}
 use Rattle.packet.specs.declared.entry.Found.{Found}
@@ -95,7 +95,7 @@ judge n w =
 
 -- the value reader on an entry's bytes alone, its places counted from the packet's start
 abbrev pub valueOf : List ℕ → Entry → ℕ → Whole
-valueOf s e room = judge (e .length) (settled (based (e .place) (value limit.levels (spanOf s e) 0)) room)
+valueOf s e room = judge (e .length) (settled (based (e .place) (topValue (spanOf s e) 0)) room)
 
 -- the value in a part of a packet: 1 where the packet is over the limit, and 8 where the part is not inside it
 unfoldable pub readSpan : List ℕ → ℕ → ℕ → ℕ → Whole

@@ -7,7 +7,7 @@ use Rattle.image.specs.declared.record.Record.{Record}
 use Rattle.image.specs.declared.record.Record.the-variants.{Packet, Header, Message}
 use Rattle.image.specs.Due.{Due, end, stop, due, _>>=_}
 use Rattle.image.specs.Whole.{Whole, settled, refused}
-use Rattle.amf0.specs.Reading.{value}
+use Rattle.amf0.specs.Reading.{value, topValue}
 use Rattle.packet.specs.declared.head.Entry.{Entry}
 use Rattle.packet.specs.Head.{versionAt, headAt, gotHead}
 
@@ -22,7 +22,7 @@ recordOf e =
 unfoldable pub entriesAt : ℕ → List ℕ → ℕ → ℕ → Due
 entriesAt kind s zero at = end at
 entriesAt kind s (suc n) at =
-    gotHead stop (headAt kind s at) λ e v. due (recordOf e) at (value limit.levels s v >>= entriesAt kind s n)
+    gotHead stop (headAt kind s at) λ e v. due (recordOf e) at (topValue s v >>= entriesAt kind s n)
 
 -- the count of messages, behind the headers; 0 where it can't be read, since the reading is refused then
 abbrev pub countAfter : List ℕ → Due → ℕ

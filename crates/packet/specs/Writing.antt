@@ -9,7 +9,7 @@ use Rattle.image.specs.declared.writing.Row.{Row}
 use Rattle.image.specs.Record.{_bytes_, none, bitOf}
 use Rattle.image.specs.Taking.{recordAt}
 use Rattle.image.specs.Out.{Out, end, stop, _>>=_, row, bytes as bytesOut, Written, unwritten, settled}
-use Rattle.amf0.specs.Writing.{value, taken, whole}
+use Rattle.amf0.specs.Writing.{value, topValue, taken, whole}
 use Rattle.packet.specs.declared.write.Part.{Part}
 use Rattle.packet.specs.declared.write.Part.the-variants as P
 
@@ -65,7 +65,7 @@ declared exact n = pick exact n 0xFFFFFFFF
 unfoldable pub entry : ℕ → Bool → List ℕ → List ℕ → ℕ → Out
 entry kind exact image text at =
     label kind image text at >>= λ q.
-    numbered text (4 bytes (declared exact (length (bytesOut (value limit.levels image text q))))) at (value limit.levels image text q)
+    numbered text (4 bytes (declared exact (length (bytesOut (topValue image text q))))) at (topValue image text q)
 
 -- n entries of a kind
 unfoldable pub entries : ℕ → Bool → List ℕ → List ℕ → ℕ → ℕ → Out

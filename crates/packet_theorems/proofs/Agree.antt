@@ -13,7 +13,7 @@ use Rattle.image.specs.declared.record.Record.the-variants.{Packet}
 use Rattle.image.specs.Record.{bytesOf}
 use Rattle.image.specs.Due.{Due, end, stop, due, _>>=_, based, Ends}
 use Rattle.image.specs.Whole.{Whole, bytes, accepted}
-use Rattle.amf0.specs.Reading.{value}
+use Rattle.amf0.specs.Reading.{value, topValue}
 use Rattle.amf0.proofs.Reasons.{kept, forward}
 use Rattle.amf0.proofs.Outcome.{ended-at}
 use Rattle.amf0_theorems.proofs.Theorems as amf0
@@ -51,36 +51,36 @@ based-ends a (due r p d) n e = based-ends a d n e
 
 -- the value at a place of s takes the bytes x: alone they are read alike
 pub record Alone (s : List ℕ) (at l : ℕ) (x : List ℕ) : Type 0 where
-  pub ends : Ends (value limit.levels x 0) l
-  pub same : bytes (value limit.levels s at) ≡ bytes (based at (value limit.levels x 0))
+  pub ends : Ends (topValue x 0) l
+  pub same : bytes (topValue s at) ≡ bytes (based at (topValue x 0))
 
-alone-behind : (w x r : List ℕ) → Bytes (w ++ (x ++ r)) → Ends (value limit.levels (w ++ (x ++ r)) (length w)) (length w + length x)
+alone-behind : (w x r : List ℕ) → Bytes (w ++ (x ++ r)) → Ends (topValue (w ++ (x ++ r)) (length w)) (length w + length x)
     → Alone (w ++ (x ++ r)) (length w) (length x) x
 unfolding bytes
 alone-behind w x r bs e =
-    let there : value limit.levels (w ++ (x ++ r)) (length w) ≡ based (length w) (value limit.levels (x ++ r) 0) >>= λ n. end (length w + n) =
+    let there : topValue (w ++ (x ++ r)) (length w) ≡ based (length w) (topValue (x ++ r) 0) >>= λ n. end (length w + n) =
     rw add-zero at (amf0.part limit.levels w (x ++ r) 0)
     in
     let here : Here (w ++ (x ++ r)) (length w) (x ++ r) [] = record { same = drop-append-seam w (x ++ r) ∙ sym (append-nil (x ++ r)) } in
-    bind-ends (based (length w) (value limit.levels (x ++ r) 0)) (λ n. end (length w + n)) (length w + length x) (rw there at e) λ m f g.
+    bind-ends (based (length w) (topValue (x ++ r) 0)) (λ n. end (length w + n)) (length w + length x) (rw there at e) λ m f g.
     let is : m ≡ length x = omega arith in
-    let ends : Ends (value limit.levels (x ++ r) 0) (length x) = rw is at (based-ends (length w) (value limit.levels (x ++ r) 0) m f) in
-    let near : value limit.levels x 0 ≡ value limit.levels (x ++ r) 0 =
+    let ends : Ends (topValue (x ++ r) 0) (length x) = rw is at (based-ends (length w) (topValue (x ++ r) 0) m f) in
+    let near : topValue x 0 ≡ topValue (x ++ r) 0 =
     rw append-nil at (amf0.local limit.levels x r [] 0 (length x) (bytes-here here bs) ends (le-refl (length x)))
     in
     record {
       ends = rw near ends;
       same =
           rw (there, near)
-          (bytes-bind (based (length w) (value limit.levels (x ++ r) 0)) (λ n. end (length w + n)) m f ∙ append-nil (bytes (based (length w) (value limit.levels (x ++ r) 0))));
+          (bytes-bind (based (length w) (topValue (x ++ r) 0)) (λ n. end (length w + n)) m f ∙ append-nil (bytes (based (length w) (topValue (x ++ r) 0))));
     }
 
-pub alone : (s : List ℕ) (at l : ℕ) → Bytes s → at + l ≤ length s → Ends (value limit.levels s at) (at + l) → Alone s at l (bytesAt l s at)
+pub alone : (s : List ℕ) (at l : ℕ) → Bytes s → at + l ≤ length s → Ends (topValue s at) (at + l) → Alone s at l (bytesAt l s at)
 alone s at l bs h e =
     go (take at s) (bytesAt l s at) (drop l (drop at s)) s at l (sym (ap (λ y. take at s ++ y) (take-append-drop l (drop at s)) ∙ take-append-drop at s))
     (sym (length-take-le at s (omega arith))) (sym (length-bytes l s at h)) bs e
   where
-    go : (w x r s : List ℕ) (at l : ℕ) → s ≡ w ++ (x ++ r) → at ≡ length w → l ≡ length x → Bytes s → Ends (value limit.levels s at) (at + l) → Alone s at l x
+    go : (w x r s : List ℕ) (at l : ℕ) → s ≡ w ++ (x ++ r) → at ≡ length w → l ≡ length x → Bytes s → Ends (topValue s at) (at + l) → Alone s at l x
     go w x r s at l p q o = rw (p, q, o) (alone-behind w x r)
 
 -- ---- entries whose values end where their declared lengths say
@@ -88,17 +88,17 @@ alone s at l bs h e =
 -- entries of a kind from a place of s to another, each value, as the whole reading reads it, as long as its entry declares
 pub data Exactly (kind : ℕ) (s : List ℕ) : List Entry → ℕ → ℕ → Type 0 where
   none : {at : ℕ} → Exactly kind s [] at at
-  more : {e : Entry} {c : Cursor} {es : List Entry} {at z : ℕ} → headAt kind s at ≡ Head.Got e c → Ends (value limit.levels s (e .place)) (e .place + e .length)
+  more : {e : Entry} {c : Cursor} {es : List Entry} {at z : ℕ} → headAt kind s at ≡ Head.Got e c → Ends (topValue s (e .place)) (e .place + e .length)
       → Exactly kind s es (e .place + e .length) z → Exactly kind s (e ∷ es) at z
 
 -- the image of entries read alone, each behind its record
 abbrev alones : List ℕ → List Entry → List ℕ
 alones s [] = []
-alones s (e ∷ es) = bytesOf (recordOf e) ++ (bytes (based (e .place) (value limit.levels (spanOf s e) 0)) ++ alones s es)
+alones s (e ∷ es) = bytesOf (recordOf e) ++ (bytes (based (e .place) (topValue (spanOf s e) 0)) ++ alones s es)
 
 abbrev Ended : List ℕ → List Entry → Type 0
 Ended s [] = Unit {0}
-Ended s (e ∷ es) = Ends (value limit.levels (spanOf s e) 0) (e .length) × Ended s es
+Ended s (e ∷ es) = Ends (topValue (spanOf s e) 0) (e .length) × Ended s es
 
 -- both readings of such entries
 pub record Reads (kind : ℕ) (s : List ℕ) (es : List Entry) (at z : ℕ) : Type 0 where
@@ -114,7 +114,7 @@ exactly-reads kind s es at z bs (Exactly.more {e} {c} {es = fs} h v x) = go (exa
   where
     go : Reads kind s fs (e .place + e .length) z → Headed (λ t. headAt kind t at) s at e c → Reads kind s (e ∷ fs) at z
     go r d =
-        let u = value limit.levels s (e .place) in
+        let u = topValue s (e .place) in
         let b = forward s (3 * e .place) (e .place + e .length) u (kept limit.levels s (e .place) (d .within)) v .1 in
         let a = alone s (e .place) (e .length) bs b v in
         record {
@@ -128,13 +128,13 @@ exactly-reads kind s es at z bs (Exactly.more {e} {c} {es = fs} h v x) = go (exa
 
 -- a value that takes all bytes of its entry, and has room
 pub record Good (s : List ℕ) (room : ℕ) (e : Entry) : Type 0 where
-  pub ends : Ends (value limit.levels (spanOf s e) 0) (e .length)
-  pub fits : length (bytes (based (e .place) (value limit.levels (spanOf s e) 0))) ≤ room
+  pub ends : Ends (topValue (spanOf s e) 0) (e .length)
+  pub fits : length (bytes (based (e .place) (topValue (spanOf s e) 0))) ≤ room
 
 good-value : (s : List ℕ) (room : ℕ) (e : Entry) → Good s room e
-    → valueOf s e room ≡ accepted (e .length) (bytes (based (e .place) (value limit.levels (spanOf s e) 0)))
+    → valueOf s e room ≡ accepted (e .length) (bytes (based (e .place) (topValue (spanOf s e) 0)))
 good-value s room e g =
-    let d : Due = value limit.levels (spanOf s e) 0 in
+    let d : Due = topValue (spanOf s e) 0 in
     let f : length (bytes d) ≤ room = rw length-based at (g .fits) in
     rw (
       settled-based (e .place) d room,
@@ -150,7 +150,7 @@ all-good s room (e ∷ es) (suc k) v f h = all-good s room es k (v .1) (omega (a
 
 module _ (s : List ℕ) (room : ℕ) (es : List Entry) (n : ℕ) (cut : cutOf s ≡ found es n) where
   pub good-entry : (k : ℕ) (e : Entry) → k < length es → getD es k noEntry ≡ e → Good s room (getD es k noEntry)
-      → readEntry s k room ≡ accepted (e .length) (bytes (based (e .place) (value limit.levels (spanOf s e) 0)))
+      → readEntry s k room ≡ accepted (e .length) (bytes (based (e .place) (topValue (spanOf s e) 0)))
   unfolding readEntry
   good-entry k e h is g = rw (cut, lt-ltb k (length es) h) (good-value s room (getD es k noEntry) g ∙ rw is)
 

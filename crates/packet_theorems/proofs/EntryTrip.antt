@@ -7,7 +7,7 @@ use Rattle.wire.specs.Number.{Bytes}
 use Rattle.wire.proofs.Stands.{stood, bytes-here, length-bytes}
 use Rattle.image.specs.Out.{written}
 use Rattle.image.specs.Whole.{Whole, bytes}
-use Rattle.amf0.specs.Reading.{value, readOf}
+use Rattle.amf0.specs.Reading.{topValue, readOf}
 use Rattle.amf0.specs.Standard.{Sort, Tree, Encodes}
 use Rattle.amf0.specs.Writing.{writeOf}
 use Rattle.amf0.specs.Written.{write, Images, Writable, Alike}
@@ -34,7 +34,7 @@ record Read (s : List ℕ) (place n room : ℕ) (w : Whole) : Type 0 where
   tree : Tree Sort.value
   encodes : Encodes Sort.value tree (bytesAt n s place)
   long : length (bytesAt n s place) ≡ n
-  made : w .bytes ≡ bytes (value limit.levels s place)
+  made : w .bytes ≡ bytes (topValue s place)
   writable : Writable (w .bytes) s tree
   fits : length (w .bytes) ≤ room
 
@@ -42,13 +42,13 @@ record Read (s : List ℕ) (place n room : ℕ) (w : Whole) : Type 0 where
 span-read : (s : List ℕ) (place n room : ℕ) (w : Whole) → Bytes s → TakesSpan s place n room w → Read s place n room w
 span-read s place n room w bs t =
     let x : List ℕ = bytesAt n s place in
-    let d = value limit.levels x 0 in
+    let d = topValue x 0 in
     let here = stood n s place in
     let long : length x ≡ n = length-bytes n s place (t .inside) in
     let v = all-value x (bytes-here here bs) (rw long (based-ends place d n (t .ends))) in
     let q = telling.reads limit.levels s (drop (place + n) s) place (v .encodes) here (v .deep) in
     let a = alone s place n bs (t .inside) (rw long at (q .ends)) in
-    let made : w .bytes ≡ bytes (value limit.levels s place) = ap (λ (y : Whole). y .bytes) (t .same) ∙ sym (a .same) in
+    let made : w .bytes ≡ bytes (topValue s place) = ap (λ (y : Whole). y .bytes) (t .same) ∙ sym (a .same) in
     let size = ap (λ (y : Whole). length (y .bytes)) (t .same) in
     record {
       tree = v .tree;

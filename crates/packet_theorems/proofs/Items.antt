@@ -9,7 +9,7 @@ use Rattle.wire.proofs.Stands.{Here, cut, skip}
 use Rattle.image.specs.declared.record.Record.{Record}
 use Rattle.image.specs.Due.{stop, Ends}
 use Rattle.image.specs.Whole.{bytes}
-use Rattle.amf0.specs.Reading.{value}
+use Rattle.amf0.specs.Reading.{value, topValue}
 use Rattle.amf0.specs.Standard.{Sort}
 use Rattle.amf0.specs.Shown.{Shows}
 use Rattle.amf0_theorems.proofs.Telling as telling
@@ -78,12 +78,12 @@ module _ {kind : ℕ} {Kind : Label → Type 0} (k : Kinded kind Kind) where
       (items-told i s r (p + length y) (f .behind) (deep .1))
     where
       go : (f : First kind s at l x d y z r) → telling.Reads limit.levels s (f .head .entry .place) (f .head .entry .place + length y) v
-          → (length s ≤ limit.bytes → Shows s v (bytes (value limit.levels s (f .head .entry .place))))
+          → (length s ≤ limit.bytes → Shows s v (bytes (topValue s (f .head .entry .place))))
           → Told kind i s (f .head .entry .place + length y) (f .head .entry .place + length y + length z)
           → Told kind (Items.more {l = l} {d = d} {v = v} {is = is} {x = x} {y = y} {z = z} is-kind h b e i) s at (at + length (x ++ (digits 4 d ++ (y ++ z))))
       go f a w t =
           let p = f .head .entry .place in
-          let u = value limit.levels s p in
+          let u = topValue s p in
           rw (f .long) (record {
             ends = rw (f .head .read) (ends-bind u (entriesAt kind s (length is)) (p + length y) (p + length y + length z) (a .ends) (t .ends));
             shows = λ l.
@@ -107,7 +107,7 @@ module _ {kind : ℕ} {Kind : Label → Type 0} (k : Kinded kind Kind) where
   items-shallow (Items.more {l} {d} {v} {is} {x} {y} {z} is-kind h b e i) s r at n bs g ends =
       let f : First kind s at l x d y z r = first is-kind h b g in
       let p = f .head .entry .place in
-      bind-ends (value limit.levels s p) (entriesAt kind s (length is)) n (rw (f .head .read) at ends) λ m a c.
+      bind-ends (topValue s p) (entriesAt kind s (length is)) n (rw (f .head .read) at ends) λ m a c.
       let t = soundness.sound limit.levels s p m bs a in
       let u = amf0.unique (t .tree) v (t .row) y (t .rest) (z ++ r) (t .encodes) e (sym (t .here .same) ∙ f .value .same) in
       let is-m : m ≡ p + length y = t .next ∙ ap (λ w. p + length w) (u .1) in
@@ -137,7 +137,7 @@ module _ {kind : ℕ} {Kind : Label → Type 0} (k : Kinded kind Kind) (s : List
       let b = k .stands s (a .rest) at (a .label) (a .row) (a .declared) (a .kind) (a .head) (a .small) (a .here) in
       let is : to (b .entry .place) ≡ c = cc (sym h ∙ b .read) in
       let at-p : c .at ≡ b .entry .place = ap (λ (x : Cursor). x .at) (sym is) in
-      bind-ends (value limit.levels s (c .at)) (entriesAt kind s n) z ends λ m f g.
+      bind-ends (topValue s (c .at)) (entriesAt kind s n) z ends λ m f g.
       one a (soundness.sound limit.levels s (c .at) m bs f) (items-found n m z g) (simp length-append (omega (arith, b .place)))
     where
       one : {p m : ℕ} (a : Stood Kind s at) → soundness.Found Sort.value limit.levels s p m → Found Kind s n m z → p ≡ at + length (a .row ++ digits 4 (a .declared))

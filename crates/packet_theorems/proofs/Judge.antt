@@ -6,7 +6,7 @@ use Rattle.image.specs.Record.{moved}
 use Rattle.image.specs.Due.{Due, end, stop, due, based}
 use Rattle.image.specs.Whole.{Whole, bytes, accepted, refused, ended, settled}
 use Rattle.image.proofs.Laws.{size-bytes, size-moved}
-use Rattle.amf0.specs.Reading.{value, readOf}
+use Rattle.amf0.specs.Reading.{value, topValue, readOf}
 use Rattle.amf0.specs.Shown.{laid}
 use Rattle.amf0.proofs.Reasons.{Named, kept, forward}
 use Rattle.amf0.proofs.Outcome.{ended-at, Comes, comes}
@@ -81,16 +81,16 @@ read-judged a x d n u l h =
 
 -- over what the value reader comes to on n bytes alone
 pub judged : (a : ℕ) (x : List ℕ) (n room : ℕ) → length x ≡ n → length x ≤ limit.bytes
-    → Judged a x (readOf x room) (judge n (settled (based a (value limit.levels x 0)) room))
-judged a x n room l h = rw (settled-based a (value limit.levels x 0) room) (go (readOf x room) (comes x room))
+    → Judged a x (readOf x room) (judge n (settled (based a (topValue x 0)) room))
+judged a x n room l h = rw (settled-based a (topValue x 0) room) (go (readOf x room) (comes x room))
   where
     go : (w : Whole) → Comes x room w
-        → Judged a x w (judge n (pick (leb (length (bytes (value limit.levels x 0))) room) (ended (value limit.levels x 0) (bytes (based a (value limit.levels x 0)))) (refused 4)))
+        → Judged a x w (judge n (pick (leb (length (bytes (topValue x 0))) room) (ended (topValue x 0) (bytes (based a (topValue x 0)))) (refused 4)))
     go w (Comes.over-limit i) = absurd (omega arith)
-    go w (Comes.no-room i j) = rw (lt-leb (length (bytes (value limit.levels x 0))) room j) (no-room-judged a x)
+    go w (Comes.no-room i j) = rw (lt-leb (length (bytes (topValue x 0))) room j) (no-room-judged a x)
     go w (Comes.not-read {a = b} p i j t y) =
-        rw (le-leb (length (bytes (value limit.levels x 0))) room j, ended-stop (value limit.levels x 0) (bytes (based a (value limit.levels x 0))) b p t)
+        rw (le-leb (length (bytes (topValue x 0))) room j, ended-stop (topValue x 0) (bytes (based a (topValue x 0))) b p t)
         (refused-judged a x n b y)
     go w (Comes.read {n = u} i j f) =
-        rw (le-leb (length (bytes (value limit.levels x 0))) room j, ended-at (value limit.levels x 0) (bytes (based a (value limit.levels x 0))) u f)
-        (read-judged a x (value limit.levels x 0) n u l (forward x 0 u (value limit.levels x 0) (kept limit.levels x 0 (omega arith)) f .1))
+        rw (le-leb (length (bytes (topValue x 0))) room j, ended-at (topValue x 0) (bytes (based a (topValue x 0))) u f)
+        (read-judged a x (topValue x 0) n u l (forward x 0 u (topValue x 0) (kept limit.levels x 0 (omega arith)) f .1))

@@ -6,7 +6,7 @@ use Rattle.wire.proofs.Laws.{picked}
 use Rattle.image.specs.Record.{bytesOf}
 use Rattle.image.specs.Due.{Due, end, stop, due, based, Ends, Stops}
 use Rattle.image.specs.Whole.{Whole, bytes, accepted, refused, settled}
-use Rattle.amf0.specs.Reading.{value}
+use Rattle.amf0.specs.Reading.{value, topValue}
 use Rattle.amf0.proofs.Reasons as values
 use Rattle.amf0.proofs.Reasons.{Named}
 use Rattle.amf0_theorems.proofs.Refused.{ended-either}
@@ -72,7 +72,7 @@ comes s room = picked (Comes s room) (leb (length s) limit.bytes) _ _
 -- ---- an entry
 
 pub entry-kept : (s : List ℕ) (e : Entry) → Kept (spanOf s e) 0 (inEntry s e)
-entry-kept s e = value-kept (e .place) (spanOf s e) 0 (value limit.levels (spanOf s e) 0) (values.kept limit.levels (spanOf s e) 0 (omega arith))
+entry-kept s e = value-kept (e .place) (spanOf s e) 0 (topValue (spanOf s e) 0) (values.kept limit.levels (spanOf s e) 0 (omega arith))
 
 -- the answer that refuses a value
 stops-named : (b : ℕ) (s : List ℕ) (c : ℕ) (d : Due) (a p : ℕ) → values.Kept s c d → Stops (based b d) a p → Named a
@@ -82,7 +82,7 @@ stops-named b s c (due r w d) a p k t = stops-named b s (c + length (bytesOf r))
 
 value-tells : (s : List ℕ) (e : Entry) (a p : ℕ) → Stops (inEntry s e) a p → Named a
 value-tells s e a p =
-    stops-named (e .place) (spanOf s e) 0 (value limit.levels (spanOf s e) 0) a p (values.kept limit.levels (spanOf s e) 0 (omega arith))
+    stops-named (e .place) (spanOf s e) 0 (topValue (spanOf s e) 0) a p (values.kept limit.levels (spanOf s e) 0 (omega arith))
 
 -- the ways in which the reading of an entry's value can end
 module _ (P : Whole → Type 0) (s : List ℕ) (e : Entry) (room : ℕ) where

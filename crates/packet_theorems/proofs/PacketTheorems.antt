@@ -6,7 +6,7 @@ use Rattle.wire.specs.Limit as limit
 use Rattle.wire.proofs.Stands.{stood, bytes-here, length-bytes}
 use Rattle.image.specs.Due.{Due, Ends}
 use Rattle.image.specs.Whole.{Whole, bytes, accepted}
-use Rattle.amf0.specs.Reading.{value}
+use Rattle.amf0.specs.Reading.{value, topValue}
 use Rattle.amf0.specs.Standard.{Sort, Tree, depth, Encodes}
 use Rattle.amf0.specs.Shown.{Shows}
 use Rattle.amf0_theorems.proofs.Telling as telling
@@ -118,7 +118,7 @@ pub record AllValue (x : List ℕ) : Type 0 where
   pub deep : depth tree ≤ limit.levels
 
 -- a value whose reading ends with x
-pub all-value : (x : List ℕ) → Bytes x → Ends (value limit.levels x 0) (length x) → AllValue x
+pub all-value : (x : List ℕ) → Bytes x → Ends (topValue x 0) (length x) → AllValue x
 all-value x bs ends =
     let r = soundness.sound limit.levels x 0 (length x) bs ends in
     record { tree = r .tree; encodes = rw (all-here (r .here) (omega (arith, r .next))) at (r .encodes); deep = r .deep }
@@ -134,7 +134,7 @@ length-span s es n k cut h =
 -- the entry with the number k of a packet that is cut
 module _ (s : List ℕ) (bs : Bytes s) (es : List Entry) (n : ℕ) (cut : cutOf s ≡ found es n) (k : ℕ) (h : k < length es) where
   entry-gives : (t : Tree Sort.value) (room : ℕ) → let e = getD es k noEntry in
-      Encodes Sort.value t (spanOf s e) → depth t ≤ limit.levels → length (bytes (value limit.levels (spanOf s e) 0)) ≤ room
+      Encodes Sort.value t (spanOf s e) → depth t ≤ limit.levels → length (bytes (topValue (spanOf s e) 0)) ≤ room
       → Gives s t (e .length) (readEntry s k room)
   entry-gives t room x deep i =
       let e : Entry = getD es k noEntry in
@@ -178,7 +178,7 @@ module _ (s : List ℕ) (bs : Bytes s) (es : List Entry) (n : ℕ) (cut : cutOf 
           let g = sym is ∙ f in
           let same : d ≡ e = cc in
           let x = spanOf s e in
-          let v = value limit.levels x 0 in
+          let v = topValue x 0 in
           let long : length x ≡ e .length = length-span s es n k cut h in
           let ends : Ends v (length x) = rw long (based-ends (e .place) v (e .length) (rw same at t)) in
           let r = all-value x (bytes-here (stood (e .length) s (e .place)) bs) ends in

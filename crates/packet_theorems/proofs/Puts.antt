@@ -15,7 +15,7 @@ use Rattle.image.specs.Out.{Out, end, row, bytes as putOut, namedOf, sized}
 use Rattle.amf0.specs.Standard.{depth}
 use Rattle.amf0.specs.Shown.{laid, Stands, Named, Right}
 use Rattle.amf0.specs.Written as amf0
-use Rattle.amf0.specs.Writing.{value, whole}
+use Rattle.amf0.specs.Writing.{topValue, whole}
 use Rattle.amf0_theorems.proofs.Puts.{Puts, then, first, others, puts, laid-append, laid-length, laid-size, right-both}
 use Rattle.amf0_theorems.proofs.WriteOutcome.{puts-bytes, puts-settled, puts-whole}
 use Rattle.packet.specs.Packet.{Label, Item, Packet, IsHeader, IsMessage}
@@ -96,7 +96,7 @@ module _ (s : List ℕ) where
         let q : ℕ = at + size r in
         let e : ℕ = q + length (laid rs) in
         let j : Here image q (laid rs ++ laid qs) z = rw (laid-append rs qs) at (others s image r (rs ++ qs) z h) in
-        let u : Out = value limit.levels image s q in
+        let u : Out = topValue image s q in
         let m : ℕ = declared exact (length (putOut u)) in
         let ends : at + length (laid (r ∷ (rs ++ qs))) ≡ e + length (laid qs) = omega (arith, laid-size r (rs ++ qs), laid-length rs qs) in
         let x : (E : Type 0) → (limit.levels < depth v → E) → Puts E u (amf0.write v) e =

@@ -7,7 +7,7 @@ use Rattle.wire.proofs.Laws.{picked}
 use Rattle.wire.proofs.Stands.{stood, bytes-here}
 use Rattle.image.specs.Due.{Due, end, stop, due, based, Ends, Stops}
 use Rattle.image.specs.Whole.{Whole, bytes, accepted, refused, ended, settled}
-use Rattle.amf0.specs.Reading.{value}
+use Rattle.amf0.specs.Reading.{value, topValue}
 use Rattle.amf0.specs.Standard.{Sort}
 use Rattle.amf0_theorems.proofs.Refusals.{value-refused}
 use Rattle.amf0_theorems.specs.Refusal.{Field, Refuses, RefusedValue}
@@ -208,7 +208,7 @@ comes-value s e room bs l = value-either (ComesValue s e room) s e room l ComesV
     x = spanOf s e
 
     d : Due
-    d = value limit.levels x 0
+    d = topValue x 0
 
     xs : Bytes x
     xs = bytes-here (stood (e .length) s (e .place)) bs

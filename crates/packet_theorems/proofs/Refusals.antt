@@ -10,7 +10,7 @@ use Rattle.wire.specs.declared.cursor.Tag.the-variants as Tag
 use Rattle.wire.proofs.Laws.{picked}
 use Rattle.wire.proofs.Stands.{Here, Stood, inside, stood, number-stood, join, length-bytes, go16, cut as front}
 use Rattle.image.specs.Due.{Due, end, stop, due, _>>=_, Ends, Stops}
-use Rattle.amf0.specs.Reading.{value}
+use Rattle.amf0.specs.Reading.{value, topValue}
 use Rattle.amf0_theorems.proofs.Refusals.{value-refused}
 use Rattle.amf0_theorems.specs.Refusal.{Field, Refuses}
 use Rattle.amf0_theorems.specs.Refusal.Field.{some, count}
@@ -92,7 +92,7 @@ end-stops d a p = (to d, from d)
 
 -- a value, whatever length was declared
 abbrev pub valueBy : List ℕ → ℕ → ℕ → Part
-valueBy s d v = endOf (value limit.levels s v)
+valueBy s d v = endOf (topValue s v)
 
 -- entries, and the packet, end as their parts in turn do
 module _ {kind : ℕ} {Kind : Label → Type 0} (k : Kinds kind Kind) (s : List ℕ) where
@@ -101,7 +101,7 @@ module _ {kind : ℕ} {Kind : Label → Type 0} (k : Kinds kind Kind) (s : List 
   entries-end zero at = refl
   entries-end (suc n) at =
       head-end endOf stop (λ a p. refl) s k at _ (λ d v. valueBy s d v then λ u q. entriesBy k s (valueBy s) n q)
-      (λ e v. end-bind (value limit.levels s v) (entriesAt kind s n) ∙ then-same (endOf (value limit.levels s v)) _ _ λ u q. entries-end n q)
+      (λ e v. end-bind (topValue s v) (entriesAt kind s n) ∙ then-same (endOf (topValue s v)) _ _ λ u q. entries-end n q)
       ∙ then-same (k .labelBy s at) _ _ λ v q. sym (then-then (numberBy 4 s q) (valueBy s) λ u e. entriesBy k s (valueBy s) n e)
 
 packet-end : (s : List ℕ) → endOf (packetAt s) ≡ packetBy s (valueBy s)
@@ -320,16 +320,16 @@ value-follows : (s : List ℕ) → Bytes s → (d at : ℕ) → at ≤ length s 
 value-follows s bs d at l =
     record {
       ends = ends;
-      stops = λ a p q. end-stops (value limit.levels s at) a p .0 (value-refused limit.levels s at a p bs l .1 q);
+      stops = λ a p q. end-stops (topValue s at) a p .0 (value-refused limit.levels s at a p bs l .1 q);
       told =
-          end-either (Tells (Plain Value) (whole .Inside) s at) (value limit.levels s at) stands λ a p. value-refused limit.levels s at a p bs l .0;
+          end-either (Tells (Plain Value) (whole .Inside) s at) (topValue s at) stands λ a p. value-refused limit.levels s at a p bs l .0;
     }
   where
     ends : (v : ℕ) (x r : List ℕ) → Plain Value v x → Here s at x r → valueBy s d at ≡ goes v (at + length x)
     ends v x r (Plain.plain y) h =
-        end-ends (value limit.levels s at) (at + length x) (telling.reads limit.levels s r at (y .encodes) h (y .deep) .ends)
+        end-ends (topValue s at) (at + length x) (telling.reads limit.levels s r at (y .encodes) h (y .deep) .ends)
 
-    stands : (n : ℕ) → Ends (value limit.levels s at) n → Standing (Plain Value) s at 0 n
+    stands : (n : ℕ) → Ends (topValue s at) n → Standing (Plain Value) s at 0 n
     stands n e =
         let f = soundness.sound limit.levels s at n bs e in
         record {

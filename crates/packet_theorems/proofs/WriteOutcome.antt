@@ -10,7 +10,7 @@ use Rattle.image.specs.declared.record.Record.the-variants as R
 use Rattle.image.specs.Taking.{Fits}
 use Rattle.image.specs.Due.{Due, stop}
 use Rattle.image.specs.Whole.{Whole, bytes}
-use Rattle.amf0.specs.Reading.{value}
+use Rattle.amf0.specs.Reading.{value, topValue}
 use Rattle.amf0.specs.Shown.{laid}
 use Rattle.amf0.specs.Written.{unplaced, Alike}
 use Rattle.amf0_theorems.proofs.Telling as telling
@@ -75,7 +75,7 @@ module _ {kind : ℕ} {Kind : Label → Type 0} (k : Kinded kind Kind) where
           → Imaged Kind s (record { label = o; declared = d; value = v } ∷ is) (bytes (entriesAt kind s (suc (length is)) at))
       go f a w m =
           let p = f .head .entry .place in
-          let u : Due = value limit.levels s p in
+          let u : Due = topValue s p in
           record {
             records = recordOf (f .head .entry) ∷ (recordsOf u ++ m .records);
             spells = Spells.more t (f .head .fits l) (f .head .names) (w .right) (spelled s v (recordsOf u) (a .tells)) (m .spells);

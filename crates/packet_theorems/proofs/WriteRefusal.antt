@@ -9,7 +9,7 @@ use Rattle.image.specs.declared.record.Field.{Field}
 use Rattle.image.specs.Record.{_bytes_, none}
 use Rattle.image.specs.Out.{Out, end, stop, _>>=_, row, bytes as putOut}
 use Rattle.amf0.specs.Shown.{laid}
-use Rattle.amf0.specs.Writing.{value, whole}
+use Rattle.amf0.specs.Writing.{topValue, whole}
 use Rattle.amf0_theorems.specs.Unwritten.{Stops}
 use Rattle.amf0_theorems.proofs.Seen.{Took}
 use Rattle.amf0_theorems.proofs.WriteReasons.{stops-once}
@@ -47,7 +47,7 @@ module _ (s image : List ℕ) (bs : Bytes image) (exact : Bool) where
         bind-stops (label kind image s at) _ a p e (by (see at))
         (λ q f g.
         let l = label-at s image bs (see at) q f in
-        let u : Out = value limit.levels image s q in
+        let u : Out = topValue image s q in
         let x = value-halt s image bs limit.levels q a p (numbers-go (4 bytes declared exact (length (putOut u))) none at a p u g) in
         halted (past-record s image bs (l .took) (names-named (l .names)) (x .reached)) (Entries.entry (l .kind) (l .names) (x .begins)) (Refuses.inside (x .refuses)))
       where

@@ -10,7 +10,7 @@ use Rattle.image.specs.declared.record.Field.{Field}
 use Rattle.image.specs.Record.{_bytes_, none, size}
 use Rattle.image.specs.Out.{Out, end, stop, row, bytes as putOut}
 use Rattle.amf0.specs.Shown.{laid, Right}
-use Rattle.amf0.specs.Writing.{value, whole}
+use Rattle.amf0.specs.Writing.{value, topValue, whole}
 use Rattle.amf0_theorems.specs.Unwritten.{Stops}
 use Rattle.amf0_theorems.proofs.Puts.{Puts, then, first, others, puts, laid-append, laid-length, laid-size, right-left, right-right}
 use Rattle.amf0_theorems.proofs.Seen.{took-fronts}
@@ -53,7 +53,7 @@ module _ (s image : List ℕ) (bs : Bytes image) (exact : Bool) where
 
   -- the length of the value at a place
   abbrev long : ℕ → Field
-  long q = 4 bytes declared exact (length (putOut (value limit.levels image s q)))
+  long q = 4 bytes declared exact (length (putOut (topValue image s q)))
 
   module _ {Kind : Label → Type 0} (kind : ℕ) (own : Slot) (of : (l : Label) → Kind l → kindOf l ≡ kind)
       (slot : (z : List ℕ) (a at : ℕ) → drop at image ≡ z → Refuses s own z a → Stops (label kind image s at) a at) where
@@ -69,7 +69,7 @@ module _ (s image : List ℕ) (bs : Bytes image) (exact : Bool) where
         let o : Puts ⊥ (label kind image s at) _ q = rw (of l k) at (label-puts s image {D = ⊥} rs z at (g .0) w h) in
         stops-first (entry kind exact image s at) (entries kind exact image s n) a p
         (stops-then o _ a p
-        (numbers-stop (long q) none at a p (value limit.levels image s q)
+        (numbers-stop (long q) none at a p (topValue image s q)
         (value-stops s image bs b (g .2) r q p (others s image c rs z h) (omega (arith, laid-size c rs)))))
     entries-stop {z} {a} (Entries.more {n} {l} {r = c} {v} {rs} {qs} k w t x b) g r at p h m =
         let q : ℕ = at + size c in
@@ -77,7 +77,7 @@ module _ (s image : List ℕ) (bs : Bytes image) (exact : Bool) where
         let j : Here image q (laid rs ++ laid qs) z = rw (laid-append rs qs) at (others s image c (rs ++ qs) z h) in
         let o : Puts ⊥ (label kind image s at) _ q = rw (of l k) at (label-puts s image {D = ⊥} (rs ++ qs) z at (g .0) w h) in
         let y = puts s image {D = ⊥} t (right-left s rs qs (g .2)) (laid qs ++ z) q e limit.levels (length (laid rs)) (cut (laid rs) (laid qs) j) refl (λ i. omega arith) (omega arith) in
-        stops-then (then (λ q. row s (rowOf (long q) none 0 0) at (value limit.levels image s q)) o (row-puts s at (long q) none (empty s) y)) (entries kind exact image s n) a p
+        stops-then (then (λ q. row s (rowOf (long q) none 0 0) at (topValue image s q)) o (row-puts s at (long q) none (empty s) y)) (entries kind exact image s n) a p
         (entries-stop b (right-right s rs qs (g .2)) r e p (skip (laid rs) (laid qs) j) (omega (arith, laid-size c (rs ++ qs), laid-length rs qs)))
 
   -- ---- from the start of the image

@@ -12,7 +12,7 @@ use Rattle.image.specs.Record.{_bytes_, none}
 use Rattle.image.specs.Out.{Out, end, stop, _>>=_, row, bytes as putOut}
 use Rattle.amf0.specs.Standard.{Sort}
 use Rattle.amf0.specs.Shown.{laid}
-use Rattle.amf0.specs.Writing.{value, whole}
+use Rattle.amf0.specs.Writing.{value, topValue, whole}
 use Rattle.amf0.specs.Written.Lead.{keyed}
 use Rattle.amf0_theorems.proofs.Puts.{laid-append, laid-length}
 use Rattle.amf0_theorems.proofs.WriteRefusal.{ends-once, ends-not}
@@ -80,7 +80,7 @@ module _ (s image : List ℕ) (bs : Bytes image) where
     unfolding entry
     entry-sound kind see at m e go =
         bind-ends (label kind image s at) _ m e λ q f g.
-        let u : Out = value limit.levels image s q in
+        let u : Out = topValue image s q in
         let h = row-ends s image bs (rowOf (4 bytes declared exact (length (putOut u))) none 0 0) at m u g in
         go q (label-at (see at) q f) (sound s image bs limit.levels q m (h .1))
 

@@ -4,7 +4,7 @@ use Rattle.wire.specs.Kit.{ℕ, _+_, _≤_, _<_, _≡_, _⊎_, List, _++_, leng
 use Rattle.wire.specs.Limit as limit
 use Rattle.image.specs.Due.{Due, based}
 use Rattle.image.specs.Whole.{Whole, bytes, accepted, refused}
-use Rattle.amf0.specs.Reading.{value}
+use Rattle.amf0.specs.Reading.{value, topValue}
 use Rattle.amf0_theorems.specs.Refusal.{RefusedValue}
 use Rattle.packet.specs.declared.head.Entry.{Entry}
 use Rattle.packet.specs.declared.entry.Found.{Found}
@@ -60,7 +60,7 @@ pub data ComesNth (s : List ℕ) (number : ℕ) : Found → Type 0 where
 
 -- the value reader on an entry's bytes alone
 abbrev pub inEntry : List ℕ → Entry → Due
-inEntry s e = based (e .place) (value limit.levels (spanOf s e) 0)
+inEntry s e = based (e .place) (topValue (spanOf s e) 0)
 
 -- the reading of an entry's value
 pub data ComesValue (s : List ℕ) (e : Entry) (room : ℕ) : Whole → Type 0 where

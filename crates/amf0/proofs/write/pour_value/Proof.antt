@@ -1,8 +1,7 @@
 -- The value is put out where what was asked for is within the limits.
 use Rattle.wire.proofs.Kit.{sym, arith, now, needs}
 use Rattle.image.proofs.Pouring.{pour-stop}
-use Rattle.wire.specs.Limit as limit
-use Rattle.amf0.specs.Writing.{value}
+use Rattle.amf0.specs.Writing.{value, topValue}
 use Rattle.amf0.proofs.Putting.{ahead-stop, in-text, in-image, in-place, in-count, in-value, rest-one}
 use Rattle.amf0.proofs.write.pour_value.Statement.{statement}
 use Rattle.amf0.proofs.write.pour_value.Tie as tie
@@ -39,7 +38,7 @@ returns-5 c =
     let i = now (a .image) in
     let x = now (a .text) in
     let v = c .before .before .values .ensures in
-    (rw (in-value i x (a .count) (a .c .at) (omega arith) (omega arith) (omega arith) (omega arith), ← rest-one (value limit.levels i x) i x (a .c .at)) (v .0), v .1)
+    (rw (in-value i x (a .count) (a .c .at) (omega arith) (omega arith) (omega arith) (omega arith), ← rest-one (topValue i x) i x (a .c .at)) (v .0), v .1)
 
 pub pour-value-spec : {M : Type 1} → statement M
 pour-value-spec =

@@ -1,11 +1,10 @@
 -- An element carries out what its reading says: the key's record is laid, then the value's, and then a zero stands.
 use Rattle.wire.proofs.Kit.{ℕ, _+_, _≤_, _≡_, sym, _∙_, arith, length, now, needs}
-use Rattle.wire.specs.Limit.{levels}
 use Rattle.wire.proofs.Laws.{text-next, tag-next}
 use Rattle.image.specs.declared.record.Record.the-variants.{Key}
 use Rattle.image.specs.Due.{Due, due, end, _>>=_, run}
 use Rattle.image.proofs.Laws.{run-then, run-halt, run-stop, run-end, within-stop, within-next, based-zero}
-use Rattle.amf0.specs.Reading.{value}
+use Rattle.amf0.specs.Reading.{value, topValue}
 use Rattle.amf0.proofs.Laws.{part-read}
 use Rattle.lso.specs.Reading.{elementAt}
 use Rattle.lso.proofs.Laws.{closing, element-cut, element-key}
@@ -23,7 +22,7 @@ returns-2 c =
     let k = c .before .before .before .before .before .before .before .before .p .given .0 in
     let e = sym (c .before .before .before .before .before .before .before .before .before .before .parse-string .ensures) ∙ c .before .before .before .before .before .before .before .before .p .given .1 in
     let d = due (Key (k .0) (k .1 .0)) (a .c .at) (end (k .1 .1 .0 .at)) in
-    let more : ℕ → Due = λ n. value levels (now (a .s)) n >>= closing (now (a .s)) in
+    let more : ℕ → Due = λ n. topValue (now (a .s)) n >>= closing (now (a .s)) in
     (rw (element-key _ (a .c .at) e) (sym (run-halt d more _ _ (rw (c .before .a2 .given .1) at (c .before .before .before .before .before .put .ensures .0)))), within-stop)
 
 -- the key's record is laid, and its value and a zero are left to read
@@ -33,7 +32,7 @@ record Laid (c : tie.After-known-told4) : Type 0 where
   same : let a = c .before .before .before .before .before .before .before .before .before .before .before .before .before .args in
       let v = c .before .v .given .0 in
       run (elementAt (now (a .s)) (a .c .at)) (a .made) (now (a .image))
-      ≡ run (value levels (now (a .s)) (v .0 .at) >>= closing (now (a .s))) (v .1 .0) (c .before .before .before .before .before .put .last .0)
+      ≡ run (topValue (now (a .s)) (v .0 .at) >>= closing (now (a .s))) (v .1 .0) (c .before .before .before .before .before .put .last .0)
 
 laid : (c : tie.After-known-told4) → Laid c
 laid c =
@@ -45,7 +44,7 @@ laid c =
     let v = c .before .v .given .0 in
     let b = c .before .before .before .before .before .put .ensures .1 .bounds (v .0) (v .1 .0) (c .before .v .given .1) in
     let d = due (Key (k .0) (k .1 .0)) (a .c .at) (end (k .1 .1 .0 .at)) in
-    let more : ℕ → Due = λ n. value levels s n >>= closing s in
+    let more : ℕ → Due = λ n. topValue s n >>= closing s in
     record {
       from = omega arith;
       fits = omega arith;
@@ -58,8 +57,8 @@ returns-3 c =
     let s = now (a .s) in
     let v = c .before .before .before .before .before .before .before .before .v .given .0 in
     let l = laid (c .before .before .before .before .before .before .before) in
-    let p = part-read 0 s (v .0 .at) (omega arith) (omega arith) ∙ based-zero (value levels s (v .0 .at)) in
-    (rw (l .same) (sym (run-halt (value levels s (v .0 .at)) (closing s) _ _ (rw (c .before .a3 .given .1, p) at (c .before .before .before .before .before .parse-value .ensures .0)))), within-stop)
+    let p = part-read 0 s (v .0 .at) (omega arith) (omega arith) ∙ based-zero (topValue s (v .0 .at)) in
+    (rw (l .same) (sym (run-halt (topValue s (v .0 .at)) (closing s) _ _ (rw (c .before .a3 .given .1, p) at (c .before .before .before .before .before .parse-value .ensures .0)))), within-stop)
 
 -- the value is read, and a zero is left
 valued : (c : tie.After-known-told6)
@@ -71,8 +70,8 @@ valued c =
     let s = now (a .s) in
     let v = c .before .before .before .before .before .before .before .before .v .given .0 in
     let l = laid (c .before .before .before .before .before .before .before) in
-    let p = part-read 0 s (v .0 .at) (omega (arith, c .before .before .before .before .before .before .before .before .before .before .before .before .before .before .before .before .before .before .before .before .pre .0)) (omega arith) ∙ based-zero (value levels s (v .0 .at)) in
-    l .same ∙ run-then (value levels s (v .0 .at)) (closing s) _ _ (rw (c .before .e .given .1, p) at (c .before .before .before .before .before .parse-value .ensures .0))
+    let p = part-read 0 s (v .0 .at) (omega (arith, c .before .before .before .before .before .before .before .before .before .before .before .before .before .before .before .before .before .before .before .before .pre .0)) (omega arith) ∙ based-zero (topValue s (v .0 .at)) in
+    l .same ∙ run-then (topValue s (v .0 .at)) (closing s) _ _ (rw (c .before .e .given .1, p) at (c .before .before .before .before .before .parse-value .ensures .0))
 
 returns-4 : tie.Need-returns-4
 returns-4 c =

@@ -1,11 +1,10 @@
 -- A key, its value and a zero: what each puts out, and where the next goes on.
 use Rattle.wire.proofs.Kit.{ℕ, _+_, _*_, _≤_, _≡_, sym, ap, _∙_, List, arith, length, now, needs}
-use Rattle.wire.specs.Limit as limit
 use Rattle.image.specs.Taking.{recordAt}
 use Rattle.image.specs.Out.{Out, end, row, pour}
 use Rattle.image.proofs.Pouring.{pour-then, pour-halt, row-in}
 use Rattle.amf0.specs.Code.{longest, growth}
-use Rattle.amf0.specs.Writing.{value, valueIn}
+use Rattle.amf0.specs.Writing.{value, topValue, valueIn}
 use Rattle.amf0.proofs.Putting.{ahead-stop, ahead-grown, in-value}
 use Rattle.lso.specs.Code.{keyOf}
 use Rattle.lso.specs.Writing.{element}
@@ -32,7 +31,7 @@ record Keyed (c : tie.After-e) : Type 0 where
       let i = now (a .image) in
       let x = now (a .text) in
       let v = c .e .given .0 in
-      (o : List ℕ) → pour (valueIn i x (v .1 .0) (v .0 .at)) (v .1 .0) o ≡ pour (value limit.levels i x (v .0 .at)) (v .1 .0) o
+      (o : List ℕ) → pour (valueIn i x (v .1 .0) (v .0 .at)) (v .1 .0) o ≡ pour (topValue i x (v .0 .at)) (v .1 .0) o
 
 keyed-out : (c : tie.After-e) → Keyed c
 keyed-out c =
@@ -65,7 +64,7 @@ returns-2 c =
     let k = keyed-out (c .before .before .before .before .before .before .before .before) in
     let v = c .before .before .before .before .before .before .before .before .e .given .0 in
     let more : ℕ → Out = λ e. row x padding (a .c .at) (end e) in
-    (sym (k .same ∙ pour-halt (value limit.levels i x (v .0 .at)) more (v .1 .0) (c .before .before .before .before .before .before .before .before .before .before .before .before .write-key .last .0) (rw (c .before .a2 .given .1) at (c .before .before .before .before .before .pour-value .ensures .0) ∙ k .inner _)), ahead-stop)
+    (sym (k .same ∙ pour-halt (topValue i x (v .0 .at)) more (v .1 .0) (c .before .before .before .before .before .before .before .before .before .before .before .before .write-key .last .0) (rw (c .before .a2 .given .1) at (c .before .before .before .before .before .pour-value .ensures .0) ∙ k .inner _)), ahead-stop)
 
 returns-3 : tie.Need-returns-3
 returns-3 c =
@@ -79,7 +78,7 @@ returns-3 c =
     let b = c .before .before .before .before .before .before .before .before .before .pour-value .ensures .1 .bounds (v .0) (v .1 .0) (c .before .before .before .before .before .f .given .1) in
     let o = c .before .before .before .before .before .before .before .before .before .pour-value .last .0 in
     let more : ℕ → Out = λ e. row x padding (a .c .at) (end e) in
-    let s = k .same ∙ pour-then (value limit.levels i x (u .0 .at)) more (u .1 .0) (c .before .before .before .before .before .before .before .before .before .before .before .before .before .before .before .before .write-key .last .0) (rw (c .before .before .before .before .before .f .given .1) at (c .before .before .before .before .before .before .before .before .before .pour-value .ensures .0) ∙ k .inner _) in (
+    let s = k .same ∙ pour-then (topValue i x (u .0 .at)) more (u .1 .0) (c .before .before .before .before .before .before .before .before .before .before .before .before .before .before .before .before .write-key .last .0) (rw (c .before .before .before .before .before .f .given .1) at (c .before .before .before .before .before .before .before .before .before .pour-value .ensures .0) ∙ k .inner _) in (
       c .before .before .emit-numbers .ensures .0 x (a .c .at) ∙ ap (λ (d : Out). pour d (v .1 .0) o) (row-in x padding (a .c .at) (v .0 .at) (v .1 .0) o (omega arith) (omega (arith, b, k .small, p))) ∙ sym s,
       ahead-grown (c .before .before .emit-numbers .ensures .1) (omega (arith, k .from, b .0)) (b .1) (omega (arith, k .small, b .2)),
     )

@@ -1,9 +1,8 @@
 -- `parse_entries` meets its contract. The invariant: the whole reading from the start is what is left from here.
 use Rattle.wire.proofs.Kit.{ℕ, _-_, _≤_, _≡_, refl, sym, _∙_, le-refl, arith, length, now, needs}
-use Rattle.wire.specs.Limit.{levels}
 use Rattle.image.specs.Due.{Due, end, due, _>>=_, run}
 use Rattle.image.proofs.Laws.{run-then, run-halt, run-stop, run-end, within-stop, within-next}
-use Rattle.amf0.specs.Reading.{value}
+use Rattle.amf0.specs.Reading.{value, topValue}
 use Rattle.packet.specs.Reading.{recordOf, entriesAt}
 use Rattle.packet.proofs.Laws.{head-begun}
 use Rattle.packet.proofs.Packing.{value-read, entries-done, entries-cut, entries-more}
@@ -36,7 +35,7 @@ returns-2 c =
     let u = c .before .before .before .before .before .before .before .before .before .e .given .0 in
     let e = sym (c .before .before .before .before .before .before .before .before .before .before .before .head-at .ensures) ∙ c .before .before .before .before .before .before .before .before .before .e .given .1 in
     let d = due (recordOf (u .0)) (l .c .at) (end (u .1 .0 .at)) in
-    let k : ℕ → Due = λ v. value levels s v >>= entriesAt (a .kind) s (l .k - 1) in (
+    let k : ℕ → Due = λ v. topValue s v >>= entriesAt (a .kind) s (l .k - 1) in (
       rw (l .inv .4, entries-more (a .kind) s (l .k) (l .c .at) (c .before .before .before .before .before .before .before .before .before .before .before .before .loop-test .taken) e)
           (sym (run-halt d k _ _ (rw (c .before .before .before .before .before .before .record-of .ensures, c .before .a2 .given .1) at (c .before .before .before .before .before .put .ensures .0)))),
       within-stop,
@@ -50,7 +49,7 @@ record Laid (c : tie.After-known-told4 Inv-loop μ-loop) : Type 0 where
       let s = now (a .s) in
       let v = c .before .v .given .0 in
       run (entriesAt (a .kind) s (a .n) (a .start .at)) (a .done) (now (a .image))
-      ≡ run (value levels s (v .0 .at) >>= entriesAt (a .kind) s (c .before .before .before .before .before .before .before .before .before .before .before .before .before .loop .k - 1)) (v .1 .0) (c .before .before .before .before .before .put .last .0)
+      ≡ run (topValue s (v .0 .at) >>= entriesAt (a .kind) s (c .before .before .before .before .before .before .before .before .before .before .before .before .before .loop .k - 1)) (v .1 .0) (c .before .before .before .before .before .put .last .0)
 
 laid : (c : tie.After-known-told4 Inv-loop μ-loop) → Laid c
 laid c =
@@ -63,7 +62,7 @@ laid c =
     let h = head-begun s (l .c .at) (a .kind) e in
     let b = c .before .before .before .before .before .put .ensures .1 .bounds (v .0) (v .1 .0) (c .before .v .given .1) in
     let d = due (recordOf (u .0)) (l .c .at) (end (u .1 .0 .at)) in
-    let k : ℕ → Due = λ v. value levels s v >>= entriesAt (a .kind) s (l .k - 1) in
+    let k : ℕ → Due = λ v. topValue s v >>= entriesAt (a .kind) s (l .k - 1) in
     record {
       from = omega arith;
       within = omega arith;
@@ -78,7 +77,7 @@ returns-3 c =
     let s = now (a .s) in
     let k = laid (c .before .before .before .before .before .before .before) in
     let v = c .before .before .before .before .before .before .before .before .v .given .0 in
-    let d = value levels s (v .0 .at) in
+    let d = topValue s (v .0 .at) in
     let w = value-read s (v .0 .at) (c .before .before .before .before .before .before .before .before .before .before .before .before .before .before .before .before .before .before .before .before .before .before .before .pre .0) (k .within) in
     let r = rw (w, c .before .a3 .given .1) at (c .before .before .before .before .before .parse-value .ensures .0) in
     (rw (k .same) (sym (run-halt d (entriesAt (a .kind) s (c .before .before .before .before .before .before .before .before .before .before .before .before .before .before .before .before .before .before .before .before .loop .k - 1)) _ _ r)), within-stop)
@@ -94,7 +93,7 @@ loop-again c =
     let b = c .before .before .before .before .before .parse-value .ensures .1 .bounds (f .0) (f .1 .0) (c .before .f .given .1) in
     let n = c .before .before .before .before .before .parse-value .kept .0 in
     let m = c .before .before .before .before .before .before .before .before .before .before .before .before .put .kept .0 in
-    let d = value levels s (v .0 .at) in
+    let d = topValue s (v .0 .at) in
     let w = value-read s (v .0 .at) (c .before .before .before .before .before .before .before .before .before .before .before .before .before .before .before .before .before .before .before .before .before .before .before .pre .0) (k .within) in
     let r = rw (w, c .before .f .given .1) at (c .before .before .before .before .before .parse-value .ensures .0) in (
       omega arith,

@@ -1,11 +1,10 @@
 -- The label, a length and the value; where lengths are exact, the length is set behind the value.
 use Rattle.wire.proofs.Kit.{ℕ, _+_, _-_, _*_, _≤_, _≡_, sym, ap, _∙_, List, arith, length, now, needs}
-use Rattle.wire.specs.Limit as limit
 use Rattle.image.specs.declared.reading.Step.the-variants.{Next}
 use Rattle.image.specs.Out.{Out, row, Poured, poured, pour, bytes as bytesOut}
 use Rattle.image.proofs.Pouring.{pour-then, pour-halt, row-then, row-halt, went}
 use Rattle.amf0.specs.Code.{longest, growth}
-use Rattle.amf0.specs.Writing.{value, valueIn}
+use Rattle.amf0.specs.Writing.{value, topValue, valueIn}
 use Rattle.amf0.proofs.Putting.{ahead-stop, ahead-next, in-value}
 use Rattle.packet.specs.Writing.{label, entry}
 use Rattle.packet.proofs.Putting.{carried, carried-stop, sizing, size-set, size-step, following, entry-labelled}
@@ -31,7 +30,7 @@ record Told (c : tie.After-known-told2) : Type 0 where
       let x = now (a .text) in
       let v = c .before .d .given .0 in
       pour (entry (a .kind) (a .exact) i x (a .c .at)) (a .count) (now (a .out)) .step
-      ≡ pour (row x (sizing 0xFFFFFFFF) (a .c .at) (value limit.levels i x (v .0 .at))) (v .1 .0) (c .before .before .before .before .before .write-label .last .0) .step
+      ≡ pour (row x (sizing 0xFFFFFFFF) (a .c .at) (topValue i x (v .0 .at))) (v .1 .0) (c .before .before .before .before .before .write-label .last .0) .step
 
 told : (c : tie.After-known-told2) → Told c
 told c =
@@ -50,7 +49,7 @@ told c =
       fits = b .1;
       most = b .2;
       same = e;
-      step = ap (λ (y : Poured). y .step) e ∙ size-step x (value limit.levels i x (v .0 .at)) (a .c .at) _ 0xFFFFFFFF (v .1 .0) (c .before .before .before .before .before .write-label .last .0);
+      step = ap (λ (y : Poured). y .step) e ∙ size-step x (topValue i x (v .0 .at)) (a .c .at) _ 0xFFFFFFFF (v .1 .0) (c .before .before .before .before .before .write-label .last .0);
     }
 
 -- a length is put out, and the value is left
@@ -58,7 +57,7 @@ record Sized (c : tie.After-known-told4) : Type 0 where
   place : c .before .e .given .0 .0 .at ≡ c .before .before .before .before .before .before .before .before .before .d .given .0 .0 .at
   most : c .before .e .given .0 .1 .0 ≤ c .before .before .before .before .before .before .before .before .before .d .given .0 .1 .0 + longest
   same : let a = c .before .before .before .before .before .before .before .before .before .before .before .before .before .before .before .before .before .before .args in
-      let f = value limit.levels (now (a .image)) (now (a .text)) in
+      let f = topValue (now (a .image)) (now (a .text)) in
       let u = c .before .before .before .before .before .before .before .before .before .d .given .0 in
       let v = c .before .e .given .0 in
       pour (row (now (a .text)) (sizing 0xFFFFFFFF) (a .c .at) (f (u .0 .at))) (u .1 .0) (c .before .before .before .before .before .before .before .before .before .before .before .before .before .write-label .last .0) ≡ pour (f (v .0 .at)) (v .1 .0) (c .before .before .before .before .before .emit .last .0)
@@ -66,7 +65,7 @@ record Sized (c : tie.After-known-told4) : Type 0 where
       let i = now (a .image) in
       let x = now (a .text) in
       let v = c .before .e .given .0 in
-      (o : List ℕ) → pour (valueIn i x (v .1 .0) (v .0 .at)) (v .1 .0) o ≡ pour (value limit.levels i x (v .0 .at)) (v .1 .0) o
+      (o : List ℕ) → pour (valueIn i x (v .1 .0) (v .0 .at)) (v .1 .0) o ≡ pour (topValue i x (v .0 .at)) (v .1 .0) o
 
 sized : (c : tie.After-known-told4) → Sized c
 sized c =
@@ -86,7 +85,7 @@ sized c =
     record {
       place = b .0;
       most = omega arith;
-      same = row-then x (sizing 0xFFFFFFFF) (a .c .at) (u .0 .at) (u .1 .0) (c .before .before .before .before .before .before .before .before .before .before .before .before .before .write-label .last .0) (omega arith) (omega arith) (value limit.levels i x) (rw (c .before .before .before .before .before .before .row .ensures, c .before .e .given .1) at (c .before .before .before .before .before .emit .ensures .0));
+      same = row-then x (sizing 0xFFFFFFFF) (a .c .at) (u .0 .at) (u .1 .0) (c .before .before .before .before .before .before .before .before .before .before .before .before .before .write-label .last .0) (omega arith) (omega arith) (topValue i x) (rw (c .before .before .before .before .before .before .row .ensures, c .before .e .given .1) at (c .before .before .before .before .before .emit .ensures .0));
       inner = λ o. ap (λ (d : Out). pour d (v .1 .0) o) (in-value i x (v .1 .0) (v .0 .at) t s (omega arith) (omega arith));
     }
 
@@ -98,12 +97,12 @@ record Valued (c : tie.After-known-told6) : Type 0 where
       let v = c .before .f .given .0 in
       v .1 .0 + growth * (a .c .at + 1) ≤ a .count + growth * v .0 .at
   size : let a = c .before .before .before .before .before .before .before .before .before .before .before .before .before .before .before .before .before .before .before .before .before .before .before .before .before .args in
-      c .before .f .given .0 .1 .0 ≡ c .before .before .before .before .before .before .before .before .e .given .0 .1 .0 + length (bytesOut (value limit.levels (now (a .image)) (now (a .text)) (c .before .before .before .before .before .before .before .before .before .before .before .before .before .before .before .before .d .given .0 .0 .at)))
+      c .before .f .given .0 .1 .0 ≡ c .before .before .before .before .before .before .before .before .e .given .0 .1 .0 + length (bytesOut (topValue (now (a .image)) (now (a .text)) (c .before .before .before .before .before .before .before .before .before .before .before .before .before .before .before .before .d .given .0 .0 .at)))
   same : let a = c .before .before .before .before .before .before .before .before .before .before .before .before .before .before .before .before .before .before .before .before .before .before .before .before .before .args in
       let u = c .before .before .before .before .before .before .before .before .before .before .before .before .before .before .before .before .d .given .0 in
       let v = c .before .f .given .0 in
       poured (Next (v .0) (v .1 .0)) (c .before .before .before .before .before .pour-value .last .0)
-      ≡ pour (row (now (a .text)) (sizing 0xFFFFFFFF) (a .c .at) (value limit.levels (now (a .image)) (now (a .text)) (u .0 .at))) (u .1 .0) (c .before .before .before .before .before .before .before .before .before .before .before .before .before .before .before .before .before .before .before .before .write-label .last .0)
+      ≡ pour (row (now (a .text)) (sizing 0xFFFFFFFF) (a .c .at) (topValue (now (a .image)) (now (a .text)) (u .0 .at))) (u .1 .0) (c .before .before .before .before .before .before .before .before .before .before .before .before .before .before .before .before .before .before .before .before .write-label .last .0)
 
 valued : (c : tie.After-known-told6) → Valued c
 valued c =
@@ -124,7 +123,7 @@ valued c =
       from = omega arith;
       fits = b .1;
       most = omega arith;
-      size = rw (← q) (went (value limit.levels i x (w .0 .at)) (w .1 .0) (c .before .before .before .before .before .before .before .before .before .before .before .before .emit .last .0) e .size);
+      size = rw (← q) (went (topValue i x (w .0 .at)) (w .1 .0) (c .before .before .before .before .before .before .before .before .before .before .before .before .emit .last .0) e .size);
       same = e ∙ sym (l .same);
     }
 
@@ -151,7 +150,7 @@ returns-2 c =
     let g = p .3 in
     let s = p .1 in (
       carried-stop (k .step ∙ ap (λ (y : Poured). y .step)
-          (row-halt x (sizing 0xFFFFFFFF) (a .c .at) (u .0 .at) (u .1 .0) (c .before .before .before .before .before .before .before .before .before .before .before .before .before .write-label .last .0) (omega arith) (omega arith) (value limit.levels i x) (rw (c .before .before .before .before .before .before .row .ensures, c .before .a2 .given .1) at (c .before .before .before .before .before .emit .ensures .0)))),
+          (row-halt x (sizing 0xFFFFFFFF) (a .c .at) (u .0 .at) (u .1 .0) (c .before .before .before .before .before .before .before .before .before .before .before .before .before .write-label .last .0) (omega arith) (omega arith) (topValue i x) (rw (c .before .before .before .before .before .before .row .ensures, c .before .a2 .given .1) at (c .before .before .before .before .before .emit .ensures .0)))),
       ahead-stop,
     )
 
@@ -176,9 +175,9 @@ returns-4 c =
     let w = c .before .before .before .before .before .before .before .before .before .before .before .before .before .e .given .0 in
     let v = c .before .before .before .before .before .before .f .given .0 in
     let n = k .size in
-    let z : v .1 .0 - w .1 .0 ≡ length (bytesOut (value limit.levels i x (u .0 .at))) = omega arith in (
+    let z : v .1 .0 - w .1 .0 ≡ length (bytesOut (topValue i x (u .0 .at))) = omega arith in (
       carried (ap (λ (l : List ℕ). poured (Next (v .0) (v .1 .0)) l) (c .before .before .write-number .ensures .1)
-          ∙ size-set x (value limit.levels i x (u .0 .at)) (a .c .at) 0xFFFFFFFF (v .1 .0 - w .1 .0) (u .1 .0) (c .before .before .before .before .before .before .before .before .before .before .before .before .before .before .before .before .before .before .before .before .before .before .before .before .before .write-label .last .0) (k .same)
+          ∙ size-set x (topValue i x (u .0 .at)) (a .c .at) 0xFFFFFFFF (v .1 .0 - w .1 .0) (u .1 .0) (c .before .before .before .before .before .before .before .before .before .before .before .before .before .before .before .before .before .before .before .before .before .before .before .before .before .write-label .last .0) (k .same)
           ∙ sym (told (c .before .before .before .before .before .before .before .before .before .before .before .before .before .before .before .before .before .before .before .before) .same ∙ rw (c .before .before .before .before .if1 .taken, z))),
       ahead-next (k .from) (k .fits) (k .most),
     )
