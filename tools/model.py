@@ -1,5 +1,5 @@
-"""Document 01's readings and writings, and document 02's key index (request 1), written down once more in Python: plain and slow. It shares no code with the
-library, but it has the same author, who read the documents in the same way: it finds slips, and no misreading.
+"""The rules of docs/DEMANDS.md on readings, writings and the key index, written down once more in Python: plain and slow. It shares no code with the
+library, but it has the same author, who read the rules in the same way: it finds slips, and no misreading.
 
 read_value(input, room) gives (answer, used, made, image), the image as it stands after the call; write_value(image, text, out) gives
 (answer, count, output), likewise; make_index(image, text, room) gives (answer, count, index), likewise. find(image, text, index, path) and
@@ -416,7 +416,7 @@ def part(data, place, length):
     return data[place : place + length] if inside(data, place, length) else b""
 
 
-# ---- document 02, request 1: the key index
+# ---- the rule "Key index"
 
 
 def walk_value(w, depth, found):

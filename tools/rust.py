@@ -40,7 +40,7 @@ def oracle(path, cases):
 
 
 def number_of(name, words, length):
-    """Document 01's number for a refusal by the Rust: 2 or 3, as its error says. For readings that need not use the whole input."""
+    """The number of a refusal by the Rust, as the rule "Answers" has it: 2 or 3, as its error says. For readings that need not use the whole input."""
     why = " ".join(words[1:])
     if "UnsupportedType" in why or "MapRes" in why:
         return 3

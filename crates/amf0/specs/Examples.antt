@@ -1,4 +1,5 @@
--- Document 01, "Checked examples": those on values without a star, one table that the checker computes. The starred ones are the table of the crate `demands`.
+-- The rule "Examples" (docs/DEMANDS.md): those on values without a star, one table that the checker computes. The starred ones are the table of the crate
+-- `demands`.
 use Rattle.wire.specs.Kit.{ℕ, zero, suc, _≡_, refl, List, [], _∷_, map}
 use Rattle.wire.specs.Utf8.{ends}
 use Rattle.wire.specs.Field.{u8At, u16At, u32At, u64At, strAt, textAt}

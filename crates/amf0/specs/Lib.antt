@@ -1,5 +1,5 @@
--- What reading a value is, by document 01 (Marker, Fields, Reading), by Adobe's document (Standard), and how the two meet (Shown); what writing one
--- is (Shape, Writing), and which bytes those are by Adobe's document (Written).
+-- What reading a value is, by the rules of docs/DEMANDS.md (Marker, Fields, Reading), by Adobe's document (Standard), and how the two meet (Shown); what
+-- writing one is (Shape, Writing), and which bytes those are by Adobe's document (Written).
 pub mod Marker
 pub mod Fields
 pub mod Reading

@@ -1,4 +1,4 @@
--- What reading a value finds, from a place of an input on: document 01, "Reading one value". `left` is how many levels are left.
+-- What reading a value finds, from a place of an input on: the rule "Reading one value" (docs/DEMANDS.md). `left` is how many levels are left.
 use Rattle.wire.specs.Kit.{ℕ, zero, suc, _+_, List, length, leb, eqb}
 use Rattle.wire.specs.Choice.{pick}
 use Rattle.wire.specs.Field.{u8At, textAt, got8, gotText}

@@ -1,4 +1,4 @@
--- What document 01 says of images that no reading makes: examples of its rules for writers, one table that the checker computes.
+-- Images that no reading makes: examples of the rules "Writing checks first" and "What is written" (docs/DEMANDS.md), one table that the checker computes.
 use Rattle.wire.specs.Kit.{ℕ, _≡_, refl, List, [], _∷_, map}
 use Rattle.wire.specs.Utf8.{ends}
 use Rattle.wire.specs.Field.{u8At, u16At, u24At, u32At, u64At, strAt, textAt}

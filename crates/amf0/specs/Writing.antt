@@ -1,4 +1,5 @@
--- What writing a value puts out, from a place of an image on: document 01, "A write checks first". `left` is how many levels are left.
+-- What writing a value puts out, from a place of an image on: the rules "Writing checks first" and "What is written" (docs/DEMANDS.md). `left` is how many
+-- levels are left.
 use Rattle.wire.specs.Kit.{ℕ, zero, suc, _+_, List, [], _∷_, Bool, true, false, length, leb, eqb}
 use Rattle.wire.specs.Choice.{pick}
 use Rattle.wire.specs.Number.{digits}

@@ -1,5 +1,5 @@
 -- Why a reading of a value is refused, with no word of a reader: which fields stand before one that is not whole or not right, and what is wrong with that
--- one. Document 01: "Fields go left to right: whole (2), then right (3)". The public call, last, adds the limit and the room.
+-- one: the rule "Fields" (docs/DEMANDS.md). The public call, last, adds the limit and the room.
 use Rattle.wire.specs.Kit.{ℕ, suc, _+_, _^_, _<_, _≤_, _≡_, _≢_, List, [], _∷_, _++_, false, length, take, drop}
 use Rattle.wire.specs.Number.{digits, number as numberOf}
 use Rattle.wire.specs.Utf8.{utf8}

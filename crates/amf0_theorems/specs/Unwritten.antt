@@ -1,5 +1,5 @@
--- Why a write is refused, and by which record: document 01, "A write checks first". Records begin a tree, something is due behind them, and what stands there
--- is not it. `left` is how many levels are left.
+-- Why a write is refused, and by which record: the rule "Writing checks first" (docs/DEMANDS.md). Records begin a tree, something is due behind them, and what
+-- stands there is not it. `left` is how many levels are left.
 use Rattle.wire.specs.Kit.{ℕ, suc, _+_, _≤_, _<_, _≡_, List, [], _∷_, _++_, true, length}
 use Rattle.wire.specs.Limit as limit
 use Rattle.image.specs.declared.record.Record.{Record}

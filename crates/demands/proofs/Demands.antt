@@ -68,8 +68,8 @@ use Rattle.demands.proofs.Demand2 as two
 use Rattle.demands.proofs.Demand2.{Means}
 use Rattle.demands.proofs.Demand3 as three
 
--- ---- 1. "Every public call ends on every input; readers and writers answer from document 01's table. None relies on a check made by the caller. A refused read
--- leaves the tree buffer all zeros; a refused write leaves the output as it was found."
+-- ---- 1. "Every public call ends on every input; readers and writers answer from [the table of answers]. None relies on a check made by the caller. A refused
+-- read leaves the tree buffer all zeros; a refused write leaves the output as it was found." The table is the rule "Answers" (docs/DEMANDS.md).
 
 pub record Demand1 : Type 0 where
   -- That it ends is what the kit proves of each function, wherever it is called as its contract asks; and no contract of a public call asks anything of the
@@ -347,16 +347,16 @@ demand1 =
       c-index-zeros = c.index-zeros;
     }
 
--- ---- 2. "The readers and writers give what the Rust gives within document 01's limits, and each value means what Adobe's AMF 0 document says, every departure
--- listed. A tree that was read and then written in full reads back, given room, as the same tree, texts and number bits included, in no more bytes than were
--- consumed. Only text places and the stored file length may differ."
+-- ---- 2. "The readers and writers give what the Rust gives within [the limits], and each value means what Adobe's AMF 0 document says, every departure listed.
+-- A tree that was read and then written in full reads back, given room, as the same tree, texts and number bits included, in no more bytes than were consumed.
+-- Only text places and the stored file length may differ." The limits are the rule "Limits" (docs/DEMANDS.md).
 
 -- a round trip of the entry with a number
 abbrev pub EntryTrip : ℕ → List ℕ → List ℕ → Whole → Whole → Type 0
 EntryTrip k s b v w = trips.OfEntry s k λ e. trips.SpanTrip s (e .place) (e .length) b v w
 
 pub record Demand2 : Type 0 where
-  -- The readers and writers give what the Rust gives: the definitions under specs/ are document 01's, the contracts are equations with them, and
+  -- The readers and writers give what the Rust gives: the definitions under specs/ are the rules of docs/DEMANDS.md, the contracts are equations with them, and
   -- docs/DIFFERENCES.md says what was compared with the Rust by running.
 
   -- Each value means what Adobe's AMF 0 document says, every departure listed: `Encodes` is its table, whose departures are named so. What is accepted is a
@@ -432,7 +432,7 @@ pub record Demand2 : Type 0 where
       → listed d y ≡ listed c x
   -- The stored length is 16 plus the name's length plus the body's.
   pub file-length : (i text o : List ℕ) (w : Writing) (y : List ℕ) → Bytes i → LsoWrite i text o w y → w .answer ≡ 0 → file-writing.SaysLength (sent w y)
-  -- And the examples that document 01 stars hold.
+  -- And the starred examples hold: the rule "Examples" (docs/DEMANDS.md).
   pub examples : AllHold table
 
 pub demand2 : Demand2

@@ -1,4 +1,4 @@
--- The examples that document 01 stars, of the calls.
+-- The starred examples of the rule "Examples" (docs/DEMANDS.md), of the calls.
 use Rattle.wire.proofs.Kit.{ℕ, _≡_, ap, _∙_, List, [], _∷_, map, length, take}
 use Rattle.image.specs.declared.reading.Reading.{Reading}
 use Rattle.image.specs.declared.writing.Writing.{Writing}

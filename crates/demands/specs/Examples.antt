@@ -1,4 +1,4 @@
--- Document 01, "Checked examples": the starred ones, in its order, as the single table that it asks for. The checker computes it.
+-- The rule "Examples" (docs/DEMANDS.md): the starred ones, in its order, as the single table that it asks for. The checker computes it.
 use Rattle.wire.specs.Kit.{ℕ, _≡_, refl, List, [], _∷_, _++_, map}
 use Rattle.wire.specs.Utf8.{ends}
 use Rattle.wire.specs.Field.{u8At, u16At, u24At, u32At, u64At, strAt, textAt, tagAt}

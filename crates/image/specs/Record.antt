@@ -1,4 +1,4 @@
--- The tree image of document 01: how each record lies, the table's lines in the table's order.
+-- How each record lies: the lines of the rule "Tree image" (docs/DEMANDS.md), in its order.
 use Rattle.wire.specs.Kit.{ℕ, _+_, List, _∷_, _++_, Bool, true, false}
 use Rattle.wire.specs.Number.{digits}
 use Rattle.image.specs.declared.record.Field.{Field}

@@ -1,4 +1,4 @@
--- The record at a place of an image: its kind is one of document 01's table, and its body is whole and right.
+-- The record at a place of an image: its kind is one of the rule "Tree image" (docs/DEMANDS.md), and its body is whole and right.
 use Rattle.wire.specs.Kit.{ℕ, _^_, _<_, _≡_, List, [], _∷_, Bool, true, false, eqb}
 use Rattle.wire.specs.Choice.{pick}
 use Rattle.wire.specs.Field.{to, u8At, u16At, u24At, u32At, u64At, got8, got16, got32, got64, gotText}

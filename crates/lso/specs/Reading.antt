@@ -1,4 +1,4 @@
--- What reading a file finds, and what it comes to in a room: document 01, "LSO file".
+-- What reading a file finds, and what it comes to in a room: the rule "LSO file" (docs/DEMANDS.md).
 use Rattle.wire.specs.Kit.{ℕ, zero, suc, List, [], _∷_, _++_, length, leb, eqb}
 use Rattle.wire.specs.Choice.{pick}
 use Rattle.wire.specs.Limit as limit

@@ -1,4 +1,4 @@
--- Document 01, "Checked examples": its file and one more, read whole and written back, one table that the checker computes.
+-- The file of the rule "Examples" (docs/DEMANDS.md) and one more, read whole and written back, one table that the checker computes.
 use Rattle.wire.specs.Kit.{ℕ, _≡_, refl, List, [], _∷_, map}
 use Rattle.wire.specs.Utf8.{ends}
 use Rattle.wire.specs.Field.{u8At, u16At, u24At, u32At, u64At, strAt, textAt, tagAt}

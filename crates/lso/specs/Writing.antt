@@ -1,4 +1,4 @@
--- What writing a file puts out: document 01, "LSO file" and "Tree image".
+-- What writing a file puts out: the rules "LSO file", "Writing checks first" and "What is written" (docs/DEMANDS.md).
 use Rattle.wire.specs.Kit.{ℕ, zero, suc, _+_, List, length, leb}
 use Rattle.wire.specs.Choice.{pick}
 use Rattle.wire.specs.Limit as limit

@@ -1,4 +1,4 @@
-// The answers of document 01's table, in words.
+// The rule "Answers" (docs/DEMANDS.md), in words.
 use figures::page::Page;
 use figures::page::decimal;
 use figures::page::word;

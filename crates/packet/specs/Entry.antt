@@ -1,4 +1,4 @@
--- The cut of a packet by its declared lengths, and the reading of one entry: document 01, "Reading by entry".
+-- The cut of a packet by its declared lengths, and the reading of one entry: the rule "Reading by entry" (docs/DEMANDS.md).
 use Rattle.wire.specs.Kit.{ℕ, zero, suc, _+_, _-_, List, [], _∷_, _++_, length, getD, replicate, leb, ltb, eqb}
 use Rattle.wire.specs.Choice.{pick}
 use Rattle.wire.specs.Limit as limit

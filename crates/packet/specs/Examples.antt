@@ -1,4 +1,4 @@
--- Document 01's packet, and packets near it: read whole, cut, and read by entry and by span, two tables that the checker computes.
+-- The packet of the rule "Examples" (docs/DEMANDS.md), and packets near it: read whole, cut, and read by entry and by span, two tables that the checker computes.
 use Rattle.wire.specs.Kit.{ℕ, _≡_, refl, List, [], _∷_, map}
 use Rattle.wire.specs.Utf8.{ends}
 use Rattle.wire.specs.Field.{u8At, u16At, u32At, u64At, strAt, textAt, tagAt}
@@ -75,7 +75,7 @@ unfolding wholeOf incompleteOf packetAt entriesAt versionAt headerAt messageAt c
     follow fieldsAt markerOf u8At u16At u32At u64At textAt strAt tagAt ends
 examples = refl
 
--- ---- a span of document 01's packet: its last byte, one byte more, nothing behind it, and past its end
+-- ---- a span of the first packet: its last byte, one byte more, nothing behind it, and past its end
 
 record Span : Type 0 where
   place : ℕ

@@ -1,4 +1,4 @@
--- The fields of a packet round its values: document 01, "Packet".
+-- The fields of a packet round its values: the rule "Packet" (docs/DEMANDS.md).
 use Rattle.wire.specs.Kit.{ℕ, List, [], _∷_, ltb, eqb}
 use Rattle.wire.specs.Choice.{pick}
 use Rattle.wire.specs.Field.{to, u8At, u32At, textAt, tagAt, got8, got32, gotText, pastTag}

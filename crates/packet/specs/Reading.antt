@@ -1,4 +1,4 @@
--- What reading a whole packet finds, and what it comes to in a room: document 01, "Packet".
+-- What reading a whole packet finds, and what it comes to in a room: the rule "Packet" (docs/DEMANDS.md).
 use Rattle.wire.specs.Kit.{ℕ, zero, suc, List, length, leb, eqb}
 use Rattle.wire.specs.Choice.{pick}
 use Rattle.wire.specs.Limit as limit

@@ -1,4 +1,4 @@
--- Two packets, read whole and written back in both settings, one table that the checker computes. The first is document 01's.
+-- Two packets, read whole and written back in both settings, one table that the checker computes. The first is that of the rule "Examples" (docs/DEMANDS.md).
 use Rattle.wire.specs.Kit.{ℕ, _≡_, refl, List, [], _∷_, _++_, map, Bool, true, false}
 use Rattle.wire.specs.Utf8.{ends}
 use Rattle.wire.specs.Field.{u8At, u16At, u24At, u32At, u64At, strAt, textAt, tagAt}

@@ -1,4 +1,4 @@
--- What writing a packet puts out: document 01, "Packet" and "Tree image".
+-- What writing a packet puts out: the rules "Packet", "Writing checks first" and "What is written" (docs/DEMANDS.md).
 use Rattle.wire.specs.Kit.{ℕ, zero, suc, List, Bool, length, leb, eqb}
 use Rattle.wire.specs.Choice.{pick}
 use Rattle.wire.specs.Limit as limit

@@ -1,4 +1,4 @@
--- Demand 3 at document 01's packet, a message "a" with the value 05, and at that packet with its last byte bent to 04.
+-- Demand 3 at the packet of the rule "Examples" (docs/DEMANDS.md), a message "a" with the value 05, and at that packet with its last byte bent to 04.
 use Rattle.wire.proofs.Kit.{ℕ, _<_, _≤_, _≡_, refl, sym, _∙_, _⊎_, inl, inr, List, [], _∷_, _++_, arith, getD, List·getD-eq-default}
 use lib.ListN.{List·getD-append}
 use Rattle.wire.specs.Utf8.{ends}

@@ -1,5 +1,5 @@
--- Why the write of a packet is refused, and by which record: document 01, "A write checks first". Records begin a packet, something is due behind them, and
--- what stands there is not it.
+-- Why the write of a packet is refused, and by which record: the rule "Writing checks first" (docs/DEMANDS.md). Records begin a packet, something is due behind
+-- them, and what stands there is not it.
 use Rattle.wire.specs.Kit.{ℕ, suc, _≤_, List, [], _∷_, _++_, Bool, length}
 use Rattle.wire.specs.Limit as limit
 use Rattle.image.specs.declared.record.Record.{Record}

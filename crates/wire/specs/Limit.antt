@@ -1,4 +1,4 @@
--- The limits of document 01, "Numbers to hold to".
+-- The rule "Limits" (docs/DEMANDS.md).
 use Rattle.wire.specs.Kit.{ℕ}
 
 -- the most bytes that an input, a writer's text or written output may have

@@ -1,4 +1,4 @@
-// The answers of document 01's table.
+// The rule "Answers" (docs/DEMANDS.md).
 pub const ACCEPTED: u8 = 0;
 
 pub const OVER_LIMIT: u8 = 1;
