@@ -15,8 +15,10 @@ use Rattle.image.proofs.Settle.{settled-stop}
 use Rattle.amf0.specs.declared.read.Follow.{Follow}
 use Rattle.amf0.specs.declared.read.Fields.{Fields}
 use Rattle.amf0.specs.declared.read.Fields.the-variants.{Got, Stop}
+use Rattle.amf0.specs.declared.type_marker.TypeMarker.{TypeMarker}
+use Rattle.amf0.specs.declared.type_marker.Marked.the-variants.{Value, Refused}
 use Rattle.amf0.specs.Marker.{markerOf}
-use Rattle.amf0.specs.Fields.{fieldsAt, basedFields, gotFields, shut}
+use Rattle.amf0.specs.Fields.{fieldsAt, basedFields, gotFields}
 use Rattle.amf0.specs.Reading.{value, topValue, pair, pairs, items, follow, valueIn, readOf}
 use Rattle.amf0.specs.Code.{FieldsWithin}
 
@@ -59,15 +61,29 @@ module _ (s : List ℕ) (at : ℕ) where
   value-cut zero e = rw e
   value-cut (suc left) e = rw e
 
-  pub value-shut : (left m : ℕ) {c : Cursor} → left ≡ 0 → u8At s at ≡ U8.Got m c → value left s at ≡ stop (shut m) at
-  unfolding value
-  value-shut left m z e = rw (z, e)
+  -- by what its marker marks, and whether a level is left
+  module _ (left m : ℕ) {c : Cursor} where
+    pub value-refused : markerOf m ≡ Refused → u8At s at ≡ U8.Got m c → value left s at ≡ stop 3 at
+    unfolding value
+    value-refused h e = go left
+      where
+        go : (l : ℕ) → value l s at ≡ stop 3 at
+        go zero = rw (e, h)
+        go (suc l) = rw (e, h)
 
-  pub value-fields : (left m : ℕ) {c : Cursor} → (left ≡ 0 → ⊥) → u8At s at ≡ U8.Got m c
-      → value left s at ≡ gotFields stop (fieldsAt s at (c .at) (markerOf m)) (λ r f q. due r at (follow (value (left - 1) s) s f q))
-  unfolding value
-  value-fields zero m z e = absurd (z refl)
-  value-fields (suc left) m z e = rw (e, sub-one (suc left))
+    module _ {k : TypeMarker} (h : markerOf m ≡ Value k) where
+      pub value-deep : left ≡ 0 → u8At s at ≡ U8.Got m c → value left s at ≡ stop 5 at
+      unfolding value
+      value-deep z e = rw (z, e, h)
+
+      pub value-fields : (left ≡ 0 → ⊥) → u8At s at ≡ U8.Got m c
+          → value left s at ≡ gotFields stop (fieldsAt s (c .at) k) (λ r f q. due r at (follow (value (left - 1) s) s f q))
+      unfolding value
+      value-fields z e = go left z
+        where
+          go : (l : ℕ) → (l ≡ 0 → ⊥) → value l s at ≡ gotFields stop (fieldsAt s (c .at) k) (λ r f q. due r at (follow (value (l - 1) s) s f q))
+          go zero z = absurd (z refl)
+          go (suc l) z = rw (e, h, sub-one (suc l))
 
   -- ---- pairs
 

@@ -1,4 +1,4 @@
--- What the proofs of the functions cite: the laws of readings (`Laws`, `Rows`), of writings (`Putting`), and of refusals (`Reasons`, `Outcome`). The theorems
+-- What the proofs of the functions cite: the laws of readings (`Laws`, `Rows`), of writings (`Putting`), and of refusals (`Reasons`). The theorems
 -- on the calls are in the crate amf0_theorems.
 pub mod Laws
 pub mod Rows
@@ -6,4 +6,3 @@ pub mod Putting
 pub mod Begun
 pub mod Coming
 pub mod Reasons
-pub mod Outcome

@@ -1,27 +1,33 @@
 -- The laws of the writing, step by step, that the functions' proofs cite.
-use Rattle.wire.proofs.Kit.{ℕ, zero, suc, _+_, _-_, _*_, _≤_, _<_, _≡_, refl, sym, ap, _∙_, List, [], _∷_, true, false, sub-one, arith, length, getD, leb}
-use Rattle.wire.proofs.Kit.{leb-true, leb-false}
+use Rattle.wire.proofs.Kit.{ℕ, zero, suc, _+_, _-_, _*_, _≤_, _<_, _≡_, refl, sym, ap, _∙_, List, [], _∷_, Bool, true, false, sub-one, arith, length, getD, leb, eqb}
+use Rattle.wire.proofs.Kit.{leb-true, leb-false, eq-eqb, ne-eqb}
 use Rattle.wire.specs.Choice.{pick}
 use Rattle.wire.specs.Number.{digits, Bytes}
 use Rattle.wire.specs.Bytes.{laid, decimal}
 use Rattle.wire.specs.Limit as limit
+use Rattle.wire.specs.Field.{u8At}
 use Rattle.wire.specs.declared.cursor.Cursor.{Cursor}
+use Rattle.wire.specs.declared.cursor.U8.the-variants as U8
 use Rattle.wire.proofs.Laws.{pick-yes, pick-no, picked}
+use Rattle.image.specs.declared.record.Layout.{Layout}
 use Rattle.image.specs.declared.record.Record.{Record}
 use Rattle.image.specs.declared.record.Record.the-variants.{Number, Boolean, Text, Object, Null, Undefined, Reference, EcmaArray, ObjectEnd, StrictArray, Date, Unsupported, Xml, TypedObject, Key, Packet, Header, Message, Lso}
 use Rattle.image.specs.declared.reading.Step.{Step}
 use Rattle.image.specs.declared.reading.Step.the-variants.{Next, Stop}
-use Rattle.image.specs.declared.taking.Taken.the-variants.{Found}
+use Rattle.image.specs.declared.taking.Taken.{Taken}
+use Rattle.image.specs.declared.taking.Taken.the-variants.{Found, Bad}
+use Rattle.image.specs.Kind as kind
+use Rattle.image.specs.Record.{layoutOf}
 use Rattle.image.specs.Taking.{recordAt}
 use Rattle.image.specs.Out.{Out, end, stop, put, _>>=_, pour, poured, Grown, bytes, settled, Written, written, unwritten}
 use Rattle.image.proofs.Laws.{size-some}
-use Rattle.image.proofs.Found.{found-stood}
+use Rattle.image.proofs.Found.{found-stood, found-kind}
 use Rattle.image.proofs.Pouring.{Slim, pour-then, pour-halt, pour-stop, pour-end, went, bytes-bind, settled-stop, settled-halt, settled-over, settled-full, settled-fits}
 use Rattle.amf0.specs.declared.write.Rest.the-variants.{Nothing, Pairs, Dense, Values}
 use Rattle.amf0.specs.Standard.{short-most}
 use Rattle.amf0.specs.Shape.{Shape}
 use Rattle.amf0.specs.Shape as S
-use Rattle.amf0.specs.Writing.{shapeOf, indexed, valueAt, items, pairs, dense, rest, value, topValue, before, valueIn, whole, writeOf}
+use Rattle.amf0.specs.Writing.{shapeOf, kinds, among, taken, asked, indexed, valueAt, items, pairs, dense, rest, value, topValue, before, valueIn, whole, writeOf}
 use Rattle.amf0.specs.Code.{Ahead, growth, opened, keyed}
 
 -- ---- the places that a step goes on at
@@ -59,40 +65,83 @@ past image h at {r} {c} e =
     let z = size-some r in
     record { from = omega (arith, k .next); fits = k .within }
 
--- the row of every shape is slim
-abbrev pub Thin : Shape → Type 0
-Thin (S.Value w f) = Slim w
-Thin (S.Key w) = Slim w
-Thin (S.End w) = Slim w
-Thin S.Other = Unit {0}
+-- ---- a record of a kind
 
-thin : (r : Record) → Thin (shapeOf r)
-thin (Number n) = omega arith
-thin (Boolean b) = omega arith
-thin (Text p n) =
-    picked Thin (leb n short-most) _ _
-    (λ h. omega arith)
-    (λ h. omega arith)
-thin Object = omega arith
-thin Null = omega arith
-thin Undefined = omega arith
-thin (Reference n) = omega arith
-thin (EcmaArray n) = omega arith
-thin ObjectEnd = omega arith
-thin (StrictArray n) = omega arith
-thin (Date n z t) = omega arith
-thin Unsupported = omega arith
-thin (Xml p n) = omega arith
-thin (TypedObject p n) = omega arith
-thin (Key p n) = omega arith
-thin (Packet h m) = tt
-thin (Header p n f) = tt
-thin (Message p n q m) = tt
-thin (Lso l p n) = tt
+-- a record that is found lies so, and ends at q: what is asked for goes on there, or it is of another kind
+pub record Asked (image : List ℕ) (due at : ℕ) (k : Layout → ℕ → Out) (l : Layout) (q : ℕ) : Type 0 where
+  pub from : at + 1 ≤ q
+  pub fits : q ≤ length image
+  pub same : l .kind ≡ due → asked image due at k ≡ k l q
+  pub other : (l .kind ≡ due → ⊥) → asked image due at k ≡ stop 6 at
+
+module _ (image : List ℕ) (due at : ℕ) where
+  -- what is asked for in one way and in another goes alike, where it does so behind the record
+  pub asked-both : (P : Out → Out → Type 0) (j k : Layout → ℕ → Out) → P (stop 6 at) (stop 6 at) → ((l : Layout) (q : ℕ) → P (j l q) (k l q))
+      → P (asked image due at j) (asked image due at k)
+  asked-both P j k none some = go (recordAt image at)
+    where
+      by : (t : Bool) (l : Layout) (q : ℕ) → P (pick t (j l q) (stop 6 at)) (pick t (k l q) (stop 6 at))
+      by true l q = some l q
+      by false l q = none
+
+      go : (t : Taken) → P (taken at t λ r q. pick (eqb (layoutOf r .kind) due) (j (layoutOf r) q) (stop 6 at))
+          (taken at t λ r q. pick (eqb (layoutOf r .kind) due) (k (layoutOf r) q) (stop 6 at))
+      go (Found r c) = by (eqb (layoutOf r .kind) due) (layoutOf r) (c .at)
+      go Bad = none
+
+  module _ (k : Layout → ℕ → Out) where
+    pub asked-bad : recordAt image at ≡ Bad → asked image due at k ≡ stop 6 at
+    asked-bad e = rw e
+
+    module _ (h : (i : ℕ) → getD image i 0 < 256) where
+      pub asks : {r : Record} {c : Cursor} {l : Layout} → recordAt image at ≡ Found r c → l ≡ layoutOf r → Asked image due at k l (c .at)
+      asks {r} {c} {l} e w =
+          let p = past image h at e in
+          let f : asked image due at k ≡ pick (eqb (l .kind) due) (k l (c .at)) (stop 6 at) =
+          rw e (ap (λ (m : Layout). pick (eqb (m .kind) due) (k m (c .at)) (stop 6 at)) (sym w)) in
+          record { from = p .from; fits = p .fits; same = λ n. f ∙ rw (eq-eqb (l .kind) due n); other = λ n. f ∙ rw (ne-eqb (l .kind) due n) }
+
+      -- another kind's byte stands there
+      pub asked-none : (kind : ℕ) (d : Cursor) → u8At image at ≡ U8.Got kind d → (kind ≡ due → ⊥) → asked image due at k ≡ stop 6 at
+      asked-none kind d byte other = go (recordAt image at) refl
+        where
+          go : (t : Taken) → recordAt image at ≡ t → asked image due at k ≡ stop 6 at
+          go Bad e = asked-bad e
+          go (Found r c) e = asks e refl .other λ f. other (found-kind image (known-bytes image h) at r c e kind d byte ∙ f)
+
+-- ---- rows
+
+-- a shape goes by its record's kind, and its row is slim
+abbrev pub Shaped : ℕ → Shape → Type 0
+Shaped k (S.Value w f) = (among kinds k ≡ true) × Slim w
+Shaped k (S.Key w) = (k ≡ kind.key) × Slim w
+Shaped k (S.End w) = (k ≡ kind.object-end) × Slim w
+Shaped k S.Other = Unit {0}
+
+pub shaped : (r : Record) → Shaped (layoutOf r .kind) (shapeOf r)
+shaped (Number n) = (refl, omega arith)
+shaped (Boolean b) = (refl, omega arith)
+shaped (Text p n) = picked (Shaped kind.text) (leb n short-most) _ _ (λ h. (refl, omega arith)) (λ h. (refl, omega arith))
+shaped Object = (refl, omega arith)
+shaped Null = (refl, omega arith)
+shaped Undefined = (refl, omega arith)
+shaped (Reference n) = (refl, omega arith)
+shaped (EcmaArray n) = (refl, omega arith)
+shaped ObjectEnd = (refl, omega arith)
+shaped (StrictArray n) = (refl, omega arith)
+shaped (Date n z t) = (refl, omega arith)
+shaped Unsupported = (refl, omega arith)
+shaped (Xml p n) = (refl, omega arith)
+shaped (TypedObject p n) = (refl, omega arith)
+shaped (Key p n) = (refl, omega arith)
+shaped (Packet h m) = tt
+shaped (Header p n f) = tt
+shaped (Message p n q m) = tt
+shaped (Lso l p n) = tt
 
 -- the same of a shape that is known
-pub thin-shape : (r : Record) {x : Shape} → shapeOf r ≡ x → Thin x
-thin-shape r e = rw e at (thin r)
+pub known-shape : (r : Record) {x : Shape} → shapeOf r ≡ x → Shaped (layoutOf r .kind) x
+known-shape r e = rw e at (shaped r)
 
 -- ---- a value
 

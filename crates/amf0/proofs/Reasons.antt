@@ -10,15 +10,16 @@ use Rattle.image.specs.declared.record.Record.the-variants as R
 use Rattle.image.specs.Record.{bytesOf}
 use Rattle.image.specs.Due.{Due, end, stop, due, _>>=_, Ends}
 use Rattle.image.specs.Whole.{bytes}
-use Rattle.amf0.specs.declared.type_marker.TypeMarker.{TypeMarker}
 use Rattle.amf0.specs.declared.read.Follow.{Follow}
 use Rattle.amf0.specs.declared.read.Follow.the-variants.{Nothing, Pairs, Values}
 use Rattle.amf0.specs.declared.read.Fields.{Fields}
 use Rattle.amf0.specs.declared.read.Fields.the-variants.{Got, Stop}
 use Rattle.amf0.specs.Marker.{markers, markerOf}
-use Rattle.amf0.specs.Fields.{fieldsAt, gotFields, gives, shut}
+use Rattle.amf0.specs.Fields.{fieldsAt, gotFields, gives, shut, behind}
 use Rattle.amf0.specs.Reading.{items, pair, pairs, follow, value}
 use Rattle.amf0.proofs.Rows.{Each, _▸_, each-marker}
+use Rattle.amf0.specs.declared.type_marker.Marked.{Marked}
+use Rattle.amf0.specs.declared.type_marker.Marked.the-variants.{Value, Refused}
 
 -- an answer that refuses a reading: 2, 3 or 5
 pub record Named (a : ℕ) : Type 0 where
@@ -26,10 +27,10 @@ pub record Named (a : ℕ) : Type 0 where
   pub high : a ≤ 5
   pub other : a ≢ 4
 
-two : Named 2
+pub two : Named 2
 two = record { low = omega arith; high = omega arith; other = λ e. omega arith }
 
-three : Named 3
+pub three : Named 3
 three = record { low = omega arith; high = omega arith; other = λ e. omega arith }
 
 five : Named 5
@@ -41,12 +42,12 @@ Kept s c (end n) = (c ≤ 3 * n) × (n ≤ length s)
 Kept s c (stop a p) = (c ≤ 3 * length s) × Named a × (p ≤ length s)
 Kept s c (due r p d) = Kept s (c + length (bytesOf r)) d
 
-fewer : (s : List ℕ) (c b : ℕ) (d : Due) → c ≤ b → Kept s b d → Kept s c d
+pub fewer : (s : List ℕ) (c b : ℕ) (d : Due) → c ≤ b → Kept s b d → Kept s c d
 fewer s c b (end n) h k = (omega arith, k .1)
 fewer s c b (stop a p) h k = (omega arith, k .1, k .2)
 fewer s c b (due r p d) h k = fewer s (c + length (bytesOf r)) (b + length (bytesOf r)) d (omega arith) k
 
-bind-kept : (s : List ℕ) (c : ℕ) (d : Due) (k : ℕ → Due) → Kept s c d → ((n : ℕ) → c ≤ 3 * n → n ≤ length s → Kept s (3 * n) (k n)) → Kept s c (d >>= k)
+pub bind-kept : (s : List ℕ) (c : ℕ) (d : Due) (k : ℕ → Due) → Kept s c d → ((n : ℕ) → c ≤ 3 * n → n ≤ length s → Kept s (3 * n) (k n)) → Kept s c (d >>= k)
 bind-kept s c (end n) k h g = fewer s c (3 * n) (k n) (h .0) (g n (h .0) (h .1))
 bind-kept s c (stop a p) k h g = h
 bind-kept s c (due r p d) k h g = bind-kept s (c + length (bytesOf r)) d k h λ n l. g n (omega arith)
@@ -58,8 +59,8 @@ KeptFields s at (Got r f c) = (3 * at + length (bytesOf r) ≤ 3 * c .at) × (c 
 KeptFields s at (Stop a p) = Named a × (p ≤ length s)
 
 module _ (s : List ℕ) (at : ℕ) (l : at < length s) where
-  Entry : ℕ → TypeMarker → Type 0
-  Entry m t = KeptFields s at (fieldsAt s at (at + 1) t)
+  Entry : ℕ → Marked → Type 0
+  Entry m t = KeptFields s at (behind s at (at + 1) t)
 
   text-kept : (w : ℕ) (q : ℕ → ℕ → Record) (f : Follow) → ((p n : ℕ) → length (bytesOf (q p n)) ≤ 3 + 3 * w)
       → KeptFields s at (gotText Stop (textAt w s (at + 1)) λ p n e. gives (q p n) f e)
@@ -92,7 +93,7 @@ module _ (s : List ℕ) (at : ℕ) (l : at < length s) where
       ▸ (omega arith, omega arith)
       ▸ tt
 
-  fields-kept : KeptFields s at (fieldsAt s at (at + 1) (markerOf (getD s at 0)))
+  fields-kept : KeptFields s at (behind s at (at + 1) (markerOf (getD s at 0)))
   unfolding Entry fieldsAt bytesOf
   fields-kept = each-marker Entry entries (λ m h. (omega arith, omega arith)) (getD s at 0)
 
@@ -130,14 +131,15 @@ module _ (s : List ℕ) (u : ℕ → Due) (g : (at : ℕ) → at ≤ length s �
   node-kept at (Stop a p) h k = (omega arith, k .0, k .1)
 
 -- where no level is left
-shut-named : (m : ℕ) → Named (shut m)
-shut-named m = picked Named (eqb m 4) _ _ (λ e. three) λ e. picked Named (eqb m 9) _ _ (λ f. three) λ f. picked Named (eqb m 14) _ _ (λ g. three) λ g. five
+shut-named : (t : Marked) → Named (shut t)
+shut-named (Value k) = five
+shut-named Refused = three
 
 pub kept : (left : ℕ) (s : List ℕ) (at : ℕ) → at ≤ length s → Kept s (3 * at) (value left s at)
 unfolding value
-kept zero s at h = go8 (Kept s (3 * at)) stop s at _ (λ l. (omega arith, shut-named (getD s at 0), h)) (λ l. (omega arith, two, h))
+kept zero s at h = go8 (Kept s (3 * at)) stop s at _ (λ l. (omega arith, shut-named (markerOf (getD s at 0)), h)) (λ l. (omega arith, two, h))
 kept (suc left) s at h = go8 (Kept s (3 * at)) stop s at _
-    (λ l. node-kept s (value left s) (kept left s) at (fieldsAt s at (at + 1) (markerOf (getD s at 0))) h (fields-kept s at l)) (λ l. (omega arith, two, h))
+    (λ l. node-kept s (value left s) (kept left s) at (behind s at (at + 1) (markerOf (getD s at 0))) h (fields-kept s at l)) (λ l. (omega arith, two, h))
 
 -- ---- what that says of a reading
 

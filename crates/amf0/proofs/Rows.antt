@@ -9,21 +9,22 @@ use Rattle.wire.proofs.Laws.{picked}
 use Rattle.wire.proofs.Stands.{Here, join, cut, skip, bytes-here, byte-at, u16-at, u32-at, u64-at, text-at, end8, end16, end32, end64, endText}
 use Rattle.image.specs.declared.record.Record.{Record}
 use Rattle.image.specs.declared.record.Record.the-variants as R
-use Rattle.amf0.specs.declared.type_marker.TypeMarker.{TypeMarker}
 use Rattle.amf0.specs.declared.type_marker.TypeMarker.the-variants as M
 use Rattle.amf0.specs.declared.read.Follow.{Follow}
 use Rattle.amf0.specs.declared.read.Follow.the-variants.{Nothing, Pairs, Values}
 use Rattle.amf0.specs.declared.read.Fields.{Fields}
 use Rattle.amf0.specs.declared.read.Fields.the-variants.{Got, Stop}
 use Rattle.amf0.specs.Marker.{markers, markerOf}
-use Rattle.amf0.specs.Fields.{fieldsAt, gives}
-use Rattle.amf0.specs.Standard.{Item, follows, many, short-most, Row}
+use Rattle.amf0.specs.Fields.{fieldsAt, gives, behind}
+use Rattle.amf0.specs.Standard.{Item, Content, content, follows, many, short-most, Row}
 use Rattle.amf0.specs.Standard.UTF-8.{short}
 use Rattle.amf0.specs.Standard.UTF-8-long.{long}
+use Rattle.amf0.specs.declared.type_marker.Marked.{Marked}
+use Rattle.amf0.specs.declared.type_marker.Marked.the-variants.{Value}
 
 -- a marker and its fields, from the marker's place on
 unfoldable pub itemAt : List ℕ → ℕ → Fields
-itemAt s at = got8 Stop (u8At s at) λ m p. fieldsAt s at p (markerOf m)
+itemAt s at = got8 Stop (u8At s at) λ m p. behind s at p (markerOf m)
 
 -- the record of a row that stands at a place, and what is then to follow
 unfoldable pub mark : {i : Item} {x : List ℕ} → Row i x → ℕ → Record
@@ -48,20 +49,14 @@ mark (Row.typed-object (short t h u)) at = R.TypedObject (at + 1 + 2) (length t)
 mark Row.departure-avmplus at = R.Unsupported
 mark (Row.departure-unknown m h l) at = R.Unsupported
 
+abbrev pub nextOf : Content → Follow
+nextOf Content.nothing = Nothing
+nextOf Content.named = Pairs
+nextOf Content.associative = Pairs
+nextOf (Content.ordered n) = Values n
+
 abbrev pub next : Item → Follow
-next (Item.number n) = Nothing
-next (Item.boolean b) = Nothing
-next (Item.string t) = Nothing
-next Item.object = Pairs
-next Item.null = Nothing
-next Item.undefined = Nothing
-next (Item.reference n) = Nothing
-next (Item.ecma-array n) = Pairs
-next (Item.strict-array n) = Values n
-next (Item.date n z) = Nothing
-next Item.unsupported = Nothing
-next (Item.xml-document t) = Nothing
-next (Item.typed-object t) = Pairs
+next i = nextOf (content i)
 
 -- a row begins with a byte that is not the object end marker
 pub record Begins (x : List ℕ) : Type 0 where
@@ -98,16 +93,16 @@ row-begins (Row.departure-unknown m h l) = begins m _ (ne-eqb m 9 λ e. omega ar
 -- ---- a row that stands there is read
 
 module _ (s r : List ℕ) (at n : ℕ) where
-  marker-at : (m : ℕ) (y : List ℕ) {t : TypeMarker} {f : Fields} → markerOf m ≡ t → Here s at (m ∷ y) r → fieldsAt s at (at + 1) t ≡ f → itemAt s at ≡ f
+  marker-at : (m : ℕ) (y : List ℕ) {t : Marked} {f : Fields} → markerOf m ≡ t → Here s at (m ∷ y) r → behind s at (at + 1) t ≡ f → itemAt s at ≡ f
   unfolding itemAt
   marker-at m y e h g = rw (byte-at m (cut (m ∷ []) y h), e) g
 
-  bare-at : (m : ℕ) {t : TypeMarker} {q : Record} {f : Follow} → markerOf m ≡ t → Here s at (m ∷ []) r → fieldsAt s at (at + 1) t ≡ gives q f (at + 1) → n ≡ at + 1
+  bare-at : (m : ℕ) {t : Marked} {q : Record} {f : Follow} → markerOf m ≡ t → Here s at (m ∷ []) r → behind s at (at + 1) t ≡ gives q f (at + 1) → n ≡ at + 1
       → itemAt s at ≡ gives q f n
   bare-at m {q} {f} e h g l = marker-at m [] e h (g ∙ ap (gives q f) (sym l))
 
-  text-row : (m w : ℕ) (t : List ℕ) {k : TypeMarker} (q : ℕ → ℕ → Record) (f : Follow) → markerOf m ≡ k
-      → fieldsAt s at (at + 1) k ≡ gotText Stop (textAt w s (at + 1)) (λ p c e. gives (q p c) f e) → 1 ≤ w
+  text-row : (m w : ℕ) (t : List ℕ) {k : Marked} (q : ℕ → ℕ → Record) (f : Follow) → markerOf m ≡ k
+      → behind s at (at + 1) k ≡ gotText Stop (textAt w s (at + 1)) (λ p c e. gives (q p c) f e) → 1 ≤ w
       → Here s at (m ∷ digits w (length t) ++ t) r → length t < 256 ^ w → utf8 t ≡ true → n ≡ at + 1 + w + length t
       → itemAt s at ≡ gives (q (at + 1 + w) (length t)) f n
   text-row m w t q f e g p h b u l =
@@ -150,7 +145,7 @@ module _ (s r : List ℕ) (at n : ℕ) where
   item-at (Row.xml-document (long t b u)) h l f = text-row 15 4 t R.Xml Nothing refl refl (omega arith) h b u (omega arith)
   item-at (Row.typed-object (short t b u)) h l f = text-row 16 2 t R.TypedObject Pairs refl refl (omega arith) h b u (omega arith)
   item-at Row.departure-avmplus h l f = bare-at 17 refl h refl l
-  item-at (Row.departure-unknown m b k) h l f = bare-at m (List·getD-eq-default markers M.Unsupported b) h refl l
+  item-at (Row.departure-unknown m b k) h l f = bare-at m (List·getD-eq-default markers (Value M.Unsupported) b) h refl l
 
 -- ---- what was read is a row
 
@@ -173,7 +168,7 @@ is-row : {s x r : List ℕ} {at q : ℕ} {i : Item} {m : Record} (row : Row i x)
 is-row {x} {r} {i} row h l e = record { what = i; row = x; rest = r; grammar = row; here = h; long = l; marks = e; follows = refl }
 
 -- a fact of each marker, with its number
-abbrev pub Each : (ℕ → TypeMarker → Type 0) → List TypeMarker → Type 0
+abbrev pub Each : (ℕ → Marked → Type 0) → List Marked → Type 0
 Each P [] = Unit {0}
 Each P (t ∷ ts) = P 0 t × Each (λ i. P (suc i)) ts
 
@@ -181,18 +176,18 @@ infixr 5 _▸_
 pub _▸_ : {A B : Type 0} → A → B → A × B
 a ▸ b = (a, b)
 
-each : (P : ℕ → TypeMarker → Type 0) (d : TypeMarker) (ts : List TypeMarker) → Each P ts → ((m : ℕ) → length ts ≤ m → P m d) → (m : ℕ) → P m (getD ts m d)
+each : (P : ℕ → Marked → Type 0) (d : Marked) (ts : List Marked) → Each P ts → ((m : ℕ) → length ts ≤ m → P m d) → (m : ℕ) → P m (getD ts m d)
 each P d [] e out m = out m zero-le
 each P d (t ∷ ts) e out zero = e .0
 each P d (t ∷ ts) e out (suc m) = each (λ i. P (suc i)) d ts (e .1) (λ j h. out (suc j) (suc-le-suc h)) m
 
-pub each-marker : (P : ℕ → TypeMarker → Type 0) → Each P markers → ((m : ℕ) → 18 ≤ m → P m M.Unsupported) → (m : ℕ) → P m (markerOf m)
+pub each-marker : (P : ℕ → Marked → Type 0) → Each P markers → ((m : ℕ) → 18 ≤ m → P m (Value M.Unsupported)) → (m : ℕ) → P m (markerOf m)
 unfolding markerOf
-each-marker P = each P M.Unsupported markers
+each-marker P = each P (Value M.Unsupported) markers
 
 module _ (s : List ℕ) (bs : Bytes s) (at : ℕ) where
-  Entry : ℕ → TypeMarker → Type 0
-  Entry m t = (r : List ℕ) → Here s at (m ∷ []) r → IsRead s at (fieldsAt s at (at + 1) t)
+  Entry : ℕ → Marked → Type 0
+  Entry m t = (r : List ℕ) → Here s at (m ∷ []) r → IsRead s at (behind s at (at + 1) t)
 
   boolean-row : {r z : List ℕ} (b : ℕ) → Here s at (1 ∷ []) r → Here s (at + 1) (b ∷ []) z → IsRow s at (R.Boolean (ltb 0 b)) Nothing (at + 1 + 1)
   unfolding mark

@@ -1,5 +1,5 @@
 -- What the reader's steps tell each other besides what they read.
-use Rattle.wire.specs.Kit.{ℕ, _+_, _*_, _≤_, _≡_, List, Bool, true, false, eqb}
+use Rattle.wire.specs.Kit.{ℕ, _+_, _*_, _≤_, _≡_, List, Bool}
 use Rattle.wire.specs.Choice.{pick}
 use Rattle.wire.specs.Limit as limit
 use Rattle.wire.specs.declared.cursor.Cursor.{Cursor}
@@ -47,11 +47,6 @@ pub record Ahead (x : Step) (low high count : ℕ) : Type 0 where
 abbrev pub thenOf : Step → Rest → Begun
 thenOf (Step.Next c n) f = Begun.Next c n f
 thenOf (Step.Stop a p) f = Begun.Stop a p
-
--- a zone that is absent is 0
-abbrev pub zoneFits : Bool → ℕ → Bool
-zoneFits true z = true
-zoneFits false z = eqb z 0
 
 -- the writing from a value's record on, with what follows its own bytes
 abbrev pub opened : Taken → List ℕ → ℕ → (Rest → ℕ → Out) → Out

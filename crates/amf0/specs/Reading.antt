@@ -9,7 +9,7 @@ use Rattle.image.specs.Whole.{Whole, settled, refused}
 use Rattle.amf0.specs.declared.read.Follow.{Follow}
 use Rattle.amf0.specs.declared.read.Follow.the-variants.{Nothing, Pairs, Values}
 use Rattle.amf0.specs.Marker.{markerOf}
-use Rattle.amf0.specs.Fields.{fieldsAt, gotFields, shut}
+use Rattle.amf0.specs.Fields.{behind, gotFields, shut}
 
 -- n values in a row, each read by `value`
 unfoldable pub items : (ℕ → Due) → ℕ → ℕ → Due
@@ -36,10 +36,10 @@ follow value s (Values n) at = items value n at
 
 -- a value: its marker, its own fields, its record, and what follows
 unfoldable pub value : ℕ → List ℕ → ℕ → Due
-value zero s at = got8 stop (u8At s at) λ m p. stop (shut m) at
+value zero s at = got8 stop (u8At s at) λ m p. stop (shut (markerOf m)) at
 value (suc left) s at =
     got8 stop (u8At s at) λ m p.
-    gotFields stop (fieldsAt s at p (markerOf m)) λ r f q.
+    gotFields stop (behind s at p (markerOf m)) λ r f q.
     due r at (follow (value left s) s f q)
 
 -- the value at a place, with every level left

@@ -2,7 +2,8 @@
 use Rattle.wire.specs.Kit.{ℕ, _+_, _≤_, _≡_, List, [], _∷_, _++_, true, length}
 use Rattle.image.specs.declared.record.Record.{Record}
 use Rattle.image.specs.declared.record.Record.the-variants.{Number, Boolean, Text, Object, Null, Undefined, Reference, EcmaArray, ObjectEnd, StrictArray, Date, Unsupported, Xml, TypedObject, Key, Packet, Header, Message, Lso}
-use Rattle.image.specs.Record.{bytesOf}
+use Rattle.image.specs.Record.{Part, formOf, bytesOf}
+use Rattle.image.specs.Record.Part.{number, text}
 use Rattle.image.specs.Taking.{Fits}
 use Rattle.wire.specs.Utf8.{utf8}
 use Rattle.wire.specs.Field.{bytesAt}
@@ -60,27 +61,15 @@ pub record Stands (s : List ℕ) (p n : ℕ) : Type 0 where
   pub inside : p + n ≤ length s
   pub right : utf8 (bytesAt n s p) ≡ true
 
--- the text that a value's record names stands
+-- the texts among the parts of a record stand
+abbrev pub Texts : List ℕ → List Part → Type 0
+Texts s [] = Unit {0}
+Texts s (number w n ∷ ps) = Texts s ps
+Texts s (text w p n ∷ ps) = Stands s p n × Texts s ps
+
+-- the texts that a record names stand
 abbrev pub Named : List ℕ → Record → Type 0
-Named s (Number n) = Unit {0}
-Named s (Boolean b) = Unit {0}
-Named s (Text p n) = Stands s p n
-Named s Object = Unit {0}
-Named s Null = Unit {0}
-Named s Undefined = Unit {0}
-Named s (Reference n) = Unit {0}
-Named s (EcmaArray n) = Unit {0}
-Named s ObjectEnd = Unit {0}
-Named s (StrictArray n) = Unit {0}
-Named s (Date n present zone) = Unit {0}
-Named s Unsupported = Unit {0}
-Named s (Xml p n) = Stands s p n
-Named s (TypedObject p n) = Stands s p n
-Named s (Key p n) = Stands s p n
-Named s (Packet h m) = Unit {0}
-Named s (Header p n f) = Unit {0}
-Named s (Message p n q m) = Unit {0}
-Named s (Lso l p n) = Unit {0}
+Named s r = Texts s (formOf r .parts)
 
 -- records that can stand in an image, over an input: their numbers fit their fields, and the texts that they name stand
 abbrev pub Right : List ℕ → List Record → Type 0

@@ -30,21 +30,34 @@ many value = 0
 many properties = 0
 many (values n) = n
 
--- what follows the fields of an item
+-- what follows the fields of an item: nothing, properties, those of an associative array, or so many values in order
+pub data Content : Type 0 where
+  nothing named associative : Content
+  ordered : (count : ℕ) → Content
+
+abbrev pub content : Item → Content
+content (number n) = nothing
+content (boolean b) = nothing
+content (string t) = nothing
+content object = named
+content null = nothing
+content undefined = nothing
+content (reference n) = nothing
+content (ecma-array n) = associative
+content (strict-array n) = ordered n
+content (date n z) = nothing
+content unsupported = nothing
+content (xml-document t) = nothing
+content (typed-object t) = named
+
+abbrev pub sortOf : Content → Sort
+sortOf nothing = values 0
+sortOf named = properties
+sortOf associative = properties
+sortOf (ordered n) = values n
+
 abbrev pub follows : Item → Sort
-follows (number n) = values 0
-follows (boolean b) = values 0
-follows (string t) = values 0
-follows object = properties
-follows null = values 0
-follows undefined = values 0
-follows (reference n) = values 0
-follows (ecma-array n) = properties
-follows (strict-array n) = values n
-follows (date n z) = values 0
-follows unsupported = values 0
-follows (xml-document t) = values 0
-follows (typed-object t) = properties
+follows i = sortOf (content i)
 
 pub data Tree : Sort → Type 0 where
   node : (i : Item) → Tree (follows i) → Tree value

@@ -7,12 +7,14 @@ use Rattle.wire.specs.Bytes.{decimal}
 use Rattle.wire.specs.Field.{u8At, got8}
 use Rattle.wire.specs.Limit as limit
 use Rattle.image.specs.declared.record.Field.{Field}
+use Rattle.image.specs.declared.record.Layout.{Layout}
 use Rattle.image.specs.declared.record.Record.{Record}
 use Rattle.image.specs.declared.record.Record.the-variants.{Number, Boolean, Text, Object, Null, Undefined, Reference, EcmaArray, ObjectEnd, StrictArray, Date, Unsupported, Xml, TypedObject, Key, Packet, Header, Message, Lso}
 use Rattle.image.specs.declared.taking.Taken.{Taken}
 use Rattle.image.specs.declared.taking.Taken.the-variants.{Found, Bad}
 use Rattle.image.specs.declared.writing.Row.{Row}
-use Rattle.image.specs.Record.{_bytes_, none, bitOf}
+use Rattle.image.specs.Kind as kind
+use Rattle.image.specs.Record.{_bytes_, none, bitOf, layoutOf}
 use Rattle.image.specs.Taking.{recordAt}
 use Rattle.image.specs.Out.{Out, end, stop, put, _>>=_, row, Written, unwritten, settled}
 use Rattle.amf0.specs.declared.write.Rest.{Rest}
@@ -61,7 +63,7 @@ indexed k d = put (digits 2 (length (decimal k))) (put (decimal k) d)
 
 -- the kinds of values
 abbrev pub kinds : List ℕ
-kinds = 0x00 ∷ 0x01 ∷ 0x02 ∷ 0x03 ∷ 0x05 ∷ 0x06 ∷ 0x07 ∷ 0x08 ∷ 0x0A ∷ 0x0B ∷ 0x0D ∷ 0x0F ∷ 0x10 ∷ []
+kinds = kind.number ∷ kind.boolean ∷ kind.text ∷ kind.object ∷ kind.null ∷ kind.undefined ∷ kind.reference ∷ kind.ecma-array ∷ kind.strict-array ∷ kind.date ∷ kind.unsupported ∷ kind.xml ∷ kind.typed-object ∷ []
 
 abbrev pub among : List ℕ → ℕ → Bool
 among [] k = false
@@ -75,6 +77,10 @@ valueAt image at = got8 (λ a p. false) (u8At image at) λ k p. among kinds k
 abbrev pub taken : ℕ → Taken → (Record → ℕ → Out) → Out
 taken at (Found r c) k = k r (c .at)
 taken at Bad k = stop 6 at
+
+-- the record at a place, where it is of the kind that is due there, or 6
+abbrev pub asked : List ℕ → (due at : ℕ) → (Layout → ℕ → Out) → Out
+asked image due at k = taken at (recordAt image at) λ r q. pick (eqb (layoutOf r .kind) due) (k (layoutOf r) q) (stop 6 at)
 
 -- a value's record, or 6
 abbrev pub valued : ℕ → Shape → (Row → Rest → Out) → Out

@@ -5,15 +5,15 @@ use Rattle.wire.specs.Number.{digits}
 use Rattle.wire.specs.Bytes.{decimal}
 use Rattle.wire.specs.Limit as limit
 use Rattle.image.specs.declared.record.Record.{Record}
-use Rattle.image.specs.declared.record.Record.the-variants as R
-use Rattle.image.specs.Record.{bitOf}
+use Rattle.image.specs.Record.{bitOf, unplaced}
 use Rattle.image.specs.Out.{Written}
-use Rattle.amf0.specs.Standard.{Item, Sort, Tree, depth, follows, short-most, Encodes}
+use Rattle.amf0.specs.Standard.{Item, Sort, Tree, depth, follows, short-most, Encodes, Content, content}
 use Rattle.amf0.specs.Standard.Item.{number, boolean, string, object, null, undefined, reference, ecma-array, strict-array, date, unsupported, xml-document, typed-object}
 use Rattle.amf0.specs.Standard.Sort.{value, properties, values}
 use Rattle.amf0.specs.Shown.{Word, look, laid, Right}
 use Rattle.amf0.specs.Reading.{readOf}
 use Rattle.amf0.specs.Writing.{writeOf}
+use Rattle.amf0.specs.Standard.Content.{nothing, named, associative, ordered}
 
 -- ---- the bytes of a tree
 
@@ -57,20 +57,14 @@ pub data Lead : Type 0 where
   keyless : (next : ℕ) → Lead
 
 -- they may in an 08
+abbrev pub leadOf : Content → Lead
+leadOf nothing = keyed
+leadOf named = keyed
+leadOf associative = keyless 0
+leadOf (ordered n) = keyed
+
 abbrev pub lead : Item → Lead
-lead (number n) = keyed
-lead (boolean b) = keyed
-lead (string t) = keyed
-lead object = keyed
-lead null = keyed
-lead undefined = keyed
-lead (reference n) = keyed
-lead (ecma-array n) = keyless 0
-lead (strict-array n) = keyed
-lead (date n z) = keyed
-lead unsupported = keyed
-lead (xml-document t) = keyed
-lead (typed-object t) = keyed
+lead i = leadOf (content i)
 
 -- Records that spell a tree over a text, left to right. A value without a key is a property under its number in decimal.
 pub data Spells (s : List ℕ) : Lead → (k : Sort) → Tree k → List Record → Type 0 where
@@ -111,28 +105,6 @@ pub data Over (image text : List ℕ) : Type 0 where
 abbrev pub numbered : {n : ℕ} → ℕ → Tree (values n) → Tree properties → Tree properties
 numbered k Tree.nil ps = ps
 numbered k (Tree.cons v vs) ps = Tree.property (decimal k) v (numbered (k + 1) vs ps)
-
--- a record with its places taken for 0
-abbrev pub unplaced : Record → Record
-unplaced (R.Number n) = R.Number n
-unplaced (R.Boolean b) = R.Boolean b
-unplaced (R.Text p n) = R.Text 0 n
-unplaced R.Object = R.Object
-unplaced R.Null = R.Null
-unplaced R.Undefined = R.Undefined
-unplaced (R.Reference n) = R.Reference n
-unplaced (R.EcmaArray n) = R.EcmaArray n
-unplaced R.ObjectEnd = R.ObjectEnd
-unplaced (R.StrictArray n) = R.StrictArray n
-unplaced (R.Date n present zone) = R.Date n present zone
-unplaced R.Unsupported = R.Unsupported
-unplaced (R.Xml p n) = R.Xml 0 n
-unplaced (R.TypedObject p n) = R.TypedObject 0 n
-unplaced (R.Key p n) = R.Key 0 n
-unplaced (R.Packet h m) = R.Packet h m
-unplaced (R.Header p n f) = R.Header 0 n f
-unplaced (R.Message p n q m) = R.Message 0 n 0 m
-unplaced (R.Lso l p n) = R.Lso l 0 n
 
 -- two images, over two texts, that are alike, record by record, but for the places of texts
 pub record Alike (s b i j : List ℕ) : Type 0 where

@@ -1,10 +1,13 @@
 // Reading one value: its marker, its own fields, its record, and what follows them.
+use crate::type_marker::Marked;
 use crate::type_marker::TypeMarker;
 use crate::type_marker::type_marker;
 use image::reading::Reading;
 use image::reading::Step;
 use image::reading::finish;
 use image::reading::put;
+use image::reading::put_end;
+use image::reading::put_key;
 use image::record::Record;
 use wire::answer::NOT_RIGHT;
 use wire::answer::NOT_WHOLE;
@@ -25,14 +28,9 @@ ghost use Rattle.wire.specs.Field.{u8At, to};
 ghost use Rattle.wire.specs.declared.cursor.U8.the-variants.{Got};
 ghost use Rattle.image.specs.Due.{run, ran, based, Within};
 ghost use Rattle.image.specs.Whole.{padded};
-ghost use Rattle.amf0.specs.Fields.{fieldsAt, basedFields, shut as shutOf};
+ghost use Rattle.amf0.specs.Fields.{fieldsAt, basedFields};
 ghost use Rattle.amf0.specs.Reading.{value, pairs, items, valueIn, readOf};
 ghost use Rattle.amf0.specs.Code.{FieldsWithin};
-
-// How a part of an input is read: `base` is the place at which the part begins in the whole. Every reader hands it on.
-pub struct Setting {
-    pub base: usize,
-}
 
 // What follows a value's own fields.
 pub enum Follow {
@@ -47,13 +45,12 @@ pub enum Fields {
     Stop(u8, usize),
 }
 
-// The fields behind a marker at `at`.
-fn parse_fields(s: &[u8], how: Setting, at: usize, c: Cursor, k: TypeMarker) -> Fields
-    requires { ⌜ (how .base + length (now s) ≤ bytes) × (at < length (now s)) × (c .at ≡ at + 1) ⌝ }
-    ensures { λ r. ⌜ r ≡ basedFields (how .base) (fieldsAt (now (s .entry)) at (c .at) k) ⌝ }
+// The fields from a cursor on, behind the marker of a value. The input is a part that begins at the place `base` of a whole: every reader hands that on.
+fn parse_fields(s: &[u8], base: usize, c: Cursor, k: TypeMarker) -> Fields
+    requires { ⌜ (base + length (now s) ≤ bytes) × (c .at ≤ length (now s)) ⌝ }
+    ensures { λ r. ⌜ r ≡ basedFields base (fieldsAt (now (s .entry)) (c .at) k) ⌝ }
     ensures { λ r. ⌜ FieldsWithin r (c .at) (length (now (s .entry))) ⌝ }
 {
-    let base = how.base;
     match k {
         TypeMarker::Number => match c.be_u64(s) {
             U64::Got(n, d) => Fields::Got(Record::Number(n), Follow::Nothing, d),
@@ -68,7 +65,6 @@ fn parse_fields(s: &[u8], how: Setting, at: usize, c: Cursor, k: TypeMarker) -> 
             Text::Stop(a, p) => Fields::Stop(a, base + p),
         },
         TypeMarker::Object => Fields::Got(Record::Object, Follow::Pairs, c),
-        TypeMarker::MovieClip => Fields::Stop(NOT_RIGHT, base + at),
         TypeMarker::Null => Fields::Got(Record::Null, Follow::Nothing, c),
         TypeMarker::Undefined => Fields::Got(Record::Undefined, Follow::Nothing, c),
         TypeMarker::Reference => match c.be_u16(s) {
@@ -79,7 +75,6 @@ fn parse_fields(s: &[u8], how: Setting, at: usize, c: Cursor, k: TypeMarker) -> 
             U32::Got(n, d) => Fields::Got(Record::EcmaArray(n), Follow::Pairs, d),
             U32::Stop(a, p) => Fields::Stop(a, base + p),
         },
-        TypeMarker::ObjectEnd => Fields::Stop(NOT_RIGHT, base + at),
         TypeMarker::StrictArray => match c.be_u32(s) {
             U32::Got(n, d) => {
                 // Each value takes a byte, so a count above the bytes left can't be met.
@@ -103,7 +98,6 @@ fn parse_fields(s: &[u8], how: Setting, at: usize, c: Cursor, k: TypeMarker) -> 
             Text::Stop(a, p) => Fields::Stop(a, base + p),
         },
         TypeMarker::Unsupported => Fields::Got(Record::Unsupported, Follow::Nothing, c),
-        TypeMarker::RecordSet => Fields::Stop(NOT_RIGHT, base + at),
         TypeMarker::Xml => match c.parse_long_string(s) {
             Text::Got(p, n, d) => Fields::Got(Record::Xml(base + p, n), Follow::Nothing, d),
             Text::Stop(a, p) => Fields::Stop(a, base + p),
@@ -116,58 +110,49 @@ fn parse_fields(s: &[u8], how: Setting, at: usize, c: Cursor, k: TypeMarker) -> 
     }
 }
 
-// Why a value is refused where no level is left.
-fn shut(m: u8) -> u8
-    ensures { λ r. ⌜ r ≡ shutOf m ⌝ }
-{
-    match m {
-        0x04 => NOT_RIGHT,
-        0x09 => NOT_RIGHT,
-        0x0E => NOT_RIGHT,
-        _ => TOO_DEEP,
-    }
-}
-
 // The value at a cursor, whose marker m was read there.
 fn value(
     image: &mut [u8],
     s: &[u8],
-    how: Setting,
+    base: usize,
     c: Cursor,
     m: u8,
     made: usize,
     left: usize,
 ) -> Step
-    requires { ⌜ (how .base + length (now s) ≤ bytes) × (u8At (now s) (c .at) ≡ Got m (to (c .at + 1))) ⌝ }
-    ensures { λ r. ⌜ ran r (now (image .exit)) ≡ run (based (how .base) (value left (now (s .entry)) (c .at))) made (now (image .entry)) ⌝ }
+    requires { ⌜ (base + length (now s) ≤ bytes) × (u8At (now s) (c .at) ≡ Got m (to (c .at + 1))) ⌝ }
+    ensures { λ r. ⌜ ran r (now (image .exit)) ≡ run (based base (value left (now (s .entry)) (c .at))) made (now (image .entry)) ⌝ }
     ensures { λ r. ⌜ Within r (c .at + 1) (length (now (s .entry))) (length (now (image .entry))) ⌝ }
 {
     let at = c.at;
-    let place = how.base + at;
-    if left == 0 {
-        return Step::Stop(shut(m), place);
-    }
-    let k = type_marker(m);
-    match parse_fields(s, how, at, Cursor { at: at + 1 }, k) {
-        Fields::Stop(a, p) => Step::Stop(a, p),
-        Fields::Got(r, f, d) => match put(image, made, r, place, d) {
-            Step::Stop(a, p) => Step::Stop(a, p),
-            Step::Next(e, laid) => match f {
-                Follow::Nothing => Step::Next(e, laid),
-                Follow::Pairs => pairs(image, s, how, e, laid, left - 1),
-                Follow::Values(n) => items(image, s, how, e, laid, left - 1, n),
-            },
-        },
+    let place = base + at;
+    match type_marker(m) {
+        Marked::Refused => Step::Stop(NOT_RIGHT, place),
+        Marked::Value(k) => {
+            if left == 0 {
+                return Step::Stop(TOO_DEEP, place);
+            }
+            match parse_fields(s, base, Cursor { at: at + 1 }, k) {
+                Fields::Stop(a, p) => Step::Stop(a, p),
+                Fields::Got(r, f, d) => match put(image, made, r, place, d) {
+                    Step::Stop(a, p) => Step::Stop(a, p),
+                    Step::Next(e, laid) => match f {
+                        Follow::Nothing => Step::Next(e, laid),
+                        Follow::Pairs => pairs(image, s, base, e, laid, left - 1),
+                        Follow::Values(n) => items(image, s, base, e, laid, left - 1, n),
+                    },
+                },
+            }
+        }
     }
 }
 
 // Pairs up to the end marker. A key is read once, and the marker behind it is handed on.
-fn pairs(image: &mut [u8], s: &[u8], how: Setting, start: Cursor, done: usize, left: usize) -> Step
-    requires { ⌜ (how .base + length (now s) ≤ bytes) × (start .at ≤ length (now s)) × (done ≤ length (now image)) ⌝ }
-    ensures { λ r. ⌜ ran r (now (image .exit)) ≡ run (based (how .base) (pairs (value left (now (s .entry))) (now (s .entry)) (length (now (s .entry))) (start .at))) done (now (image .entry)) ⌝ }
+fn pairs(image: &mut [u8], s: &[u8], base: usize, start: Cursor, done: usize, left: usize) -> Step
+    requires { ⌜ (base + length (now s) ≤ bytes) × (start .at ≤ length (now s)) × (done ≤ length (now image)) ⌝ }
+    ensures { λ r. ⌜ ran r (now (image .exit)) ≡ run (based base (pairs (value left (now (s .entry))) (now (s .entry)) (length (now (s .entry))) (start .at))) done (now (image .entry)) ⌝ }
     ensures { λ r. ⌜ Within r (start .at) (length (now (s .entry))) (length (now (image .entry))) ⌝ }
 {
-    let base = how.base;
     let mut c = start;
     let mut made = done;
     loop {
@@ -181,13 +166,13 @@ fn pairs(image: &mut [u8], s: &[u8], how: Setting, start: Cursor, done: usize, l
                 }
                 U8::Got(m, e) => {
                     if m == 0x09 {
-                        return put(image, made, Record::ObjectEnd, base + q.at, e);
+                        return put_end(image, made, base + q.at, e);
                     }
-                    match put(image, made, Record::Key(base + p, n), base + c.at, q) {
+                    match put_key(image, made, base + p, n, base + c.at, q) {
                         Step::Stop(a, w) => {
                             return Step::Stop(a, w);
                         }
-                        Step::Next(v, laid) => match value(image, s, how, v, m, laid, left) {
+                        Step::Next(v, laid) => match value(image, s, base, v, m, laid, left) {
                             Step::Stop(a, w) => {
                                 return Step::Stop(a, w);
                             }
@@ -207,17 +192,16 @@ fn pairs(image: &mut [u8], s: &[u8], how: Setting, start: Cursor, done: usize, l
 fn items(
     image: &mut [u8],
     s: &[u8],
-    how: Setting,
+    base: usize,
     start: Cursor,
     done: usize,
     left: usize,
     n: u32,
 ) -> Step
-    requires { ⌜ (how .base + length (now s) ≤ bytes) × (start .at ≤ length (now s)) × (done ≤ length (now image)) ⌝ }
-    ensures { λ r. ⌜ ran r (now (image .exit)) ≡ run (based (how .base) (items (value left (now (s .entry))) n (start .at))) done (now (image .entry)) ⌝ }
+    requires { ⌜ (base + length (now s) ≤ bytes) × (start .at ≤ length (now s)) × (done ≤ length (now image)) ⌝ }
+    ensures { λ r. ⌜ ran r (now (image .exit)) ≡ run (based base (items (value left (now (s .entry))) n (start .at))) done (now (image .entry)) ⌝ }
     ensures { λ r. ⌜ Within r (start .at) (length (now (s .entry))) (length (now (image .entry))) ⌝ }
 {
-    let base = how.base;
     let mut c = start;
     let mut made = done;
     let mut k = n;
@@ -226,7 +210,7 @@ fn items(
             U8::Stop(a, p) => {
                 return Step::Stop(a, base + p);
             }
-            U8::Got(m, _) => match value(image, s, how, c, m, made, left) {
+            U8::Got(m, _) => match value(image, s, base, c, m, made, left) {
                 Step::Stop(a, p) => {
                     return Step::Stop(a, p);
                 }
@@ -242,11 +226,10 @@ fn items(
 }
 
 // The value at a cursor of a part of an input, laid behind what is made of the image: for the layers above.
-pub fn parse_value(image: &mut [u8], input: &[u8], how: Setting, c: Cursor, made: usize) -> Step
-    ensures { λ r. ⌜ ran r (now (image .exit)) ≡ run (valueIn (how .base) (now (input .entry)) (c .at)) made (now (image .entry)) ⌝ }
+pub fn parse_value(image: &mut [u8], input: &[u8], base: usize, c: Cursor, made: usize) -> Step
+    ensures { λ r. ⌜ ran r (now (image .exit)) ≡ run (valueIn base (now (input .entry)) (c .at)) made (now (image .entry)) ⌝ }
     ensures { λ r. ⌜ Within r (c .at + 1) (length (now (input .entry))) (length (now (image .entry))) ⌝ }
 {
-    let base = how.base;
     let at = c.at;
     if limit::BYTES < input.len() {
         return Step::Stop(OVER_LIMIT, 0);
@@ -259,7 +242,7 @@ pub fn parse_value(image: &mut [u8], input: &[u8], how: Setting, c: Cursor, made
     }
     match c.be_u8(input) {
         U8::Stop(a, p) => Step::Stop(a, base + p),
-        U8::Got(m, _) => value(image, input, how, c, m, made, limit::LEVELS),
+        U8::Got(m, _) => value(image, input, base, c, m, made, limit::LEVELS),
     }
 }
 
@@ -268,6 +251,6 @@ pub fn parse_single_element(input: &[u8], image: &mut [u8]) -> Reading
     ensures { λ r. ⌜ r ≡ readOf (now (input .entry)) (length (now (image .entry))) .reading ⌝ }
     ensures { λ r. ⌜ now (image .exit) ≡ padded (readOf (now (input .entry)) (length (now (image .entry))) .bytes) (length (now (image .entry))) ⌝ }
 {
-    let step = parse_value(image, input, Setting { base: 0 }, Cursor { at: 0 }, 0);
+    let step = parse_value(image, input, 0, Cursor { at: 0 }, 0);
     finish(image, step)
 }

@@ -1,12 +1,16 @@
 // Writing one value: the records of its image, left to right, each as the bytes of its own fields.
+use image::kind;
 use image::reading::Step;
+use image::record::bit;
 use image::taking::Flag;
 use image::taking::flag_at;
 use image::taking::long_at;
 use image::taking::short_at;
+use image::taking::zone_fits;
 use image::writing::Writing;
 use image::writing::emit_numbers;
 use image::writing::emit_text;
+use image::writing::refused;
 use wire::answer::ACCEPTED;
 use wire::answer::NO_ROOM;
 use wire::answer::NO_TREE;
@@ -32,12 +36,12 @@ ghost use Rattle.wire.specs.Limit.{bytes as most-bytes, «image» as most-image
 ghost use Rattle.image.specs.declared.record.Record.{Record};
 ghost use Rattle.image.specs.declared.record.Record.the-variants.{ObjectEnd};
 ghost use Rattle.image.specs.declared.taking.Taken.the-variants.{Found};
-ghost use Rattle.image.specs.Record.{none as noField, bitOf};
+ghost use Rattle.image.specs.Record.{none as noField};
 ghost use Rattle.image.specs.Taking.{bodyAt, recordAt};
 ghost use Rattle.image.specs.Out.{most, pour, poured, onto};
 ghost use Rattle.amf0.specs.Shape.{Value};
 ghost use Rattle.amf0.specs.Writing.{shapeOf, plain as plainOf, among, kinds, valueAt, value, rest as restOf, valueIn, writeOf};
-ghost use Rattle.amf0.specs.Code.{Ahead, longest, room, thenOf, zoneFits, Owned, Paired, dueAt, owed};
+ghost use Rattle.amf0.specs.Code.{Ahead, longest, room, thenOf, Owned, Paired, dueAt, owed};
 
 // The most bytes of a string whose length has two bytes.
 const SHORT: usize = 0xFFFF;
@@ -52,30 +56,24 @@ pub enum Rest {
     Values(u32),
 }
 
-fn bit(b: bool) -> u64
-    ensures { λ r. ⌜ r ≡ bitOf b ⌝ }
-{
-    if b { 1 } else { 0 }
-}
-
 // Whether a kind is that of a value.
 fn is_value(kind: u8) -> bool
     ensures { λ r. ⌜ r ≡ among kinds kind ⌝ }
 {
     match kind {
-        0x00 => true,
-        0x01 => true,
-        0x02 => true,
-        0x03 => true,
-        0x05 => true,
-        0x06 => true,
-        0x07 => true,
-        0x08 => true,
-        0x0A => true,
-        0x0B => true,
-        0x0D => true,
-        0x0F => true,
-        0x10 => true,
+        kind::NUMBER => true,
+        kind::BOOLEAN => true,
+        kind::TEXT => true,
+        kind::OBJECT => true,
+        kind::NULL => true,
+        kind::UNDEFINED => true,
+        kind::REFERENCE => true,
+        kind::ECMA_ARRAY => true,
+        kind::STRICT_ARRAY => true,
+        kind::DATE => true,
+        kind::UNSUPPORTED => true,
+        kind::XML => true,
+        kind::TYPED_OBJECT => true,
         _ => false,
     }
 }
@@ -204,16 +202,6 @@ fn strict_array(out: &mut [u8], image: &[u8], c: Cursor, at: usize, count: usize
     }
 }
 
-// A zone that is absent is 0.
-fn zone_fits(present: bool, zone: u16) -> bool
-    ensures { λ r. ⌜ r ≡ zoneFits present zone ⌝ }
-{
-    if present {
-        return true;
-    }
-    zone == 0
-}
-
 fn date(out: &mut [u8], image: &[u8], c: Cursor, at: usize, count: usize) -> Begun
     requires { ⌜ count ≤ most ⌝ }
     ensures { λ r. ⌜ ((text : List ℕ) → Owned r (now (out .exit)) (bodyAt 0x0B (now (image .entry)) (c .at)) text at count (now (out .entry))) ⌝ }
@@ -288,19 +276,19 @@ fn own(out: &mut [u8], image: &[u8], text: &[u8], c: Cursor, count: usize) -> Be
     match c.be_u8(image) {
         U8::Stop(_, _) => Begun::Stop(NO_TREE, at),
         U8::Got(kind, d) => match kind {
-            0x00 => number(out, image, d, at, count),
-            0x01 => boolean(out, image, d, at, count),
-            0x02 => string(out, image, text, d, at, count),
-            0x03 => bare(out, count, 0x03, d, Rest::Pairs),
-            0x05 => bare(out, count, 0x05, d, Rest::Nothing),
-            0x06 => bare(out, count, 0x06, d, Rest::Nothing),
-            0x07 => reference(out, image, d, at, count),
-            0x08 => ecma_array(out, image, d, at, count),
-            0x0A => strict_array(out, image, d, at, count),
-            0x0B => date(out, image, d, at, count),
-            0x0D => bare(out, count, 0x0D, d, Rest::Nothing),
-            0x0F => xml(out, image, text, d, at, count),
-            0x10 => typed_object(out, image, text, d, at, count),
+            kind::NUMBER => number(out, image, d, at, count),
+            kind::BOOLEAN => boolean(out, image, d, at, count),
+            kind::TEXT => string(out, image, text, d, at, count),
+            kind::OBJECT => bare(out, count, 0x03, d, Rest::Pairs),
+            kind::NULL => bare(out, count, 0x05, d, Rest::Nothing),
+            kind::UNDEFINED => bare(out, count, 0x06, d, Rest::Nothing),
+            kind::REFERENCE => reference(out, image, d, at, count),
+            kind::ECMA_ARRAY => ecma_array(out, image, d, at, count),
+            kind::STRICT_ARRAY => strict_array(out, image, d, at, count),
+            kind::DATE => date(out, image, d, at, count),
+            kind::UNSUPPORTED => bare(out, count, 0x0D, d, Rest::Nothing),
+            kind::XML => xml(out, image, text, d, at, count),
+            kind::TYPED_OBJECT => typed_object(out, image, text, d, at, count),
             _ => Begun::Stop(NO_TREE, at),
         },
     }
@@ -344,10 +332,10 @@ fn pair(out: &mut [u8], image: &[u8], text: &[u8], c: Cursor, count: usize) -> B
     match c.be_u8(image) {
         U8::Stop(_, _) => Before::Stop(NO_TREE, at),
         U8::Got(kind, d) => {
-            if kind == 0x20 {
+            if kind == kind::KEY {
                 return key(out, image, text, d, at, count);
             }
-            if kind == 0x09 {
+            if kind == kind::OBJECT_END {
                 return end(out, count, d);
             }
             Before::Stop(NO_TREE, at)
@@ -475,15 +463,6 @@ pub fn pour_value(out: &mut [u8], image: &[u8], text: &[u8], c: Cursor, count: u
         return Step::Stop(OVER_LIMIT, 0);
     }
     values(out, image, text, c, count, limit::LEVELS, Rest::Values(1))
-}
-
-fn refused(a: u8) -> Writing
-    ensures { λ r. ⌜ r ≡ record { answer = a; count = 0 } ⌝ }
-{
-    Writing {
-        answer: a,
-        count: 0,
-    }
 }
 
 // Writes the value of an image, whose texts stand in `text`: measured first, and then put out.

@@ -15,11 +15,11 @@ use Rattle.image.specs.Due.{Due, end, stop, due, _>>=_}
 use Rattle.amf0.specs.declared.read.Follow.{Follow}
 use Rattle.amf0.specs.declared.read.Fields.the-variants.{Got, Stop}
 use Rattle.amf0.specs.Marker.{markerOf}
-use Rattle.amf0.specs.Fields.{fieldsAt, gives, gotFields}
+use Rattle.amf0.specs.Fields.{gives, gotFields, behind}
 use Rattle.amf0.specs.Reading.{items, pair, pairs, follow, value}
-use Rattle.amf0.specs.Standard.{Item, Sort, many, Tree, depth, follows, Encodes}
+use Rattle.amf0.specs.Standard.{Sort, many, Content, content, sortOf, Tree, depth, Encodes}
 use Rattle.amf0.specs.Standard.UTF-8.{short}
-use Rattle.amf0.proofs.Rows.{itemAt, mark, next, Begins, row-begins, item-at}
+use Rattle.amf0.proofs.Rows.{itemAt, mark, nextOf, Begins, row-begins, item-at}
 
 -- the records of a row of bytes that stands at a place, each with the place that a refusal for room would name
 unfoldable pub marks : {k : Sort} {t : Tree k} {x : List ℕ} → Encodes k t x → ℕ → List (Record × ℕ)
@@ -53,21 +53,12 @@ part value s fuel Sort.value at = value at
 part value s fuel Sort.properties at = pairs value s fuel at
 part value s fuel (Sort.values n) at = items value n at
 
-pub follow-next : (v : ℕ → Due) (s : List ℕ) (i : Item) (q : ℕ) → follow v s (next i) q ≡ part v s (length s) (follows i) q
+pub follow-next : (v : ℕ → Due) (s : List ℕ) (c : Content) (q : ℕ) → follow v s (nextOf c) q ≡ part v s (length s) (sortOf c) q
 unfolding follow items
-follow-next v s (Item.number n) q = refl
-follow-next v s (Item.boolean b) q = refl
-follow-next v s (Item.string t) q = refl
-follow-next v s Item.object q = refl
-follow-next v s Item.null q = refl
-follow-next v s Item.undefined q = refl
-follow-next v s (Item.reference n) q = refl
-follow-next v s (Item.ecma-array n) q = refl
-follow-next v s (Item.strict-array n) q = refl
-follow-next v s (Item.date n z) q = refl
-follow-next v s Item.unsupported q = refl
-follow-next v s (Item.xml-document t) q = refl
-follow-next v s (Item.typed-object t) q = refl
+follow-next v s Content.nothing q = refl
+follow-next v s Content.named q = refl
+follow-next v s Content.associative q = refl
+follow-next v s (Content.ordered n) q = refl
 
 pub value-item : (left : ℕ) (s : List ℕ) (at : ℕ)
     → value (suc left) s at ≡ gotFields stop (itemAt s at) λ r f q. due r at (follow (value left s) s f q)
@@ -75,8 +66,8 @@ unfolding value itemAt
 value-item left s at = go (u8At s at)
   where
     go : (u : U8)
-        → got8 stop u (λ m p. gotFields stop (fieldsAt s at p (markerOf m)) λ r f q. due r at (follow (value left s) s f q))
-        ≡ gotFields stop (got8 Stop u λ m p. fieldsAt s at p (markerOf m)) λ r f q. due r at (follow (value left s) s f q)
+        → got8 stop u (λ m p. gotFields stop (behind s at p (markerOf m)) λ r f q. due r at (follow (value left s) s f q))
+        ≡ gotFields stop (got8 Stop u λ m p. behind s at p (markerOf m)) λ r f q. due r at (follow (value left s) s f q)
     go (U8.Got m c) = refl
     go (U8.Stop a p) = refl
 
@@ -131,7 +122,7 @@ complete (Encodes.node {i} {x} {y} row e) s r at n left fuel h l d f =
     let lx = length-append x y in
     value-at s at left (item-at s (y ++ r) at q row (cut x y h) refl (omega (arith, held e, inside h (omega (arith, ap length (b .same)))))) (omega arith)
     ∙ ap (due (mark row at) at)
-    (follow-next (value (pred left) s) s i q ∙ complete e s r q n (pred left) (length s) z (omega arith) (omega arith) (within z))
+    (follow-next (value (pred left) s) s (content i) q ∙ complete e s r q n (pred left) (length s) z (omega arith) (omega arith) (within z))
 complete Encodes.end s r at n left fuel h l d f = closes (value left s) [] s r at n fuel (lit< tt) refl h (omega arith) (omega arith)
 complete (Encodes.departure-named-end (short k h u) o) s r at n left fuel g l d f =
     closes (value left s) k s r at n fuel h u g (omega (arith, length-append k (9 ∷ []))) (omega arith)

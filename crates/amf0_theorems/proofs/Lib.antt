@@ -1,6 +1,7 @@
 -- `Theorems` has what is proved of the reading, `Refusals` what is proved of readings that are refused, `WriteTheorems` what is proved of the writing and of the
--- round trip, and `Room` the round trip in every room. The files below each are what it is proved by.
+-- round trip, `Room` the round trip in every room, and `Spans` and `SpanTrip` what is proved of spans, whatever holds them. The files below each are what it is proved by.
 pub mod Theorems
+pub mod Marked
 pub mod Complete
 pub mod Sound
 pub mod Telling
@@ -26,3 +27,6 @@ pub mod WriteReasons
 pub mod Room
 pub mod More
 pub mod Settled
+pub mod Spans
+pub mod SpanTrip
+pub mod Call

@@ -11,10 +11,10 @@ use Rattle.image.specs.Taking.{recordAt, Fits}
 use Rattle.image.specs.Out.{Out, end, stop, put, _>>=_, row}
 use Rattle.image.proofs.Laws.{size-bytes, size-some}
 use Rattle.image.proofs.Found.{found-here}
-use Rattle.amf0.specs.Standard.{Item, Sort, Tree, depth, follows}
+use Rattle.amf0.specs.Standard.{Item, Sort, Content, content, sortOf, Tree, depth, follows}
 use Rattle.amf0.specs.Shown.{Word, look, laid, Right}
 use Rattle.amf0.specs.Writing.{kinds, among, valueAt, items, pairs, dense, rest, value}
-use Rattle.amf0.specs.Written.{write, writeItem, Lead, lead, Spells}
+use Rattle.amf0.specs.Written.{write, writeItem, Lead, leadOf, lead, Spells}
 use Rattle.amf0.specs.Written.Lead.{keyed, keyless}
 use Rattle.amf0_theorems.proofs.Complete.{within}
 use Rattle.amf0_theorems.proofs.Says.{restOf, says, Itemed, Keyed, Closed}
@@ -78,21 +78,12 @@ module _ (s image : List ℕ) where
   part v fuel (keyless k) Sort.properties at = dense v image s (suc fuel) k at
   part v fuel (keyless k) (Sort.values n) at = items v image s n at
 
-  pub rest-part : (v : ℕ → Out) (i : Item) (q : ℕ) → rest v image s (restOf i) q ≡ part v (length image) (lead i) (follows i) q
+  pub rest-part : (v : ℕ → Out) (c : Content) (q : ℕ) → rest v image s (restOf c) q ≡ part v (length image) (leadOf c) (sortOf c) q
   unfolding rest items
-  rest-part v (Item.number n) q = refl
-  rest-part v (Item.boolean b) q = refl
-  rest-part v (Item.string t) q = refl
-  rest-part v Item.object q = refl
-  rest-part v Item.null q = refl
-  rest-part v Item.undefined q = refl
-  rest-part v (Item.reference n) q = refl
-  rest-part v (Item.ecma-array n) q = refl
-  rest-part v (Item.strict-array n) q = refl
-  rest-part v (Item.date n z) q = refl
-  rest-part v Item.unsupported q = refl
-  rest-part v (Item.xml-document t) q = refl
-  rest-part v (Item.typed-object t) q = refl
+  rest-part v Content.nothing q = refl
+  rest-part v Content.named q = refl
+  rest-part v Content.associative q = refl
+  rest-part v (Content.ordered n) q = refl
 
   module _ {at : ℕ} (r : Record) (rs : List Record) (z : List ℕ) (h : Here image at (laid (r ∷ rs)) z) where
     pub first : Fits r → recordAt image at ≡ Found r (to (at + size r))
@@ -105,54 +96,51 @@ module _ (s image : List ℕ) where
     unfolding valueAt bytesOf
     kind-at = rw (byte-at (layoutOf r .kind) (cut (layoutOf r .kind ∷ []) _ h))
 
-    value-first : (left : ℕ) (i : Item) → look s r ≡ Word.item i → Right s (r ∷ rs) → {D : Type 0} {x : List ℕ} {n : ℕ}
-        → Puts D (part (value left image s) (length image) (lead i) (follows i) (at + size r)) x n → Puts D (value (suc left) image s at) (writeItem i ++ x) n
+    -- what it says, and the writing from there on
+    itemed : {i : Item} → look s r ≡ Word.item i → Right s (r ∷ rs) → Itemed s r i
+    itemed e g = rw e at (says s r (g .0) (g .1))
+
+    keyed-by : {k : List ℕ} → look s r ≡ Word.name k → Right s (r ∷ rs) → Keyed s r k
+    keyed-by e g = rw e at (says s r (g .0) (g .1))
+
+    closed : look s r ≡ Word.close → Right s (r ∷ rs) → Closed s r
+    closed e g = rw e at (says s r (g .0) (g .1))
+
+    pub value-first : (left : ℕ) (i : Item) → look s r ≡ Word.item i → Right s (r ∷ rs)
+        → value (suc left) image s at ≡ put (writeItem i) (part (value left image s) (length image) (lead i) (follows i) (at + size r))
     unfolding value row
-    value-first left i e g {D} {x} {n} p =
-        let w : Itemed s r i = rw e at (says s r (g .0) (g .1)) in
-        let q : Puts D (rest (value left image s) image s (restOf i) (at + size r)) x n = rw (rest-part (value left image s) i (at + size r)) p in
-        rw (first (g .0), w .shape, w .named, w .puts) (Puts.more q)
+    value-first left i e g =
+        let w = itemed e g in
+        rw (first (g .0), w .shape, w .named, w .puts, rest-part (value left image s) (content i) (at + size r))
 
-    pair-first : (v : ℕ → Out) (fuel : ℕ) (k : List ℕ) → look s r ≡ Word.name k → Right s (r ∷ rs) → {D : Type 0} {x : List ℕ} {n : ℕ}
-        → Puts D (v (at + size r) >>= pairs v image s fuel) x n → Puts D (pairs v image s (suc fuel) at) ((digits 2 (length k) ++ k) ++ x) n
+    pub key-first : (v : ℕ → Out) (fuel : ℕ) (k : List ℕ) → look s r ≡ Word.name k → Right s (r ∷ rs)
+        → pairs v image s (suc fuel) at ≡ put (digits 2 (length k) ++ k) (v (at + size r) >>= pairs v image s fuel)
     unfolding pairs row
-    pair-first v fuel k e g p =
-        let w : Keyed s r k = rw e at (says s r (g .0) (g .1)) in
-        rw (first (g .0), w .shape, w .named, w .puts) (Puts.more p)
+    key-first v fuel k e g = let w = keyed-by e g in rw (first (g .0), w .shape, w .named, w .puts)
 
-    end-first : {D : Type 0} (v : ℕ → Out) (fuel : ℕ) → look s r ≡ Word.close → Right s (r ∷ rs)
-        → Puts D (pairs v image s (suc fuel) at) (0 ∷ 0 ∷ 9 ∷ []) (at + size r)
+    end-first : (v : ℕ → Out) (fuel : ℕ) → look s r ≡ Word.close → Right s (r ∷ rs) → pairs v image s (suc fuel) at ≡ put (0 ∷ 0 ∷ 9 ∷ []) (end (at + size r))
     unfolding pairs row
-    end-first v fuel e g =
-        let w : Closed s r = rw e at (says s r (g .0) (g .1)) in
-        rw (first (g .0), w .shape, w .named, w .puts) (Puts.more Puts.done)
+    end-first v fuel e g = let w = closed e g in rw (first (g .0), w .shape, w .named, w .puts)
+
+    -- whether it is a value's
+    pub item-kind : (i : Item) → look s r ≡ Word.item i → Right s (r ∷ rs) → valueAt image at ≡ true
+    item-kind i e g = kind-at ∙ itemed e g .kind
+
+    pub key-kind : (k : List ℕ) → look s r ≡ Word.name k → Right s (r ∷ rs) → valueAt image at ≡ false
+    key-kind k e g = kind-at ∙ keyed-by e g .kind
+
+    end-kind : look s r ≡ Word.close → Right s (r ∷ rs) → valueAt image at ≡ false
+    end-kind e g = kind-at ∙ closed e g .kind
 
   -- whether a value's record stands first
   pub value-begins : {v : Tree Sort.value} {rs : List Record} → Spells s keyed Sort.value v rs → Right s rs → (z : List ℕ) (at : ℕ) → Here image at (laid rs) z
       → valueAt image at ≡ true
-  value-begins (Spells.node {r} {i} {rs} e c) g z at h =
-      let w : Itemed s r i = rw e at (says s r (g .0) (g .1)) in
-      kind-at r rs z h ∙ w .kind
+  value-begins (Spells.node {r} {i} {rs} e c) g z at h = item-kind r rs z h i e g
 
   pub pairs-begin : {ps : Tree Sort.properties} {rs : List Record} → Spells s keyed Sort.properties ps rs → Right s rs → (z : List ℕ) (at : ℕ)
       → Here image at (laid rs) z → valueAt image at ≡ false
-  pairs-begin (Spells.none {r} e) g z at h =
-      let w : Closed s r = rw e at (says s r (g .0) (g .1)) in
-      kind-at r [] z h ∙ w .kind
-  pairs-begin (Spells.property {r} {k} {rs} {qs} e c d) g z at h =
-      let w : Keyed s r k = rw e at (says s r (g .0) (g .1)) in
-      kind-at r (rs ++ qs) z h ∙ w .kind
-
-  dense-value : (v : ℕ → Out) (fuel k at : ℕ) → valueAt image at ≡ true → {D : Type 0} {x : List ℕ} {n : ℕ} → Puts D (v at >>= dense v image s fuel (k + 1)) x n
-      → Puts D (dense v image s (suc fuel) k at) ((digits 2 (length (decimal k)) ++ decimal k) ++ x) n
-  unfolding dense
-  dense-value v fuel k at e {D} {x} {n} p =
-      rw (e, append-assoc (digits 2 (length (decimal k))) (decimal k) x) (Puts.more (Puts.more p))
-
-  dense-pairs : (v : ℕ → Out) (fuel k at : ℕ) → valueAt image at ≡ false → {D : Type 0} {x : List ℕ} {n : ℕ} → Puts D (pairs v image s (length image) at) x n
-      → Puts D (dense v image s (suc fuel) k at) x n
-  unfolding dense
-  dense-pairs v fuel k at e p = rw e p
+  pairs-begin (Spells.none {r} e) g z at h = end-kind r [] z h e g
+  pairs-begin (Spells.property {r} {k} {rs} {qs} e c d) g z at h = key-kind r (rs ++ qs) z h k e g
 
   value-shut : (at : ℕ) → valueAt image at ≡ true → {D : Type 0} {x : List ℕ} {n : ℕ} → D → Puts D (value zero image s at) x n
   unfolding value
@@ -161,17 +149,17 @@ module _ (s image : List ℕ) where
   pub puts : {D : Type 0} {l : Lead} {k : Sort} {t : Tree k} {rs : List Record} → Spells s l k t rs → Right s rs → (z : List ℕ) (at n left fuel : ℕ)
       → Here image at (laid rs) z → n ≡ at + length (laid rs) → (left < depth t → D) → length (laid rs) ≤ fuel
       → Puts D (part (value left image s) fuel l k at) (write t) n
-  unfolding items
+  unfolding items dense
   puts (Spells.node {r} {i} {t} {rs} e c) g z at n zero fuel h m d f =
       value-shut at (value-begins (Spells.node e c) g z at h) (d (omega arith))
   puts (Spells.node {r} {i} {t} {rs} e c) g z at n (suc left) fuel h m d f =
       let o = others r rs z h in
-      value-first r rs z h left i e g
-      (puts c (g .2) z (at + size r) n left (length image) o (omega (arith, laid-size r rs)) (λ i. d (omega arith)) (within o))
+      rw (value-first r rs z h left i e g)
+      (Puts.more (puts c (g .2) z (at + size r) n left (length image) o (omega (arith, laid-size r rs)) (λ i. d (omega arith)) (within o)))
   puts (Spells.none {r} e) g z at n left zero h m d f = absurd (omega (arith, size-some r, laid-size r []))
   puts (Spells.none {r} e) g z at n left (suc fuel) h m d f =
       let l : n ≡ at + size r = omega (arith, laid-size r []) in
-      rw l (end-first r [] z h (value left image s) fuel e g)
+      rw (l, end-first r [] z h (value left image s) fuel e g) (Puts.more Puts.done)
   puts (Spells.property {r} {k} {v} {ps} {rs} {qs} e a c) g z at n left zero h m d f =
       absurd (omega (arith, size-some r, laid-size r (rs ++ qs)))
   puts (Spells.property {r} {k} {v} {ps} {rs} {qs} e a c) g z at n left (suc fuel) h m d f =
@@ -180,10 +168,11 @@ module _ (s image : List ℕ) where
       let b = size-some r in
       let q : ℕ = at + size r in
       let j : Here image q (laid rs ++ laid qs) z = rw (laid-append rs qs) at (others r (rs ++ qs) z h) in
-      pair-first r (rs ++ qs) z h (value left image s) fuel k e g
+      rw (key-first r (rs ++ qs) z h (value left image s) fuel k e g)
+      (Puts.more
       (then (pairs (value left image s) image s fuel)
       (puts a (right-left s rs qs (g .2)) (laid qs ++ z) q (q + length (laid rs)) left fuel (cut (laid rs) (laid qs) j) refl (λ i. d (omega arith)) (omega arith))
-      (puts c (right-right s rs qs (g .2)) z (q + length (laid rs)) n left fuel (skip (laid rs) (laid qs) j) (omega arith) (λ i. d (omega arith)) (omega arith)))
+      (puts c (right-right s rs qs (g .2)) z (q + length (laid rs)) n left fuel (skip (laid rs) (laid qs) j) (omega arith) (λ i. d (omega arith)) (omega arith))))
   puts Spells.nil g z at n left fuel h m d f = let e : n ≡ at = omega arith in rw e Puts.done
   puts (Spells.cons {n = c} {v} {vs} {rs} {qs} a b) g z at n left fuel h m d f =
       let l = laid-length rs qs in
@@ -198,9 +187,11 @@ module _ (s image : List ℕ) where
       let o : Here image at (laid rs ++ laid qs) z = rw (laid-append rs qs) at h in
       let j = cut (laid rs) (laid qs) o in
       let ga = right-left s rs qs g in
-      dense-value (value left image s) (suc fuel) k at (value-begins a ga (laid qs ++ z) at j)
+      rw (value-begins a ga (laid qs ++ z) at j, append-assoc (digits 2 (length (decimal k))) (decimal k) (write v ++ write ps))
+      (Puts.more
+      (Puts.more
       (then (dense (value left image s) image s (suc fuel) (k + 1))
       (puts a ga (laid qs ++ z) at (at + length (laid rs)) left (length (laid rs)) j refl (λ i. d (omega arith)) (omega arith))
-      (puts b (right-right s rs qs g) z (at + length (laid rs)) n left fuel (skip (laid rs) (laid qs) o) (omega arith) (λ i. d (omega arith)) (omega (arith, one a))))
+      (puts b (right-right s rs qs g) z (at + length (laid rs)) n left fuel (skip (laid rs) (laid qs) o) (omega arith) (λ i. d (omega arith)) (omega (arith, one a))))))
   puts (Spells.pairs {n = k} c) g z at n left fuel h m d f =
-      dense-pairs (value left image s) fuel k at (pairs-begin c g z at h) (puts c g z at n left (length image) h m d (within h))
+      rw (pairs-begin c g z at h) (puts c g z at n left (length image) h m d (within h))

@@ -1,16 +1,16 @@
 -- The theorems on refused readings of values: which field refuses an input, and with what answer.
 use Rattle.wire.proofs.Kit.{ℕ, _+_, _≤_, _<_, _≡_, refl, sym, ap, _∙_, _≢_, _↔_, List, [], _∷_, _++_, append-nil, append-assoc, arith, length, length-append}
-use Rattle.wire.proofs.Kit.{leb, eqb, lit<, leb-true, leb-false, eqb-true, eqb-false}
+use Rattle.wire.proofs.Kit.{eqb, lit<, eqb-true, eqb-false}
 use Rattle.wire.specs.Number.{Bytes}
 use Rattle.wire.specs.Limit as limit
 use Rattle.wire.proofs.Laws.{picked}
 use Rattle.wire.proofs.Stands.{bytes-left}
-use Rattle.image.specs.Due.{Due, end, stop, due, Ends, Stops}
-use Rattle.image.specs.Whole.{Whole, accepted, refused, ended, settled}
+use Rattle.image.specs.Due.{Due, Stops}
+use Rattle.image.specs.Whole.{Whole, accepted, refused, ended}
 use Rattle.amf0.specs.Reading.{value, topValue, readOf}
 use Rattle.amf0.specs.Standard.{Item, Sort, Tree, depth, Row, Encodes}
-use Rattle.amf0.proofs.Outcome.{roomy}
 use Rattle.amf0_theorems.specs.Refusal.{Field, Bars, Refuses, Leads, RefusedValue, records, Comes}
+use Rattle.amf0_theorems.proofs.Call.{call-roomy, call-either}
 use Rattle.amf0_theorems.proofs.Refused.{either, told-stops, ended-either, ended-stop, left-over, refuse, still-refused}
 use Rattle.amf0_theorems.proofs.Bytes.{encoding}
 use Rattle.amf0_theorems.proofs.Telling.{reads}
@@ -20,24 +20,13 @@ use Rattle.amf0_theorems.proofs.Theorems.{unique, room-exact}
 use Rattle.amf0_theorems.proofs.Stopped.{value-told}
 use Rattle.amf0_theorems.proofs.Refusing.{refused-stops}
 use Rattle.amf0_theorems.proofs.Leading.{deep-refused, longer}
+use Rattle.image.proofs.Settle.{one-stop, ends-not}
 
 -- ---- how a reading ends
 
--- no reading both ends and is refused
-not-both : (d : Due) (n a p : ℕ) → Ends d n → Stops d a p → ⊥
-not-both (end m) n a p e h = h
-not-both (stop b q) n a p e h = e
-not-both (due r q d) n a p e h = not-both d n a p e h
-
--- one that is refused is so with one answer, at one place
-one-stop : (d : Due) (a p b q : ℕ) → Stops d a p → Stops d b q → (a ≡ b) × (p ≡ q)
-one-stop (end n) a p b q g h = absurd g
-one-stop (stop c m) a p b q g h = (g .0 ∙ sym (h .0), g .1 ∙ sym (h .1))
-one-stop (due r m d) a p b q g h = one-stop d a p b q g h
-
 -- a call that is refused neither for the limit nor for room
 called : (s : List ℕ) (room : ℕ) → length s ≤ limit.bytes → readOf s room .reading .answer ≢ 4 → readOf s room ≡ ended (topValue s 0) (records s)
-called s room h ne = either (length (records s)) room (λ i. roomy s room h i) (λ i. absurd (ne (room-exact s room h .1 i)))
+called s room h ne = either (length (records s)) room (call-roomy s (topValue s 0) room h) (λ i. absurd (ne (room-exact s room h .1 i)))
 
 -- ---- the theorems
 
@@ -47,7 +36,7 @@ value-refused left s at a p bs l = (told-stops (RefusedValue left s at) (value l
 
 -- So at most one field refuses an input, with one answer.
 pub one-refusal : (left : ℕ) (s : List ℕ) (at a p b q : ℕ) → at ≤ length s → RefusedValue left s at a p → RefusedValue left s at b q → (a ≡ b) × (p ≡ q)
-one-refusal left s at a p b q l t u = one-stop (value left s at) a p b q (refused-stops left s at a p l t) (refused-stops left s at b q l u)
+one-refusal left s at a p b q l t u = one-stop (value left s at) (refused-stops left s at a p l t) (refused-stops left s at b q l u)
 
 -- Within the limit, a call that is not refused for room is refused as a field of the input refuses it.
 pub call-refused : (s : List ℕ) (room a p : ℕ) → length s ≤ limit.bytes → readOf s room .reading .answer ≢ 4 → RefusedValue limit.levels s 0 a p
@@ -74,15 +63,9 @@ refused-exactly s room a bs h i some = (
 
 -- A call is refused for the limit, for the room or by a field of the input, and else the input begins with a value.
 pub reasons : (s : List ℕ) (room : ℕ) → Bytes s → Comes s room (readOf s room)
-unfolding settled
 reasons s room bs =
-    let d : Due = topValue s 0 in
-    picked (Comes s room) (leb (length s) limit.bytes) _ _
-    (λ h. picked (Comes s room) (leb (length (records s)) room) _ _
-    (λ i. ended-either (Comes s room) d (records s) (λ n e. begins n (leb-true _ _ h) (leb-true _ _ i) (soundness.sound limit.levels s 0 n bs e))
-    (λ a p t. Comes.not-read (leb-true _ _ h) (leb-true _ _ i) (value-refused limit.levels s 0 a p bs (omega arith) .0 t)))
-    (λ i. Comes.no-room (leb-true _ _ h) (leb-false _ _ i)))
-    (λ h. Comes.over-limit (leb-false _ _ h))
+    call-either s (topValue s 0) room (Comes s room) Comes.over-limit Comes.no-room (λ h i n e. begins n h i (soundness.sound limit.levels s 0 n bs e))
+    (λ h i a p t. Comes.not-read h i (value-refused limit.levels s 0 a p bs (omega arith) .0 t))
   where
     begins : (n : ℕ) → length s ≤ limit.bytes → length (records s) ≤ room → Found Sort.value limit.levels s 0 n → Comes s room (accepted n (records s))
     begins n h i f =
@@ -92,7 +75,7 @@ reasons s room bs =
 -- An input that begins with a value within the levels has no field that refuses it.
 pub not-refused : (left : ℕ) (t : Tree Sort.value) (x r : List ℕ) (a p : ℕ) → Encodes Sort.value t x → depth t ≤ left → RefusedValue left (x ++ r) 0 a p → ⊥
 not-refused left t x r a p e d w =
-    not-both (value left (x ++ r) 0) (0 + length x) a p (reads left (x ++ r) r 0 e (record { same = refl }) d .ends)
+    ends-not (value left (x ++ r) 0) (0 + length x) a p (reads left (x ++ r) r 0 e (record { same = refl }) d .ends)
     (refused-stops left (x ++ r) 0 a p (omega arith) w)
 
 -- So a null alone is refused for no reason.

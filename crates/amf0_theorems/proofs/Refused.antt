@@ -1,6 +1,6 @@
 -- The laws of a refusal by a field, whatever fields lead to it.
 use Rattle.wire.proofs.Kit.{ℕ, _+_, _^_, _≤_, _<_, _≡_, refl, sym, ap, _∙_, _≢_, List, [], _∷_, _++_, append-assoc, true, arith, leb, length, take, drop}
-use Rattle.wire.proofs.Kit.{length-append, length-drop, take-append-le, drop-append-le, le-leb, lt-leb, leb-true, leb-false}
+use Rattle.wire.proofs.Kit.{length-append, length-drop, take-append-le, drop-append-le, le-leb, lt-leb, leb-true, leb-false, eqb, ne-eqb}
 use lib.Seq.{take-nil}
 use Rattle.wire.specs.Number.{digits, number, Bytes}
 use Rattle.wire.specs.Utf8.{utf8, ends}
@@ -11,10 +11,21 @@ use Rattle.wire.proofs.Stands.{Here, after, join, behind, inside, there, number
 use Rattle.image.specs.Due.{Due, end, stop, due, _>>=_, Ends, Stops}
 use Rattle.image.specs.Whole.{Whole, accepted, refused, ended}
 use Rattle.amf0_theorems.specs.Refusal.{Field, Refuses, InText, Refused}
+use Rattle.wire.specs.Choice.{pick}
+use Rattle.amf0.specs.Marker.{markerOf}
+use Rattle.amf0.specs.Fields.{shut}
+use Rattle.amf0.proofs.Rows.{_▸_, each-marker}
 
 -- a number is at most another, or not
 pub either : {P : Type 0} (a b : ℕ) → (a ≤ b → P) → (b < a → P) → P
 either {P} a b f g = picked {A = ℕ} (λ n. P) (leb a b) 0 0 (λ h. f (leb-true a b h)) (λ h. g (leb-false a b h))
+
+-- where no level is left, by a marker's number
+pub shut-number : (m : ℕ) → shut (markerOf m) ≡ pick (eqb m 4) 3 (pick (eqb m 9) 3 (pick (eqb m 14) 3 5))
+shut-number =
+    each-marker (λ m t. shut t ≡ pick (eqb m 4) 3 (pick (eqb m 9) 3 (pick (eqb m 14) 3 5)))
+    (refl ▸ refl ▸ refl ▸ refl ▸ refl ▸ refl ▸ refl ▸ refl ▸ refl ▸ refl ▸ refl ▸ refl ▸ refl ▸ refl ▸ refl ▸ refl ▸ refl ▸ refl ▸ tt)
+    λ m h. rw (ne-eqb m 4 (λ e. omega arith), ne-eqb m 9 (λ e. omega arith), ne-eqb m 14 (λ e. omega arith))
 
 -- ---- how a reading stops
 
@@ -62,12 +73,6 @@ pub stops-first : (d : Due) (k : ℕ → Due) (a p : ℕ) → Stops d a p → St
 stops-first (end n) k a p h = absurd h
 stops-first (stop b q) k a p h = h
 stops-first (due r q d) k a p h = stops-first d k a p h
-
--- or where the first ends and the second is refused
-pub stops-behind : (d : Due) (k : ℕ → Due) (n a p : ℕ) → Ends d n → Stops (k n) a p → Stops (d >>= k) a p
-stops-behind (end m) k n a p e h = rw (← e) h
-stops-behind (stop b q) k n a p e h = absurd e
-stops-behind (due r q d) k n a p e h = stops-behind d k n a p e h
 
 -- ---- the field that refuses an input
 

@@ -11,23 +11,24 @@ use Rattle.wire.proofs.Laws.{picked}
 use Rattle.wire.proofs.Stands.{Here, cut, skip, after, byte-at, u64-at, text-at, byte-stood, go8}
 use Rattle.image.specs.declared.record.Record.{Record}
 use Rattle.image.specs.Due.{Due, stop, Stops}
-use Rattle.amf0.specs.declared.type_marker.TypeMarker.{TypeMarker}
 use Rattle.amf0.specs.declared.read.Follow.{Follow}
 use Rattle.amf0.specs.declared.read.Follow.the-variants.{Nothing, Pairs}
 use Rattle.amf0.specs.declared.read.Fields.{Fields}
 use Rattle.amf0.specs.declared.read.Fields.the-variants.{Stop}
 use Rattle.amf0.specs.Marker.{markerOf}
-use Rattle.amf0.specs.Fields.{fieldsAt, gives, shut}
+use Rattle.amf0.specs.Fields.{fieldsAt, gives, shut, behind}
+use Rattle.image.proofs.Settle.{stops-behind}
 use Rattle.amf0.specs.Reading.{items, pair, pairs, value}
-use Rattle.amf0.specs.Standard.{Sort}
+use Rattle.amf0.specs.Standard.{Sort, content}
 use Rattle.amf0.specs.Standard.UTF-8.{short}
-use Rattle.amf0.proofs.Laws.{value-cut, value-shut}
+use Rattle.amf0.proofs.Laws.{value-cut}
 use Rattle.amf0.proofs.Rows.{itemAt, item-at}
 use Rattle.amf0_theorems.specs.Refusal.{Field, Bars, Refuses, InText, Own, Leads, RefusedValue}
 use Rattle.amf0_theorems.specs.Refusal.Bars.{movie-clip, object-end, record-set}
-use Rattle.amf0_theorems.proofs.Refused.{stops-first, stops-behind, left-over, text-stops}
+use Rattle.amf0_theorems.proofs.Refused.{stops-first, left-over, text-stops, shut-number}
 use Rattle.amf0_theorems.proofs.Complete.{part, follow-next, value-item, value-at, past, pairs-at, begun, within}
 use Rattle.amf0_theorems.proofs.Telling.{reads}
+use Rattle.amf0.specs.declared.type_marker.Marked.{Marked}
 
 -- a marker that is not there
 value-short : (left : ℕ) (s : List ℕ) (at : ℕ) → length s ≤ at → value left s at ≡ stop 2 at
@@ -45,25 +46,26 @@ value-bars (suc left) s at object-end e = rw e
 value-bars (suc left) s at record-set e = rw e
 
 -- where no level is left, a marker that marks a value is refused with 5
-shut-deep : (m : ℕ) → (Bars m → ⊥) → shut m ≡ 5
+shut-deep : (m : ℕ) → (Bars m → ⊥) → shut (markerOf m) ≡ 5
 shut-deep m no-bars =
-    rw (ne-eqb m 4 (λ e. no-bars (rw e movie-clip)), ne-eqb m 9 (λ e. no-bars (rw e object-end)), ne-eqb m 14 (λ e. no-bars (rw e record-set)))
+    rw (shut-number m, ne-eqb m 4 (λ e. no-bars (rw e movie-clip)), ne-eqb m 9 (λ e. no-bars (rw e object-end)), ne-eqb m 14 (λ e. no-bars (rw e record-set)))
 
 -- a marker that refuses the input
 marker-stops : {r : List ℕ} {left a : ℕ} (s : List ℕ) (at : ℕ) → Refuses (Field.marker left) r a → Here s at [] r → at ≤ length s → value left s at ≡ stop a at
+unfolding value
 marker-stops {left} s at (Refuses.short i) h l = value-short left s at (omega (arith, left-over h l))
 marker-stops {left} s at (Refuses.no-value {m} b) h l = value-bars left s at b (byte-at m (record { same = h .same }))
-marker-stops s at (Refuses.too-deep {m} d) h l = value-shut s at 0 m refl (byte-at m (record { same = h .same })) ∙ ap (λ a. stop a at) (shut-deep m d)
+marker-stops s at (Refuses.too-deep {m} d) h l = rw (byte-at m (record { same = h .same }), shut-deep m d)
 
 module _ {s r : List ℕ} {at : ℕ} (l : at ≤ length s) where
   -- what the fields behind a marker come to, the item comes to
-  behind-marker : (m : ℕ) (y : List ℕ) {t : TypeMarker} {f : Fields} → markerOf m ≡ t → Here s at (m ∷ y) r → fieldsAt s at (at + 1) t ≡ f → itemAt s at ≡ f
+  behind-marker : (m : ℕ) (y : List ℕ) {t : Marked} {f : Fields} → markerOf m ≡ t → Here s at (m ∷ y) r → behind s at (at + 1) t ≡ f → itemAt s at ≡ f
   unfolding itemAt
   behind-marker m y e h g = rw (byte-at m (cut (m ∷ []) y h), e) g
 
   -- a text behind a marker
-  text-behind : {w a : ℕ} {f : Field} (m : ℕ) (x : List ℕ) {t : TypeMarker} (q : ℕ → ℕ → Record) (g : Follow) → markerOf m ≡ t
-      → fieldsAt s at (at + 1) t ≡ gotText Stop (textAt w s (at + 1)) (λ p n e. gives (q p n) g e) → 1 ≤ w → InText w x f → Refuses f r a → Here s at (m ∷ x) r
+  text-behind : {w a : ℕ} {f : Field} (m : ℕ) (x : List ℕ) {t : Marked} (q : ℕ → ℕ → Record) (g : Follow) → markerOf m ≡ t
+      → behind s at (at + 1) t ≡ gotText Stop (textAt w s (at + 1)) (λ p n e. gives (q p n) g e) → 1 ≤ w → InText w x f → Refuses f r a → Here s at (m ∷ x) r
       → itemAt s at ≡ Stop a (at + suc (length x))
   text-behind {a} m x q g e i o t u h = behind-marker m x e h (i ∙ rw (text-stops o t u (skip (m ∷ []) x h)) (ap (Stop a) (omega arith)))
 
@@ -131,7 +133,7 @@ leads-stop {r} {a} (Leads.inside {left} {i = w} {x} {y} row c d) u s at fuel h l
     let p : at + length (x ++ y) ≡ q + length y = omega (arith, length-append x y) in
     rw (
       value-at s at (suc left) (item-at s (y ++ r) at q row (cut x y h) refl (omega (arith, left-over (cut x y h) l))) (omega arith),
-      follow-next (value left s) s w q,
+      follow-next (value left s) s (content w) q,
       p,
     )
     (leads-stop d u s q (length s) z (omega (arith, left-over h l, length-append x y)) (within z))

@@ -2,13 +2,13 @@
 use Rattle.wire.proofs.Kit.{ℕ, _*_, _≤_, _≡_, refl, sym, ap, _∙_, _≢_, List, [], _∷_, map, le-refl, arith, length}
 use Rattle.wire.specs.Number.{Bytes}
 use Rattle.image.specs.declared.record.Record.{Record}
-use Rattle.image.specs.declared.record.Record.the-variants.{Number, Boolean, Text, Object, Null, Undefined, Reference, EcmaArray, ObjectEnd, StrictArray, Date, Unsupported, Xml, TypedObject, Key, Packet, Header, Message, Lso}
-use Rattle.image.specs.Record.{size}
+use Rattle.image.specs.Record.{unplaced}
 use Rattle.image.specs.Out.{written}
+use Rattle.image.proofs.Laws.{size-placed}
 use Rattle.amf0.specs.Reading.{readOf}
 use Rattle.amf0.specs.Shown.{laid}
 use Rattle.amf0.specs.Writing.{writeOf}
-use Rattle.amf0.specs.Written.{unplaced, Alike, rewriteOf}
+use Rattle.amf0.specs.Written.{Alike, rewriteOf}
 use Rattle.amf0_theorems.proofs.More.{any-room}
 use Rattle.amf0_theorems.proofs.Puts.{laid-size}
 use Rattle.amf0_theorems.proofs.WriteOutcome.{accepted-read}
@@ -17,33 +17,9 @@ use Rattle.amf0_theorems.proofs.WriteTheorems.{RoundTrip, round-trip, a
 
 -- ---- a record's size does not hang on its places
 
--- a record with its places taken for 0 has as many bytes
-size-unplaced : (r : Record) → size (unplaced r) ≡ size r
-unfolding size
-size-unplaced (Number n) = refl
-size-unplaced (Boolean b) = refl
-size-unplaced (Text p n) = refl
-size-unplaced Object = refl
-size-unplaced Null = refl
-size-unplaced Undefined = refl
-size-unplaced (Reference n) = refl
-size-unplaced (EcmaArray n) = refl
-size-unplaced ObjectEnd = refl
-size-unplaced (StrictArray n) = refl
-size-unplaced (Date n z t) = refl
-size-unplaced Unsupported = refl
-size-unplaced (Xml p n) = refl
-size-unplaced (TypedObject p n) = refl
-size-unplaced (Key p n) = refl
-size-unplaced (Packet h m) = refl
-size-unplaced (Header p n b) = refl
-size-unplaced (Message p n q m) = refl
-size-unplaced (Lso l p n) = refl
-
--- and so have records in a row
 laid-unplaced : (rs : List Record) → length (laid (map unplaced rs)) ≡ length (laid rs)
 laid-unplaced [] = refl
-laid-unplaced (r ∷ rs) = omega (arith, laid-size (unplaced r) (map unplaced rs), laid-size r rs, size-unplaced r, laid-unplaced rs)
+laid-unplaced (r ∷ rs) = omega (arith, laid-size (unplaced r) (map unplaced rs), laid-size r rs, size-placed (λ p. 0) r, laid-unplaced rs)
 
 -- records that are the same but for places have as many bytes
 pub alike-size : (rs qs : List Record) → map unplaced rs ≡ map unplaced qs → length (laid rs) ≡ length (laid qs)

@@ -15,7 +15,7 @@ use Rattle.image.specs.Out.{namedOf, rowBytes}
 use Rattle.amf0.specs.declared.write.Rest.{Rest}
 use Rattle.amf0.specs.declared.write.Rest.the-variants.{Nothing, Pairs, Dense, Values}
 use Rattle.amf0.specs.Shape as S
-use Rattle.amf0.specs.Standard.{Item, short-most, Row, UTF-8}
+use Rattle.amf0.specs.Standard.{Item, short-most, Row, UTF-8, Content, content}
 use Rattle.amf0.specs.Standard.UTF-8.{short}
 use Rattle.amf0.specs.Standard.UTF-8-long.{long}
 use Rattle.amf0.specs.Shown.{Word, look, Stands, Named}
@@ -24,25 +24,16 @@ use Rattle.amf0.specs.Writing.{plain, texted, shapeOf, kinds, among}
 use Rattle.amf0.specs.Written.{writeItem}
 
 -- what follows the bytes of an item
-abbrev pub restOf : Item → Rest
-restOf (Item.number n) = Nothing
-restOf (Item.boolean b) = Nothing
-restOf (Item.string t) = Nothing
-restOf Item.object = Pairs
-restOf Item.null = Nothing
-restOf Item.undefined = Nothing
-restOf (Item.reference n) = Nothing
-restOf (Item.ecma-array n) = Dense
-restOf (Item.strict-array n) = Values n
-restOf (Item.date n z) = Nothing
-restOf Item.unsupported = Nothing
-restOf (Item.xml-document t) = Nothing
-restOf (Item.typed-object t) = Pairs
+abbrev pub restOf : Content → Rest
+restOf Content.nothing = Nothing
+restOf Content.named = Pairs
+restOf Content.associative = Dense
+restOf (Content.ordered n) = Values n
 
 -- a record of an item is put out as that is written
 pub record Itemed (s : List ℕ) (r : Record) (i : Item) : Type 0 where
   pub row : Put
-  pub shape : shapeOf r ≡ S.Value row (restOf i)
+  pub shape : shapeOf r ≡ S.Value row (restOf (content i))
   pub named : namedOf s row ≡ true
   pub puts : rowBytes s row ≡ writeItem i
   pub grammar : Row i (writeItem i)
@@ -85,7 +76,7 @@ module _ (s : List ℕ) where
   empty-bytes : (m a b : Field) → rowBytes s (record { mark = m; a = a; b = b; place = 0; length = 0 }) ≡ fieldBytes m ++ (fieldBytes a ++ fieldBytes b)
   empty-bytes m a b = rw (le-leb 0 (length s) (omega arith)) (ap (λ x. fieldBytes m ++ (fieldBytes a ++ x)) (append-nil (fieldBytes b)))
 
-  plained : {r : Record} {i : Item} (m : ℕ) (a b : Field) → shapeOf r ≡ S.Value (plain m a b) (restOf i)
+  plained : {r : Record} {i : Item} (m : ℕ) (a b : Field) → shapeOf r ≡ S.Value (plain m a b) (restOf (content i))
       → digits 1 m ++ (fieldBytes a ++ fieldBytes b) ≡ writeItem i → Row i (writeItem i) → among kinds (layoutOf r .kind) ≡ true → Itemed s r i
   plained m a b e f g k =
       record { row = plain m a b; shape = e; named = empty-named (1 bytes m) a b; puts = empty-bytes (1 bytes m) a b ∙ f; grammar = g; kind = k }
@@ -100,7 +91,7 @@ module _ (s : List ℕ) where
     text-bytes : (m : Field) (w : ℕ) → rowBytes s (texted m w p n) ≡ fieldBytes m ++ (digits w (length (bytesAt n s p)) ++ bytesAt n s p)
     text-bytes m w = rw (le-leb (p + n) (length s) (h .inside), text-long)
 
-    texts : {r : Record} {i : Item} (m w : ℕ) → shapeOf r ≡ S.Value (texted (1 bytes m) w p n) (restOf i)
+    texts : {r : Record} {i : Item} (m w : ℕ) → shapeOf r ≡ S.Value (texted (1 bytes m) w p n) (restOf (content i))
         → digits 1 m ++ (digits w (length (bytesAt n s p)) ++ bytesAt n s p) ≡ writeItem i → Row i (writeItem i) → among kinds (layoutOf r .kind) ≡ true
         → Itemed s r i
     texts m w e f g k =
@@ -126,7 +117,7 @@ module _ (s : List ℕ) where
   pub says : (r : Record) → Fits r → Named s r → Says s r (look s r)
   says (R.Number n) f h = plained 0x00 _ _ refl refl (Row.number n (f .a)) refl
   says (R.Boolean b) f h = boolean b
-  says (R.Text p n) f h = string p n h (f .b) _ refl
+  says (R.Text p n) f h = string p n (h .0) (f .b) _ refl
   says R.Object f h = plained 0x03 _ _ refl refl Row.object refl
   says R.Null f h = plained 0x05 _ _ refl refl Row.null refl
   says R.Undefined f h = plained 0x06 _ _ refl refl Row.undefined refl
@@ -137,10 +128,10 @@ module _ (s : List ℕ) where
   says (R.Date n present z) f h = dated n present z (f .a) (f .c)
   says R.Unsupported f h = plained 0x0D _ _ refl refl Row.unsupported refl
   says (R.Xml p n) f h =
-      texts p n h 0x0F 4 refl refl (Row.xml-document (long (bytesAt n s p) (omega (arith, text-long p n h, f .b)) (h .right))) refl
-  says (R.TypedObject p n) f h = texts p n h 0x10 2 refl refl (Row.typed-object (short-text refl h (f .b))) refl
+      texts p n (h .0) 0x0F 4 refl refl (Row.xml-document (long (bytesAt n s p) (omega (arith, text-long p n (h .0), f .b)) (h .0 .right))) refl
+  says (R.TypedObject p n) f h = texts p n (h .0) 0x10 2 refl refl (Row.typed-object (short-text refl (h .0) (f .b))) refl
   says (R.Key p n) f h =
-      record { row = _; shape = refl; named = text-named p n h none 2; puts = text-bytes p n h none 2; grammar = short-text refl h (f .b); kind = refl }
+      record { row = _; shape = refl; named = text-named p n (h .0) none 2; puts = text-bytes p n (h .0) none 2; grammar = short-text refl (h .0) (f .b); kind = refl }
   says (R.Packet k m) f h = tt
   says (R.Header p n b) f h = tt
   says (R.Message p n q m) f h = tt

@@ -1,5 +1,6 @@
 -- What stands at a place of an image, as a writing sees it: the record that is due there, or none.
-use Rattle.wire.proofs.Kit.{ℕ, _+_, _≤_, _≡_, refl, sym, _∙_, List, [], _∷_, Bool, true, false, arith, length, drop, length-drop, leb, leb-true}
+use Rattle.wire.proofs.Kit.{ℕ, _+_, _≤_, _≡_, refl, sym, ap, _∙_, List, [], _∷_, Bool, true, false, arith, length, drop, length-drop, leb, eqb, leb-true}
+use Rattle.wire.proofs.Kit.{eq-eqb, eqb-true}
 use Rattle.wire.specs.Choice.{pick}
 use Rattle.wire.specs.Number.{Bytes}
 use Rattle.wire.specs.Utf8.{utf8}
@@ -8,12 +9,13 @@ use Rattle.wire.specs.declared.cursor.Cursor.{Cursor}
 use Rattle.wire.proofs.Laws.{picked, false-true}
 use Rattle.wire.proofs.Stands.{Here, stood, byte-at, byte-stood, go8}
 use Rattle.image.specs.declared.record.Field.{Field}
+use Rattle.image.specs.declared.record.Layout.{Layout}
 use Rattle.image.specs.declared.record.Record.{Record}
 use Rattle.image.specs.declared.record.Record.the-variants as R
 use Rattle.image.specs.declared.taking.Taken.{Taken}
 use Rattle.image.specs.declared.taking.Taken.the-variants.{Found, Bad}
 use Rattle.image.specs.declared.writing.Row.{Row}
-use Rattle.image.specs.Record.{_bytes_, bytesOf, size}
+use Rattle.image.specs.Record.{_bytes_, layoutOf, bytesOf, size}
 use Rattle.image.specs.Taking.{recordAt, Fits}
 use Rattle.image.specs.Out.{Out, stop, put, row, rowBytes, namedOf}
 use Rattle.image.proofs.Laws.{size-bytes}
@@ -21,10 +23,10 @@ use Rattle.image.proofs.Found.{found-here, found-stood}
 use Rattle.amf0.specs.declared.write.Rest.{Rest}
 use Rattle.amf0.specs.Shape.{Shape}
 use Rattle.amf0.specs.Shape as S
-use Rattle.amf0.specs.Standard.{Item, short-most}
+use Rattle.amf0.specs.Standard.{Item, short-most, content}
 use Rattle.amf0.specs.Shown.{look, Stands, Named}
 use Rattle.amf0.specs.Shown.Word.{item, name, close}
-use Rattle.amf0.specs.Writing.{texted, shapeOf, kinds, among, valueAt, taken, valued, paired}
+use Rattle.amf0.specs.Writing.{texted, shapeOf, kinds, among, valueAt, taken, asked, valued, paired}
 use Rattle.amf0_theorems.specs.Unwritten.{Fronts, NoValue, NoPair, Valued}
 use Rattle.amf0_theorems.proofs.Says.{restOf, Itemed, Keyed, Closed, says}
 
@@ -85,7 +87,7 @@ module _ (s : List ℕ) where
     pub named : Named s r
     pub what : Item
     pub looks : look s r ≡ item what
-    pub follows : f ≡ restOf what
+    pub follows : f ≡ restOf (content what)
 
   pub record Pair (r : Record) : Type 0 where
     pub named : Named s r
@@ -103,7 +105,7 @@ module _ (s : List ℕ) where
   Looks r (S.End w) = Last r
   Looks r S.Other = Unit {0}
 
-  bare : {r : Record} (i : Item) → Named s r → look s r ≡ item i → Value r (restOf i)
+  bare : {r : Record} (i : Item) → Named s r → look s r ≡ item i → Value r (restOf (content i))
   bare i h e = record { named = h; what = i; looks = e; follows = refl }
 
   looks : (r : Record) → Looks r (shapeOf r)
@@ -112,8 +114,8 @@ module _ (s : List ℕ) where
   looks (R.Boolean b) = λ u. bare (Item.boolean b) tt refl
   looks (R.Text p n) =
       picked (Looks (R.Text p n)) (leb n short-most) _ _
-      (λ h u. bare (Item.string (bytesAt n s p)) (named-stands (1 bytes 0x02) 2 p n u) refl)
-      (λ h u. bare (Item.string (bytesAt n s p)) (named-stands (1 bytes 0x0C) 4 p n u) refl)
+      (λ h u. bare (Item.string (bytesAt n s p)) (named-stands (1 bytes 0x02) 2 p n u, tt) refl)
+      (λ h u. bare (Item.string (bytesAt n s p)) (named-stands (1 bytes 0x0C) 4 p n u, tt) refl)
   looks R.Object = λ u. bare Item.object tt refl
   looks R.Null = λ u. bare Item.null tt refl
   looks R.Undefined = λ u. bare Item.undefined tt refl
@@ -123,9 +125,9 @@ module _ (s : List ℕ) where
   looks (R.StrictArray n) = λ u. bare (Item.strict-array n) tt refl
   looks (R.Date n present z) = λ u. bare (Item.date n z) tt refl
   looks R.Unsupported = λ u. bare Item.unsupported tt refl
-  looks (R.Xml p n) = λ u. bare (Item.xml-document (bytesAt n s p)) (named-stands (1 bytes 0x0F) 4 p n u) refl
-  looks (R.TypedObject p n) = λ u. bare (Item.typed-object (bytesAt n s p)) (named-stands (1 bytes 0x10) 2 p n u) refl
-  looks (R.Key p n) = λ u. record { named = named-stands (0 bytes 0) 2 p n u; key = bytesAt n s p; looks = refl }
+  looks (R.Xml p n) = λ u. bare (Item.xml-document (bytesAt n s p)) (named-stands (1 bytes 0x0F) 4 p n u, tt) refl
+  looks (R.TypedObject p n) = λ u. bare (Item.typed-object (bytesAt n s p)) (named-stands (1 bytes 0x10) 2 p n u, tt) refl
+  looks (R.Key p n) = λ u. record { named = (named-stands (0 bytes 0) 2 p n u, tt); key = bytesAt n s p; looks = refl }
   looks (R.Packet k m) = tt
   looks (R.Header p n b) = tt
   looks (R.Message p n q m) = tt
@@ -168,6 +170,22 @@ module _ (s image : List ℕ) (bs : Bytes image) (at : ℕ) where
       go (Found r c) h = Taking.takes (took-found s image bs h) λ t f. let e = found t f in cc
       go Bad h = Taking.bad λ t f. let e = found t f in clash (cc)
 
+  -- a record of the kind that is due is taken, and no other is right there; or none of that kind is, and 6
+  pub data Asking (due : ℕ) (k : Layout → ℕ → Out) : Out → Type 0 where
+    asks : {r : Record} {q : ℕ} → Took s image bs at r q → layoutOf r .kind ≡ due → ((t : Record) → Fronts s t (drop at image) → t ≡ r)
+        → Asking due k (k (layoutOf r) q)
+    other : ((t : Record) → Fronts s t (drop at image) → layoutOf t .kind ≡ due → ⊥) → Asking due k (stop 6 at)
+
+  pub asking : (due : ℕ) (k : Layout → ℕ → Out) → Asking due k (asked image due at k)
+  asking due k = go (taking (λ r q. pick (eqb (layoutOf r .kind) due) (k (layoutOf r) q) (stop 6 at)))
+    where
+      go : {d : Out} → Taking (λ r q. pick (eqb (layoutOf r .kind) due) (k (layoutOf r) q) (stop 6 at)) d → Asking due k d
+      go (Taking.takes {r} {q} t one) =
+          picked (Asking due k) (eqb (layoutOf r .kind) due) (k (layoutOf r) q) (stop 6 at) (λ h. Asking.asks t (eqb-true (layoutOf r .kind) due h) one)
+          (λ h. Asking.other λ x f e.
+          false-true (sym h ∙ eq-eqb (layoutOf r .kind) due (ap (λ (y : Record). layoutOf y .kind) (sym (one x f)) ∙ e)))
+      go (Taking.bad n) = Asking.other λ x f e. n x f
+
   -- a record that is taken stands first
   pub took-fronts : {r : Record} {q : ℕ} → Took s image bs at r q → Named s r → Fronts s r (drop at image)
   took-fronts t n = record { rest = t .rest; same = t .here .same; fits = t .fits; named = n }
@@ -188,7 +206,7 @@ module _ (s image : List ℕ) (bs : Bytes image) (at : ℕ) where
       none t i f e =
           let w : Itemed s t i = rw e at (says s t (f .fits) (f .named)) in
           let g = one t f in
-          n (w .row) (restOf i) (cc (w .shape)) (w .named)
+          n (w .row) (restOf (content i)) (cc (w .shape)) (w .named)
 
   pub see-value : (k : Rest → ℕ → Out) → SeenValue k (taken at (recordAt image at) λ r q. valued at (shapeOf r) λ w f. row s w at (k f q))
   unfolding Looks row

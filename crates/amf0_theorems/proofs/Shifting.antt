@@ -7,6 +7,8 @@ use Rattle.wire.proofs.Stands.{goText, fits-both, both8, both16, both32, both64
 use Rattle.image.specs.declared.record.Record.the-variants.{Key}
 use Rattle.image.specs.Record.{moved}
 use Rattle.image.specs.Due.{Due, end, stop, due, _>>=_, based, shifted, Ends}
+use Rattle.amf0.specs.declared.type_marker.Marked.{Marked}
+use Rattle.amf0.specs.declared.type_marker.Marked.the-variants.{Value, Refused}
 use Rattle.amf0.specs.declared.type_marker.TypeMarker.{TypeMarker}
 use Rattle.amf0.specs.declared.type_marker.TypeMarker.the-variants as M
 use Rattle.amf0.specs.declared.read.Follow.{Follow}
@@ -14,7 +16,7 @@ use Rattle.amf0.specs.declared.read.Follow.the-variants.{Nothing, Pairs, Values
 use Rattle.amf0.specs.declared.read.Fields.{Fields}
 use Rattle.amf0.specs.declared.read.Fields.the-variants.{Got, Stop}
 use Rattle.amf0.specs.Marker.{markerOf}
-use Rattle.amf0.specs.Fields.{fieldsAt, gotFields}
+use Rattle.amf0.specs.Fields.{fieldsAt, behind, gotFields}
 use Rattle.amf0.specs.Reading.{items, pair, pairs, follow, value}
 use Rattle.amf0.proofs.Reasons.{kept, forward}
 
@@ -35,29 +37,31 @@ module _ (x s : List ℕ) where
   Same : Fields → Fields → Type 0
   Same f g = f ≡ movedFields (length x) g
 
-  fields-move : (at p : ℕ) (t : TypeMarker) → fieldsAt (x ++ s) (length x + at) (length x + p) t ≡ movedFields (length x) (fieldsAt s at p t)
+  fields-move : (p : ℕ) (k : TypeMarker) → fieldsAt (x ++ s) (length x + p) k ≡ movedFields (length x) (fieldsAt s p k)
   unfolding fieldsAt movedFields Same
-  fields-move at p M.Number = both64 Same Stop Stop x s p _ _ (λ h. refl) (λ h. refl)
-  fields-move at p M.Boolean = both8 Same Stop Stop x s p _ _ (λ h. refl) (λ h. refl)
-  fields-move at p M.String = bothText Same Stop Stop x s p 2 _ _ (λ n h. refl) (λ a q. refl)
-  fields-move at p M.Object = refl
-  fields-move at p M.MovieClip = refl
-  fields-move at p M.Null = refl
-  fields-move at p M.Undefined = refl
-  fields-move at p M.Reference = both16 Same Stop Stop x s p _ _ (λ h. refl) (λ h. refl)
-  fields-move at p M.EcmaArray = both32 Same Stop Stop x s p _ _ (λ h. refl) (λ h. refl)
-  fields-move at p M.ObjectEnd = refl
-  fields-move at p M.StrictArray =
+  fields-move p M.Number = both64 Same Stop Stop x s p _ _ (λ h. refl) (λ h. refl)
+  fields-move p M.Boolean = both8 Same Stop Stop x s p _ _ (λ h. refl) (λ h. refl)
+  fields-move p M.String = bothText Same Stop Stop x s p 2 _ _ (λ n h. refl) (λ a q. refl)
+  fields-move p M.Object = refl
+  fields-move p M.Null = refl
+  fields-move p M.Undefined = refl
+  fields-move p M.Reference = both16 Same Stop Stop x s p _ _ (λ h. refl) (λ h. refl)
+  fields-move p M.EcmaArray = both32 Same Stop Stop x s p _ _ (λ h. refl) (λ h. refl)
+  fields-move p M.StrictArray =
       both32 Same Stop Stop x s p _ _
       (λ h. rw (fits-both x s (p + 4)) (pick-both Same (leb (p + 4 + number (bytesAt 4 s p)) (length s)) refl refl)) (λ h. refl)
-  fields-move at p M.Date =
+  fields-move p M.Date =
       both64 Same Stop Stop x s p _ _ (λ h. both16 Same Stop Stop x s (p + 8) _ _ (λ h. refl) (λ h. refl)) (λ h. refl)
-  fields-move at p M.LongString = bothText Same Stop Stop x s p 4 _ _ (λ n h. refl) (λ a q. refl)
-  fields-move at p M.Unsupported = refl
-  fields-move at p M.RecordSet = refl
-  fields-move at p M.Xml = bothText Same Stop Stop x s p 4 _ _ (λ n h. refl) (λ a q. refl)
-  fields-move at p M.TypedObject = bothText Same Stop Stop x s p 2 _ _ (λ n h. refl) (λ a q. refl)
-  fields-move at p M.Amf3 = refl
+  fields-move p M.LongString = bothText Same Stop Stop x s p 4 _ _ (λ n h. refl) (λ a q. refl)
+  fields-move p M.Unsupported = refl
+  fields-move p M.Xml = bothText Same Stop Stop x s p 4 _ _ (λ n h. refl) (λ a q. refl)
+  fields-move p M.TypedObject = bothText Same Stop Stop x s p 2 _ _ (λ n h. refl) (λ a q. refl)
+  fields-move p M.Amf3 = refl
+
+  behind-moves : (at p : ℕ) (t : Marked) → behind (x ++ s) (length x + at) (length x + p) t ≡ movedFields (length x) (behind s at p t)
+  unfolding movedFields
+  behind-moves at p (Value k) = fields-move p k
+  behind-moves at p Refused = refl
 
   Moved : Due → Due → Type 0
   Moved d e = d ≡ shifted (length x) e
@@ -107,9 +111,9 @@ pub shift : (left : ℕ) (x s : List ℕ) (at : ℕ) → value left (x ++ s) (le
 unfolding value Moved
 shift zero x s at = both8 (Moved x s) stop stop x s at _ _ (λ l. refl) (λ l. refl)
 shift (suc left) x s at = both8 (Moved x s) stop stop x s at _ _
-    (λ l. rw (fields-move x s at (at + 1) (markerOf (getD s at 0)))
+    (λ l. rw (behind-moves x s at (at + 1) (markerOf (getD s at 0)))
     (node-moves x s (value left (x ++ s)) (value left s) (λ q n h e. omega (arith, forward s (3 * q) n (value left s q) (kept left s q h) e .0))
-    (shift left x s) at (fieldsAt s at (at + 1) (markerOf (getD s at 0)))))
+    (shift left x s) at (behind s at (at + 1) (markerOf (getD s at 0)))))
     (λ l. refl)
 
 -- the places alone, and then the end

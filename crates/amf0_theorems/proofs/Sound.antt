@@ -8,9 +8,9 @@ use Rattle.amf0.specs.declared.read.Fields.{Fields}
 use Rattle.amf0.specs.declared.read.Fields.the-variants.{Got, Stop}
 use Rattle.amf0.specs.Fields.{gotFields}
 use Rattle.amf0.specs.Reading.{items, pair, pairs, follow, value}
-use Rattle.amf0.specs.Standard.{Sort, Tree, depth, follows, UTF-8, Encodes}
+use Rattle.amf0.specs.Standard.{Sort, content, Tree, depth, follows, UTF-8, Encodes}
 use Rattle.amf0.specs.Standard.UTF-8.{short}
-use Rattle.amf0.proofs.Rows.{itemAt, next, IsRead, item-ends}
+use Rattle.amf0.proofs.Rows.{itemAt, IsRead, item-ends}
 use Rattle.amf0_theorems.proofs.Complete.{part, follow-next, value-item}
 
 -- one reading and then another ends where the first ends somewhere and the second ends from there
@@ -32,10 +32,14 @@ pub record Found (k : Sort) (left : ℕ) (s : List ℕ) (at n : ℕ) : Type 0 wh
 found : {k : Sort} {t : Tree k} {s x r : List ℕ} {at n left : ℕ} → Encodes k t x → Here s at x r → n ≡ at + length x → depth t ≤ left → Found k left s at n
 found {t} {x} {r} e h l d = record { tree = t; row = x; rest = r; encodes = e; here = h; next = l; deep = d }
 
+-- a row, and another where it ends
+pub ends-at : {s x r y z : List ℕ} {at next : ℕ} → Here s at x r → next ≡ at + length x → Here s next y z → Here s at (x ++ y) z
+ends-at h e g = join h refl (rw e at g)
+
 -- what stands behind a name stands behind its length and letters
 pub keyed : {s r y z : List ℕ} {at : ℕ} (k : List ℕ) → Here s at (digits 2 (length k) ++ k) r → Here s (at + 2 + length k) y z
     → Here s at ((digits 2 (length k) ++ k) ++ y) z
-keyed {at} k h g = let e : at + 2 + length k ≡ at + length (digits 2 (length k) ++ k) = omega arith in join h refl (rw e at g)
+keyed k h g = ends-at h (omega arith) g
 
 -- the end of properties, with a name before the end marker or none
 closed : {s r : List ℕ} {at n left : ℕ} (k : List ℕ) → UTF-8 k (digits 2 (length k) ++ k) → Here s at ((digits 2 (length k) ++ k) ++ (9 ∷ [])) r
@@ -47,12 +51,11 @@ module _ (s : List ℕ) (bs : Bytes s) (left : ℕ) (inner : ℕ → Due) (good 
   items-sound : (c at n : ℕ) → Ends (items inner c at) n → Found (Sort.values c) left s at n
   unfolding items
   items-sound zero at n e = found Encodes.nil (record { same = refl }) (omega arith) (omega arith)
-  items-sound (suc c) at n e = bind-ends (inner at) (items inner c) n e λ m f g. two (good at m f) (items-sound c m n g)
-    where
-      two : {m : ℕ} → Found Sort.value left s at m → Found (Sort.values c) left s m n → Found (Sort.values (suc c)) left s at n
-      two v vs =
-          found (Encodes.cons (v .encodes) (vs .encodes)) (join (v .here) refl (rw (v .next) at (vs .here))) (omega (arith, length-append (v .row) (vs .row)))
-          (omega arith)
+  items-sound (suc c) at n e =
+      bind-ends (inner at) (items inner c) n e λ m f g.
+      let v = good at m f in
+      let vs = items-sound c m n g in
+      found (Encodes.cons (v .encodes) (vs .encodes)) (ends-at (v .here) (v .next) (vs .here)) (omega (arith, length-append (v .row) (vs .row))) (omega arith)
 
   pair-sound : (k r : List ℕ) (at n : ℕ) (more : ℕ → Due) → ((at : ℕ) → Ends (more at) n → Found Sort.properties left s at n)
       → Here s at (digits 2 (length k) ++ k) r → UTF-8 k (digits 2 (length k) ++ k)
@@ -64,12 +67,12 @@ module _ (s : List ℕ) (bs : Bytes s) (left : ℕ) (inner : ℕ → Due) (good 
       end8 P stop (λ a p e. absurd e) s bs q _ λ m g.
       picked P (eqb m 9) _ _
       (λ t e. closed k key (keyed k h (rw (eqb-true m 9 t) at g)) (omega (arith, length-append k (9 ∷ []))))
-      (λ t e. bind-ends (inner q) more n e λ j f g. one (good q j f) (ih j g))
-    where
-      one : {j : ℕ} → Found Sort.value left s (at + 2 + length k) j → Found Sort.properties left s j n → Found Sort.properties left s at n
-      one v ps =
-          found (Encodes.property key (v .encodes) (ps .encodes)) (keyed k h (join (v .here) refl (rw (v .next) at (ps .here))))
-          (omega (arith, length-append k (v .row ++ ps .row), length-append (v .row) (ps .row))) (omega arith)
+      (λ t e.
+      bind-ends (inner q) more n e λ j f g.
+      let v = good q j f in
+      let ps = ih j g in
+      found (Encodes.property key (v .encodes) (ps .encodes)) (keyed k h (ends-at (v .here) (v .next) (ps .here)))
+      (omega (arith, length-append k (v .row ++ ps .row), length-append (v .row) (ps .row))) (omega arith))
 
   pairs-sound : (fuel at n : ℕ) → Ends (pairs inner s fuel at) n → Found Sort.properties left s at n
   unfolding pairs
@@ -85,12 +88,8 @@ module _ (s : List ℕ) (bs : Bytes s) (left : ℕ) (inner : ℕ → Due) (good 
 
   node-sound : (at n : ℕ) (x : Fields) → IsRead s at x → Ends (gotFields stop x λ r f q. due r at (follow inner s f q)) n → Found Sort.value (suc left) s at n
   node-sound at n (Got r f c) g e =
-      go (part-sound (follows (g .what)) (length s) (c .at) n (rw (g .follows, follow-next inner s (g .what) (c .at)) at e))
-    where
-      go : Found (follows (g .what)) left s (c .at) n → Found Sort.value (suc left) s at n
-      go t =
-          found (Encodes.node (g .grammar) (t .encodes)) (join (g .here) refl (rw (g .long) at (t .here))) (omega (arith, length-append (g .row) (t .row)))
-          (omega arith)
+      let t = part-sound (follows (g .what)) (length s) (c .at) n (rw (g .follows, follow-next inner s (content (g .what)) (c .at)) at e) in
+      found (Encodes.node (g .grammar) (t .encodes)) (ends-at (g .here) (g .long) (t .here)) (omega (arith, length-append (g .row) (t .row))) (omega arith)
   node-sound at n (Stop a p) g e = absurd e
 
 pub sound : (left : ℕ) (s : List ℕ) (at n : ℕ) → Bytes s → Ends (value left s at) n → Found Sort.value left s at n

@@ -7,23 +7,23 @@ use Rattle.wire.proofs.Laws.{picked, length-digits}
 use Rattle.wire.proofs.Stands.{Here, join, after, byte-stood, number-stood, go8, go16, go32, go64}
 use Rattle.image.specs.declared.record.Record.{Record}
 use Rattle.image.specs.Due.{Due, stop, due, Ends}
-use Rattle.amf0.specs.declared.type_marker.TypeMarker.{TypeMarker}
 use Rattle.amf0.specs.declared.read.Follow.{Follow}
 use Rattle.amf0.specs.declared.read.Follow.the-variants.{Nothing, Pairs, Values}
 use Rattle.amf0.specs.declared.read.Fields.{Fields}
 use Rattle.amf0.specs.declared.read.Fields.the-variants.{Got, Stop}
-use Rattle.amf0.specs.Marker.{markers}
-use Rattle.amf0.specs.Fields.{fieldsAt, gives, gotFields, shut}
+use Rattle.amf0.specs.Marker.{markers, markerOf}
+use Rattle.amf0.specs.Fields.{fieldsAt, gives, gotFields, shut, behind}
 use Rattle.amf0.specs.Reading.{items, pair, pairs, follow, value}
-use Rattle.amf0.specs.Standard.{Item, Sort, many, follows, UTF-8}
+use Rattle.amf0.specs.Standard.{Sort, many, Content, content, sortOf, UTF-8}
 use Rattle.amf0.specs.Standard.UTF-8.{short}
-use Rattle.amf0.proofs.Rows.{itemAt, next, IsRead, item-ends, Each, _▸_, each-marker}
+use Rattle.amf0.proofs.Rows.{itemAt, nextOf, IsRead, item-ends, Each, _▸_, each-marker}
 use Rattle.amf0_theorems.specs.Refusal.{Field, Bars, Refuses, InText, Own, Leads, Refused, RefusedValue}
 use Rattle.amf0_theorems.specs.Refusal.Bars.{movie-clip, object-end, record-set}
-use Rattle.amf0_theorems.proofs.Refused.{Told, told-map, told-bind, left-over, refuse, onward, reworded, text-case}
+use Rattle.amf0_theorems.proofs.Refused.{Told, told-map, told-bind, left-over, refuse, onward, reworded, text-case, shut-number}
 use Rattle.amf0_theorems.proofs.Complete.{part, follow-next, value-item}
 use Rattle.amf0_theorems.proofs.Sound as soundness
 use Rattle.amf0_theorems.proofs.Sound.{Found}
+use Rattle.amf0.specs.declared.type_marker.Marked.{Marked}
 
 -- the refusals of a row of a sort, from a place on
 abbrev pub RefusedPart : ℕ → Sort → List ℕ → ℕ → ℕ → ℕ → Type 0
@@ -36,20 +36,11 @@ needs Pairs = 0
 needs (Values n) = n
 
 -- each value that follows takes a byte
-next-needs : (i : Item) → needs (next i) ≡ many (follows i)
-next-needs (Item.number n) = refl
-next-needs (Item.boolean b) = refl
-next-needs (Item.string t) = refl
-next-needs Item.object = refl
-next-needs Item.null = refl
-next-needs Item.undefined = refl
-next-needs (Item.reference n) = refl
-next-needs (Item.ecma-array n) = refl
-next-needs (Item.strict-array n) = refl
-next-needs (Item.date n z) = refl
-next-needs Item.unsupported = refl
-next-needs (Item.xml-document t) = refl
-next-needs (Item.typed-object t) = refl
+next-needs : (c : Content) → needs (nextOf c) ≡ many (sortOf c)
+next-needs Content.nothing = refl
+next-needs Content.named = refl
+next-needs Content.associative = refl
+next-needs (Content.ordered n) = refl
 
 -- what comes of a marker and its fields: what follows has room in the input, or one of them refuses it
 abbrev ToldFields : ℕ → List ℕ → ℕ → Fields → Type 0
@@ -62,8 +53,8 @@ no-marker left s at l i = refuse {x = []} (record { same = refl }) (omega arith)
 
 module _ (left : ℕ) (s : List ℕ) (bs : Bytes s) (at : ℕ) (l : at < length s) where
   -- the fields behind a marker that stands there
-  abbrev Entry : ℕ → TypeMarker → Type 0
-  Entry m t = (r : List ℕ) → Here s at (m ∷ []) r → ToldFields left s at (fieldsAt s at (at + 1) t)
+  abbrev Entry : ℕ → Marked → Type 0
+  Entry m t = (r : List ℕ) → Here s at (m ∷ []) r → ToldFields left s at (behind s at (at + 1) t)
 
   -- the first field behind a marker is not whole
   short-told : {m w : ℕ} {r : List ℕ} → Own (m ∷ []) (Field.some w) → Here s at (m ∷ []) r → length s < at + 1 + w → RefusedValue (suc left) s at 2 (at + 1)
@@ -139,11 +130,9 @@ module _ (s : List ℕ) (bs : Bytes s) (left : ℕ) (inner : ℕ → Due) (good 
   items-told (suc c) at l =
       told-bind (RefusedPart left (Sort.values (suc c)) s at) (inner at) (items inner c)
       (told-map (inner at) (λ a p. reworded λ r x f. Leads.first) (inner-told at l))
-      (λ n e. let v = good at n e in behind-one n v (items-told c n (omega (arith, left-over (v .here) l))))
-    where
-      behind-one : (n : ℕ) → Found Sort.value left s at n → Told (RefusedPart left (Sort.values c) s n) (items inner c n)
-          → Told (RefusedPart left (Sort.values (suc c)) s at) (items inner c n)
-      behind-one n v t = told-map (items inner c n) (λ a p. onward (v .here) (v .next) λ r x f e d. Leads.next (v .encodes) (v .deep) d) t
+      (λ n e.
+      let v = good at n e in
+      told-map (items inner c n) (λ a p. onward (v .here) (v .next) λ r x f e d. Leads.next (v .encodes) (v .deep) d) (items-told c n (omega (arith, left-over (v .here) l))))
 
   -- what stands behind a name
   pair-told : (k r : List ℕ) (at : ℕ) (more : ℕ → Due) → at ≤ length s
@@ -159,21 +148,16 @@ module _ (s : List ℕ) (bs : Bytes s) (left : ℕ) (inner : ℕ → Due) (good 
       (λ j. picked P (eqb (getD s q 0) 9) _ _ (λ e. tt)
       (λ e. told-bind (RefusedPart left Sort.properties s at) (inner q) more
       (told-map (inner q) (λ a p. in-value λ z d. eqb-false (getD s q 0) 9 e (cc (byte-stood s q j .same))) (inner-told q i))
-      (λ n d. let v = good q n d in behind-one n v (more-told n (omega arith) (omega (arith, left-over (v .here) i))))))
+      (λ n d.
+      let v = good q n d in
+      told-map (more n)
+      (λ a p u. onward {q = q} h (omega arith) (λ r x f e d. d) (onward (v .here) (v .next) (λ r x f e d. Leads.next-property key (v .encodes) (v .deep) d) u))
+      (more-told n (omega arith) (omega (arith, left-over (v .here) i))))))
       (λ j. in-value (λ z d. omega (arith, ap length d, length-drop q s)) (no-marker left s q i j))
     where
       in-value : {a p : ℕ} → ((z : List ℕ) → drop (at + 2 + length k) s ≢ 9 ∷ z) → RefusedValue left s (at + 2 + length k) a p
           → RefusedPart left Sort.properties s at a p
       in-value other t = onward h (omega arith) (λ r x f e d. Leads.property key (λ z g. other z (e ∙ g)) d) t
-
-      behind-one : (n : ℕ) → Found Sort.value left s (at + 2 + length k) n → Told (RefusedPart left Sort.properties s n) (more n)
-          → Told (RefusedPart left Sort.properties s at) (more n)
-      behind-one n v t =
-          told-map (more n)
-          (λ a p u.
-          onward {q = at + 2 + length k} h (omega arith) (λ r x f e d. d)
-          (onward (v .here) (v .next) (λ r x f e d. Leads.next-property key (v .encodes) (v .deep) d) u))
-          t
 
   -- properties; the input's length bounds their number, so where the bound is reached nothing is left
   pairs-told : (fuel at : ℕ) → length s ≤ at + fuel → at ≤ length s → Told (RefusedPart left Sort.properties s at) (pairs inner s fuel at)
@@ -194,13 +178,12 @@ module _ (s : List ℕ) (bs : Bytes s) (left : ℕ) (inner : ℕ → Due) (good 
   node-told : (at : ℕ) (x : Fields) → at ≤ length s → IsRead s at x → ToldFields left s at x
       → Told (RefusedValue (suc left) s at) (gotFields stop x λ r f q. due r at (follow inner s f q))
   node-told at (Got r f c) l g t =
-      let i : Item = g .what in
-      let n : ℕ = many (follows i) in
-      let fits : c .at + n ≤ length s = rw (← next-needs i, ← g .follows) t in
+      let i : Content = content (g .what) in
+      let fits : c .at + many (sortOf i) ≤ length s = rw (← next-needs i, ← g .follows) t in
       rw (g .follows, follow-next inner s i (c .at))
-      (told-map (part inner s (length s) (follows i) (c .at))
+      (told-map (part inner s (length s) (sortOf i) (c .at))
       (λ a p. onward (g .here) (g .long) λ r x f e d. Leads.inside (g .grammar) (rw (← e) (omega (arith, length-drop (c .at) s))) d)
-      (part-told (follows i) (c .at) (omega arith)))
+      (part-told (sortOf i) (c .at) (omega arith)))
   node-told at (Stop a p) l g t = t
 
 -- a marker that is none of the three marks a value
@@ -210,12 +193,13 @@ no-bar m a b c object-end = eqb-false 9 9 b refl
 no-bar m a b c record-set = eqb-false 14 14 c refl
 
 -- the marker of a value is refused where no level is left
-shut-refuses : (m : ℕ) (r : List ℕ) → Refuses (Field.marker 0) (m ∷ r) (shut m)
+shut-refuses : (m : ℕ) (r : List ℕ) → Refuses (Field.marker 0) (m ∷ r) (shut (markerOf m))
 shut-refuses m r =
     let P : ℕ → Type 0 = Refuses (Field.marker 0) (m ∷ r) in
-    picked P (eqb m 4) _ _ (λ e. Refuses.no-value (rw (eqb-true m 4 e) movie-clip)) λ a.
+    rw (shut-number m)
+    (picked P (eqb m 4) _ _ (λ e. Refuses.no-value (rw (eqb-true m 4 e) movie-clip)) λ a.
     picked P (eqb m 9) _ _ (λ e. Refuses.no-value (rw (eqb-true m 9 e) object-end)) λ b.
-    picked P (eqb m 14) _ _ (λ e. Refuses.no-value (rw (eqb-true m 14 e) record-set)) λ c. Refuses.too-deep (no-bar m a b c)
+    picked P (eqb m 14) _ _ (λ e. Refuses.no-value (rw (eqb-true m 14 e) record-set)) λ c. Refuses.too-deep (no-bar m a b c))
 
 -- where the reading of a value stops, a field refuses the input
 pub value-told : (left : ℕ) (s : List ℕ) (at : ℕ) → Bytes s → at ≤ length s → Told (RefusedValue left s at) (value left s at)

@@ -1,20 +1,21 @@
 -- The records of a row of bytes tell the tree that it is, and no other.
-use Rattle.wire.proofs.Kit.{ℕ, zero, suc, _+_, _≤_, _≡_, refl, sym, ap, ap₂, _∙_, List, [], _∷_, _++_, arith, length}
+use Rattle.wire.proofs.Kit.{ℕ, zero, suc, _+_, _≤_, _≡_, refl, sym, ap, ap₂, _∙_, List, [], _∷_, _++_, arith, length, map, length-append}
 use Rattle.wire.specs.Number.{digits}
-use Rattle.wire.specs.Field.{bytesAt}
-use Rattle.wire.proofs.Stands.{Here, cut, behind, cut, skip, there}
+use Rattle.wire.proofs.Stands.{Here, cut, skip, there, inside}
 use Rattle.image.specs.declared.record.Record.{Record}
 use Rattle.image.specs.Due.{Due, end, stop, due, Ends}
 use Rattle.image.specs.Whole.{bytes}
 use Rattle.amf0.specs.Reading.{value}
-use Rattle.amf0.specs.Standard.{Item, Sort, Tree, depth, follows, Row, Encodes}
+use Rattle.amf0.specs.Standard.{Item, Sort, Tree, depth, follows, Encodes}
 use Rattle.amf0.specs.Standard.UTF-8.{short}
-use Rattle.amf0.specs.Standard.UTF-8-long.{long}
 use Rattle.amf0.specs.Standard.Tree.{node, none, property, nil, cons}
-use Rattle.amf0.specs.Shown.{Word, told, look, words, laid}
+use Rattle.amf0.specs.Shown.{Word, told, words, laid, Right}
 use Rattle.amf0.specs.Shown.Word.{item, name, close, other}
-use Rattle.amf0.proofs.Rows.{mark}
 use Rattle.amf0_theorems.proofs.Complete.{marks, lay, lay-append, past, complete}
+use Rattle.amf0_theorems.proofs.Marked.{marked, ofItem, fits, small}
+use Rattle.wire.specs.Limit as limit
+use Rattle.image.specs.declared.record.Record.the-variants as R
+use Rattle.image.specs.Record.{unplaced}
 
 -- ---- a tree is known by what is told of it: told from right to left, its parts lie on a stack
 
@@ -95,50 +96,56 @@ bytes-laid (end n) = refl
 bytes-laid (stop a p) = refl
 bytes-laid (due r p d) = rw (bytes-laid d)
 
--- a text of w bytes of length, behind a marker
-pub text-there : {s r : List ℕ} {at : ℕ} (m w : ℕ) (t : List ℕ) → length (digits w (length t)) ≡ w → Here s at (m ∷ digits w (length t) ++ t) r
-    → bytesAt (length t) s (at + 1 + w) ≡ t
-text-there m w t l h = there (length t) (behind (cut (digits w (length t)) t (skip (m ∷ []) (digits w (length t) ++ t) h)) l refl) refl
+-- the records of a tree and then more, but for places
+abbrev pub ofTree : {k : Sort} → Tree k → List Record → List Record
+ofTree (node i t) r = ofItem i ∷ ofTree t r
+ofTree none r = R.ObjectEnd ∷ r
+ofTree (property k v ps) r = R.Key 0 (length k) ∷ ofTree v (ofTree ps r)
+ofTree nil r = r
+ofTree (cons v vs) r = ofTree v (ofTree vs r)
 
-item-tells : {i : Item} {x : List ℕ} (row : Row i x) (s r : List ℕ) (at : ℕ) → Here s at x r → look s (mark row at) ≡ item i
-unfolding mark
-item-tells (Row.number n l) s r at h = refl
-item-tells Row.boolean-false s r at h = refl
-item-tells Row.boolean-true s r at h = refl
-item-tells (Row.boolean-above b k l) s r at h = refl
-item-tells (Row.string (short t l u)) s r at h = ap (λ y. item (Item.string y)) (text-there 2 2 t refl h)
-item-tells Row.object s r at h = refl
-item-tells Row.null s r at h = refl
-item-tells Row.undefined s r at h = refl
-item-tells (Row.departure-any-index n l) s r at h = refl
-item-tells (Row.departure-any-count n l) s r at h = refl
-item-tells (Row.strict-array n l) s r at h = refl
-item-tells (Row.date n l) s r at h = refl
-item-tells (Row.departure-any-zone n z l k m) s r at h = refl
-item-tells (Row.long-string (long t l u) k) s r at h = ap (λ y. item (Item.string y)) (text-there 12 4 t refl h)
-item-tells (Row.departure-long-string (long t l u) k) s r at h = ap (λ y. item (Item.string y)) (text-there 12 4 t refl h)
-item-tells Row.unsupported s r at h = refl
-item-tells (Row.xml-document (long t l u)) s r at h = ap (λ y. item (Item.xml-document y)) (text-there 15 4 t refl h)
-item-tells (Row.typed-object (short t l u)) s r at h = ap (λ y. item (Item.typed-object y)) (text-there 16 2 t refl h)
-item-tells Row.departure-avmplus s r at h = refl
-item-tells (Row.departure-unknown m l k) s r at h = refl
+-- the records of a row of bytes, before those of another reading: they tell its tree, are the tree's but for places, and can stand in an image
+pub record Recorded {k : Sort} {t : Tree k} {x : List ℕ} (e : Encodes k t x) (s : List ℕ) (at : ℕ) (d : Due) : Type 0 where
+  pub tells : words s (recordsOf (lay (marks e at) d)) ≡ told t (words s (recordsOf d))
+  pub alike : map unplaced (recordsOf (lay (marks e at) d)) ≡ ofTree t (map unplaced (recordsOf d))
+  pub right : length s ≤ limit.bytes → Right s (recordsOf d) → Right s (recordsOf (lay (marks e at) d))
 
-tells : {k : Sort} {t : Tree k} {x : List ℕ} (e : Encodes k t x) (s r : List ℕ) (at : ℕ) (d : Due) → Here s at x r
-    → words s (recordsOf (lay (marks e at) d)) ≡ told t (words s (recordsOf d))
+pub recorded : {k : Sort} {t : Tree k} {x : List ℕ} (e : Encodes k t x) (s r : List ℕ) (at : ℕ) (d : Due) → Here s at x r → Recorded e s at d
 unfolding marks
-tells (Encodes.node {x} {y} row e) s r at d h = ap₂ _∷_ (item-tells row s (y ++ r) at (cut x y h)) (tells e s r (at + length x) d (skip x y h))
-tells Encodes.end s r at d h = refl
-tells (Encodes.departure-named-end (short k l u) o) s r at d h = refl
-tells (Encodes.property {v} {y} {z} (short k l u) e f) s r at d h =
+recorded (Encodes.node {x} {y} row e) s r at d h =
+    let m = marked row in
+    let b = recorded e s r (at + length x) d (skip x y h) in
+    record {
+      tells = ap₂ _∷_ (m .tells s (y ++ r) at (cut x y h)) (b .tells);
+      alike = rw (m .alike at, b .alike);
+      right = λ l g. let w = m .right s (y ++ r) at l (cut x y h) in (w .0, w .1, b .right l g);
+    }
+recorded Encodes.end s r at d h = record { tells = refl; alike = refl; right = λ l g. (fits small small small small (λ n z e. cc), tt, g) }
+recorded (Encodes.departure-named-end (short k b u) o) s r at d h =
+    record { tells = refl; alike = refl; right = λ l g. (fits small small small small (λ n z e. cc), tt, g) }
+recorded (Encodes.property {v} {y} {z} (short k i u) e f) s r at d h =
     let q : ℕ = at + 2 + length k in
     let c = past k (y ++ z) h in
-    ap₂ (λ w ws. name w ∷ ws) (there (length k) (cut k (y ++ z) (skip (digits 2 (length k)) (k ++ (y ++ z)) h)) refl)
-    (ap (λ g. words s (recordsOf g)) (sym (lay-append (marks e q) (marks f (q + length y)) d))
-    ∙ (tells e s (z ++ r) q (lay (marks f (q + length y)) d) (cut y z c) ∙ ap (told v) (tells f s r (q + length y) d (skip y z c))))
-tells Encodes.nil s r at d h = refl
-tells (Encodes.cons {v} {x} {y} e f) s r at d h =
-    ap (λ g. words s (recordsOf g)) (sym (lay-append (marks e at) (marks f (at + length x)) d))
-    ∙ (tells e s (y ++ r) at (lay (marks f (at + length x)) d) (cut x y h) ∙ ap (told v) (tells f s r (at + length x) d (skip x y h)))
+    let a = recorded e s (z ++ r) q (lay (marks f (q + length y)) d) (cut y z c) in
+    let b = recorded f s r (q + length y) d (skip y z c) in
+    let both = lay-append (marks e q) (marks f (q + length y)) d in
+    let key = there (length k) (cut k (y ++ z) (skip (digits 2 (length k)) (k ++ (y ++ z)) h)) refl in
+    let within : q ≤ length s = omega (arith, inside h (omega arith), length-append k (y ++ z)) in
+    record {
+      tells = ap₂ (λ w ws. name w ∷ ws) key (ap (λ g. words s (recordsOf g)) (sym both) ∙ (a .tells ∙ ap (told v) (b .tells)));
+      alike = rw (← both, a .alike, b .alike);
+      right = λ l g. (fits (omega arith) i small small (λ n z e. cc), (record { inside = within; right = rw key u }, tt), rw (← both) (a .right l (b .right l g)));
+    }
+recorded Encodes.nil s r at d h = record { tells = refl; alike = refl; right = λ l g. g }
+recorded (Encodes.cons {v} {x} {y} e f) s r at d h =
+    let a = recorded e s (y ++ r) at (lay (marks f (at + length x)) d) (cut x y h) in
+    let b = recorded f s r (at + length x) d (skip x y h) in
+    let both = lay-append (marks e at) (marks f (at + length x)) d in
+    record {
+      tells = ap (λ g. words s (recordsOf g)) (sym both) ∙ (a .tells ∙ ap (told v) (b .tells));
+      alike = rw (← both, a .alike, b .alike);
+      right = λ l g. rw (← both) (a .right l (b .right l g));
+    }
 
 ends : (ms : List (Record × ℕ)) (n : ℕ) → Ends (lay ms (end n)) n
 ends [] n = refl
@@ -153,10 +160,4 @@ pub reads : {t : Tree Sort.value} {x : List ℕ} (left : ℕ) (s r : List ℕ) (
     → Reads left s at (at + length x) t
 reads {x} left s r at e h d =
     let c = complete e s r at (at + length x) left (length x) h refl d (omega arith) in
-    record { ends = rw c (ends (marks e at) (at + length x)); tells = ap (λ g. words s (recordsOf g)) c ∙ tells e s r at (end (at + length x)) h }
-
--- a reading ends at one place
-pub one-end : (d : Due) {m n : ℕ} → Ends d m → Ends d n → m ≡ n
-one-end (end q) a b = a ∙ sym b
-one-end (stop w p) a b = absurd a
-one-end (due r p d) a b = one-end d a b
+    record { ends = rw c (ends (marks e at) (at + length x)); tells = ap (λ g. words s (recordsOf g)) c ∙ recorded e s r at (end (at + length x)) h .tells }

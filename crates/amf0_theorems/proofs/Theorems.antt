@@ -5,20 +5,21 @@ use Rattle.wire.specs.Number.{Bytes}
 use Rattle.wire.specs.Limit as limit
 use Rattle.wire.proofs.Stands.{here-front}
 use Rattle.image.specs.Due.{Due, end, _>>=_, based, shifted, Ends}
-use Rattle.image.specs.Whole.{Whole, bytes, accepted, refused, ended, settled}
+use Rattle.image.specs.Whole.{Whole, bytes, accepted, refused, ended}
 use Rattle.amf0.specs.Reading.{value, topValue, readOf}
 use Rattle.amf0.specs.Standard.{Sort, Tree, depth, Encodes}
 use Rattle.amf0.specs.Shown.{Shows}
+use Rattle.amf0.specs.Span.{Fault}
+use Rattle.amf0_theorems.proofs.Call.{ended-at, value-sober, value-bounded, call-roomy, call-answers, call-refused, call-over-limit, call-room-exact, call-room, call-takes}
 use Rattle.amf0_theorems.proofs.More.{settled-more, pick-more}
 use Rattle.amf0_theorems.proofs.Complete as completeness
 use Rattle.amf0_theorems.proofs.Sound as soundness
 use Rattle.amf0_theorems.proofs.Sound.{Found}
-use Rattle.amf0_theorems.proofs.Telling.{same-tree, Reads, reads, one-end}
+use Rattle.amf0_theorems.proofs.Telling.{same-tree, Reads, reads}
 use Rattle.amf0_theorems.proofs.Spelling.{shown}
-use Rattle.amf0.proofs.Reasons.{kept, forward}
 use Rattle.amf0_theorems.proofs.Shifting as shifting
 use Rattle.amf0_theorems.proofs.Bytes.{encoding}
-use Rattle.amf0.proofs.Outcome.{ended-at, Comes, comes, within, roomy, thrice}
+use Rattle.image.proofs.Settle.{one-end}
 
 -- ---- the reading and the standard
 
@@ -45,14 +46,10 @@ found-means s n b f l =
 
 -- What is accepted is a value: the bytes used encode a tree of the standard's, at most as deep as the limit, and the image tells that tree.
 pub sound : (s : List ℕ) (room : ℕ) → Bytes s → readOf s room .reading .answer ≡ 0 → Means s (readOf s room)
-sound s room bs = go (readOf s room) (comes s room)
-  where
-    go : (w : Whole) → Comes s room w → w .reading .answer ≡ 0 → Means s w
-    go w (Comes.over-limit h) e = absurd (omega arith)
-    go w (Comes.no-room h i) e = absurd (omega arith)
-    go w (Comes.not-read p h i t y) e = absurd (omega arith)
-    go w (Comes.read {n} h i f) e =
-        found-means s n h (soundness.sound limit.levels s 0 n bs f) (forward s 0 n (topValue s 0) (kept limit.levels s 0 (omega arith)) f .1)
+sound s room bs e =
+    let t = call-takes s (topValue s 0) room (value-bounded s) e in
+    let n : ℕ = readOf s room .reading .used in
+    rw (t .result) (found-means s n (t .small) (soundness.sound limit.levels s 0 n bs (t .ends)) (t .within))
 
 -- an acceptance of n bytes, with an image that tells the tree t
 pub record Accepts (s : List ℕ) (t : Tree Sort.value) (n : ℕ) (w : Whole) : Type 0 where
@@ -67,7 +64,7 @@ pub complete : (t : Tree Sort.value) (x r : List ℕ) (room : ℕ) → Encodes S
 complete t x r room e l h i =
     let y = reads limit.levels (x ++ r) r 0 e (record { same = refl }) l in
     let d : Due = topValue (x ++ r) 0 in
-    rw (roomy (x ++ r) room h (omega (arith, thrice (x ++ r))), ended-at d (bytes d) (0 + length x) (y .ends))
+    rw (call-roomy (x ++ r) d room h (omega (arith, value-bounded (x ++ r) .small)), ended-at d (bytes d) (0 + length x) (y .ends))
     (record { answer = refl; used = omega arith; shows = shown (x ++ r) r 0 e (record { same = refl }) l h })
 
 -- Within the limit, and where the room is three times the input, a call accepts exactly where the input begins with a value of the standard's.
@@ -101,23 +98,11 @@ encodes-bytes k t x e = encoding e
 
 -- In a room of three bytes for each byte of the input, no reading is refused for room.
 pub room-enough : (s : List ℕ) (room : ℕ) → 3 * length s ≤ room → readOf s room .reading .answer ≢ 4
-room-enough s room h = go (readOf s room) (comes s room)
-  where
-    go : (w : Whole) → Comes s room w → w .reading .answer ≢ 4
-    go w (Comes.over-limit i) e = omega arith
-    go w (Comes.no-room i j) e = omega (arith, thrice s)
-    go w (Comes.not-read p i j t y) e = y .other e
-    go w (Comes.read i j f) e = omega arith
+room-enough s room = call-room s (topValue s 0) room (value-bounded s)
 
 -- Within the limit, the answer is 4 exactly where the records that the reading finds have more bytes than the room.
 pub room-exact : (s : List ℕ) (room : ℕ) → length s ≤ limit.bytes → readOf s room .reading .answer ≡ 4 ↔ room < length (bytes (topValue s 0))
-room-exact s room h = go (readOf s room) (comes s room)
-  where
-    go : (w : Whole) → Comes s room w → w .reading .answer ≡ 4 ↔ room < length (bytes (topValue s 0))
-    go w (Comes.over-limit i) = absurd (omega arith)
-    go w (Comes.no-room i j) = (λ e. j, λ e. refl)
-    go w (Comes.not-read p i j t y) = (λ e. absurd (y .other e), λ e. absurd (omega arith))
-    go w (Comes.read i j f) = (λ e. absurd (omega arith), λ e. absurd (omega arith))
+room-exact s room = call-room-exact s (topValue s 0) room (value-bounded s)
 
 -- Where a room does, every larger room gives the same.
 pub room-more : (s : List ℕ) (room more : ℕ) → room ≤ more → readOf s room .reading .answer ≢ 4 → readOf s more ≡ readOf s room
@@ -127,33 +112,20 @@ room-more s = pick-more (leb (length s) limit.bytes) (refused 1) (settled-more (
 
 -- The answer is one of 0 to 5.
 pub answers : (s : List ℕ) (room : ℕ) → readOf s room .reading .answer ≤ 5
-answers s room = go (readOf s room) (comes s room)
+answers s room = call-answers s (topValue s 0) room (λ a. a ≤ 5) (omega arith) (omega arith) (omega arith) λ a p t. high (value-sober s .faults a p t)
   where
-    go : (w : Whole) → Comes s room w → w .reading .answer ≤ 5
-    go w (Comes.over-limit i) = omega arith
-    go w (Comes.no-room i j) = omega arith
-    go w (Comes.not-read p i j t y) = y .high
-    go w (Comes.read i j f) = omega arith
+    high : {a : ℕ} → Fault a → a ≤ 5
+    high Fault.short = omega arith
+    high Fault.malformed = omega arith
+    high Fault.too-deep = omega arith
 
 -- The answer is 1 exactly where the input is over the limit.
 pub over-limit : (s : List ℕ) (room : ℕ) → readOf s room .reading .answer ≡ 1 ↔ limit.bytes < length s
-over-limit s room = go (readOf s room) (comes s room)
-  where
-    go : (w : Whole) → Comes s room w → w .reading .answer ≡ 1 ↔ limit.bytes < length s
-    go w (Comes.over-limit i) = (λ e. i, λ e. refl)
-    go w (Comes.no-room i j) = (λ e. absurd (omega arith), λ e. absurd (omega arith))
-    go w (Comes.not-read p i j t y) = (λ e. absurd (omega arith), λ e. absurd (omega arith))
-    go w (Comes.read i j f) = (λ e. absurd (omega arith), λ e. absurd (omega arith))
+over-limit s room = call-over-limit s (topValue s 0) room (value-bounded s)
 
 -- A refusal uses no byte of the input and makes none of the image.
 pub refused-empty : (s : List ℕ) (room : ℕ) → readOf s room .reading .answer ≢ 0 → readOf s room ≡ refused (readOf s room .reading .answer)
-refused-empty s room = go (readOf s room) (comes s room)
-  where
-    go : (w : Whole) → Comes s room w → w .reading .answer ≢ 0 → w ≡ refused (w .reading .answer)
-    go w (Comes.over-limit i) ne = refl
-    go w (Comes.no-room i j) ne = refl
-    go w (Comes.not-read p i j t y) ne = refl
-    go w (Comes.read i j f) ne = absurd (ne refl)
+refused-empty s room = call-refused s (topValue s 0) room
 
 -- ---- places
 
@@ -180,17 +152,11 @@ local left x r q at n bs e l = go (soundness.sound left (x ++ r) at n bs e)
 -- So an accepted call comes to the same with other bytes behind those that it used.
 pub local-call : (x r q : List ℕ) (room : ℕ) → Bytes (x ++ r) → length (x ++ q) ≤ limit.bytes → readOf (x ++ r) room .reading .answer ≡ 0
     → readOf (x ++ r) room .reading .used ≤ length x → readOf (x ++ q) room ≡ readOf (x ++ r) room
-unfolding settled
-local-call x r q room bs h = go (readOf (x ++ r) room) (comes (x ++ r) room) refl
-  where
-    go : (w : Whole) → Comes (x ++ r) room w → readOf (x ++ r) room ≡ w → w .reading .answer ≡ 0 → w .reading .used ≤ length x
-        → readOf (x ++ q) room ≡ readOf (x ++ r) room
-    go w (Comes.over-limit i) e a u = absurd (omega arith)
-    go w (Comes.no-room i j) e a u = absurd (omega arith)
-    go w (Comes.not-read p i j t y) e a u = absurd (omega arith)
-    go w (Comes.read {n} i j f) e a u =
-        let same = local limit.levels x r q 0 n bs f u in
-        roomy (x ++ q) room h (rw same j) ∙ (ap (λ d. ended d (bytes d)) same ∙ sym (roomy (x ++ r) room i j))
+local-call x r q room bs h e u =
+    let t = call-takes (x ++ r) (topValue (x ++ r) 0) room (value-bounded (x ++ r)) e in
+    let same = local limit.levels x r q 0 (readOf (x ++ r) room .reading .used) bs (t .ends) u in
+    call-roomy (x ++ q) (topValue (x ++ q) 0) room h (rw same (t .fits))
+    ∙ (ap (λ d. ended d (bytes d)) same ∙ sym (call-roomy (x ++ r) (topValue (x ++ r) 0) room (t .small) (t .fits)))
 
 -- And it comes to the same on the bytes that it used alone.
 pub alone : (s : List ℕ) (room : ℕ) → Bytes s → readOf s room .reading .answer ≡ 0 → readOf (take (readOf s room .reading .used) s) room ≡ readOf s room
@@ -199,5 +165,5 @@ alone s room bs e =
     let m = sound s room bs e in
     let same : take n s ++ drop n s ≡ s = take-append-drop n s in
     let l : length (take n s) ≡ n = length-take-le n s (m .used) in
-    let short : length (take n s ++ []) ≤ limit.bytes = omega (arith, length-append (take n s) [], within s room e, m .used) in
+    let short : length (take n s ++ []) ≤ limit.bytes = omega (arith, length-append (take n s) [], call-takes s (topValue s 0) room (value-bounded s) e .small, m .used) in
     rw (append-nil (take n s), same) at (local-call (take n s) (drop n s) [] room (rw same bs) short (rw same e) (rw same (omega arith)))

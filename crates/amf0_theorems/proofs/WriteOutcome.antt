@@ -14,7 +14,7 @@ use Rattle.amf0.specs.Reading.{readOf}
 use Rattle.amf0.specs.Writing.{value, whole, writeOf}
 use Rattle.amf0.specs.Written.{write, Images}
 use Rattle.amf0_theorems.proofs.Telling.{reads}
-use Rattle.amf0.proofs.Outcome.{ended-at, Comes, comes, roomy, thrice}
+use Rattle.amf0_theorems.proofs.Call.{ended-at, value-bounded, call-roomy, call-takes}
 use Rattle.amf0_theorems.proofs.Puts.{Puts, then, puts}
 use Rattle.amf0_theorems.proofs.Spelling.{images, shown}
 
@@ -71,13 +71,15 @@ pub record Read (s : List ℕ) (room : ℕ) (w : Whole) : Type 0 where
   pub fits : length (w .bytes) ≤ room
 
 pub accepted-read : (s : List ℕ) (room : ℕ) → readOf s room .reading .answer ≡ 0 → Read s room (readOf s room)
-accepted-read s room = go (readOf s room) (comes s room)
-  where
-    go : (w : Whole) → Comes s room w → w .reading .answer ≡ 0 → Read s room w
-    go w (Comes.over-limit h) e = absurd (omega arith)
-    go w (Comes.no-room h i) e = absurd (omega arith)
-    go w (Comes.not-read p h i t y) e = absurd (omega arith)
-    go w (Comes.read h i f) e = record { text-size = h; made = refl; image-size = omega (arith, thrice s); fits = i }
+accepted-read s room e =
+    let t = call-takes s (reading.topValue s 0) room (value-bounded s) e in
+    let made = ap (λ (w : Whole). w .bytes) (t .result) in
+    record {
+      text-size = t .small;
+      made = made;
+      image-size = omega (arith, ap length made, value-bounded s .small, t .small);
+      fits = omega (arith, ap length made, t .fits);
+    }
 
 -- an encoding is read to its end
 pub read-all : {b : List ℕ} {t : Tree Sort.value} (room : ℕ) → Encodes Sort.value t b → depth t ≤ limit.levels → length b ≤ limit.bytes → 3 * length b ≤ room
@@ -85,7 +87,7 @@ pub read-all : {b : List ℕ} {t : Tree Sort.value} (room : ℕ) → Encodes Sor
 read-all {b} room e d l h =
     let g : Due = reading.topValue b 0 in
     let r = reads limit.levels b [] 0 e (record { same = sym (append-nil b) }) d in
-    roomy b room l (omega (arith, thrice b)) ∙ ended-at g (read.bytes g) (length b) (rw zero-add at (r .ends))
+    call-roomy b g room l (omega (arith, value-bounded b .small)) ∙ ended-at g (read.bytes g) (length b) (rw zero-add at (r .ends))
 
 -- ---- bytes in a room
 

@@ -4,6 +4,7 @@ use Rattle.wire.specs.Choice.{pick}
 use Rattle.wire.specs.Number.{Bytes}
 use Rattle.wire.specs.Limit as limit
 use Rattle.wire.proofs.Laws.{pick-yes, picked}
+use Rattle.image.specs.declared.record.Layout.{Layout}
 use Rattle.image.specs.declared.record.Record.{Record}
 use Rattle.image.specs.declared.taking.Taken.{Taken}
 use Rattle.image.specs.declared.taking.Taken.the-variants.{Found, Bad}
@@ -15,14 +16,16 @@ use Rattle.amf0.specs.declared.write.Rest.the-variants.{Nothing, Pairs, Dense, 
 use Rattle.amf0.specs.Shape.{Shape}
 use Rattle.amf0.specs.Shape as S
 use Rattle.amf0.specs.Standard.{Sort, Tree, depth}
-use Rattle.amf0.specs.Writing.{shapeOf, valueAt, taken, valued, paired, items, pairs, dense, rest, value, topValue, whole, writeOf}
+use Rattle.amf0.specs.Writing.{shapeOf, valueAt, taken, asked, valued, paired, items, pairs, dense, rest, value, topValue, whole, writeOf}
 use Rattle.amf0.specs.Written.{write, Images, Writable}
+use Rattle.amf0.proofs.Putting.{asked-both}
 use Rattle.amf0_theorems.specs.Unwritten.{Stops, Refused, Outcome, OutcomeOf}
 use Rattle.amf0_theorems.proofs.Puts.{Puts}
-use Rattle.amf0_theorems.proofs.WriteOutcome.{puts-bytes, image-puts}
+use Rattle.amf0_theorems.proofs.WriteOutcome.{puts-bytes, image-puts, sized-written}
 use Rattle.amf0_theorems.proofs.WriteSound.{Ends, image-of}
 use Rattle.amf0_theorems.proofs.WriteRefusal.{refused-by}
 use Rattle.amf0_theorems.proofs.WriteRefusing.{refuses-by}
+use Rattle.amf0_theorems.proofs.Settled.{Settled}
 
 -- ---- a refusal's answer
 
@@ -46,6 +49,9 @@ bind-refuses (put b d) k h g = bind-refuses d k h g
 pub taken-refuses : (at : ℕ) (t : Taken) (k : Record → ℕ → Out) → ((r : Record) (q : ℕ) → Refuses (k r q)) → Refuses (taken at t k)
 taken-refuses at (Found r c) k g = g r (c .at)
 taken-refuses at Bad k g = six
+
+pub asked-refuses : (image : List ℕ) (due at : ℕ) (k : Layout → ℕ → Out) → ((l : Layout) (q : ℕ) → Refuses (k l q)) → Refuses (asked image due at k)
+asked-refuses image due at k g = asked-both image due at (λ x y. Refuses x) k k six g
 
 valued-refuses : (at : ℕ) (h : Shape) (k : Row → Rest → Out) → ((w : Row) (f : Rest) → Refuses (k w f)) → Refuses (valued at h k)
 valued-refuses at (S.Value w f) k g = g w f
@@ -98,12 +104,15 @@ module _ (s image : List ℕ) where
       taken-refuses at (recordAt image at) _ λ r q. valued-refuses at (shapeOf r) _ λ w f.
       row-refuses w at _ (rest-refuses (value left image s) (value-refuses left) f q)
 
-  pub whole-refuses : (left : ℕ) → Refuses (whole image (value left image s 0))
-  whole-refuses left =
-      bind-refuses (value left image s 0) _ (value-refuses left 0) λ n.
-      picked Refuses (leb (length image) n) (end n) (stop 6 n) (λ e. tt) (λ e. six)
+-- bytes past the end are 6
+pub whole-refuses : (image : List ℕ) (d : Out) → Refuses d → Refuses (whole image d)
+whole-refuses image d h = bind-refuses d _ h λ n. picked Refuses (leb (length image) n) (end n) (stop 6 n) (λ e. tt) (λ e. six)
 
 -- ---- how a writing ends
+
+-- a call that settles a writing, where the text and the image are within their limits
+abbrev pub callOf : List ℕ → List ℕ → Out → ℕ → Written
+callOf image text d room = pick (leb (length text) limit.bytes) (pick (leb (length image) limit.image) (settled d room) (unwritten 1)) (unwritten 1)
 
 pub ended-either : (P : Written → Type 0) (d : Out) (b : List ℕ) (room : ℕ) → Refuses d → ((n : ℕ) → Ends d n → P (sized b room))
     → ((p : ℕ) → Stops d 5 p → P (unwritten 5)) → ((p : ℕ) → Stops d 6 p → P (unwritten 6)) → P (ended d b room)
@@ -142,14 +151,10 @@ settled-refusals d room a h o = (go d (bytes d) h, λ x. back d (bytes d) (x .0)
 
 -- and so does a call within the limits
 pub call-refusals : (image text : List ℕ) (d : Out) (room a : ℕ) (At : ℕ → Type 0) → Refuses d → length text ≤ limit.bytes → length image ≤ limit.image → Either a
-    → ((p : ℕ) → Stops d a p ↔ At p)
-    → pick (leb (length text) limit.bytes) (pick (leb (length image) limit.image) (settled d room) (unwritten 1)) (unwritten 1) ≡ unwritten a ↔ (p : ℕ) × At p
+    → ((p : ℕ) → Stops d a p ↔ At p) → callOf image text d room ≡ unwritten a ↔ (p : ℕ) × At p
 call-refusals image text d room a At r h i o each =
     let y = settled-refusals d room a r o in
-    rw (
-      pick-yes (length text) limit.bytes (pick (leb (length image) limit.image) (settled d room) (unwritten 1)) (unwritten 1) h,
-      pick-yes (length image) limit.image (settled d room) (unwritten 1) i,
-    )
+    rw (pick-yes (length text) limit.bytes (pick (leb (length image) limit.image) (settled d room) (unwritten 1)) (unwritten 1) h, pick-yes (length image) limit.image (settled d room) (unwritten 1) i)
     (λ e. let x = y .0 e in (x .0, each (x .0) .0 (x .1)), λ x. y .1 (x .0, each (x .0) .1 (x .1)))
 
 -- a writing is refused with one answer, at one place
@@ -178,39 +183,61 @@ module _ (image s : List ℕ) (room : ℕ) where
       (λ i. picked P (leb (length b) room) _ _ (λ j. h (leb-true _ _ i) (leb-true _ _ j)) (λ j. g (leb-true _ _ i) (leb-false _ _ j)))
       (λ i. f (leb-false _ _ i))
 
-  -- the call, with no word of trees
-  pub answered : (P : Written → Type 0) → P (unwritten 1) → P (unwritten 4) → P (unwritten 5) → P (unwritten 6)
-      → ((b : List ℕ) → length b ≤ room → P (written b)) → P (writeOf image s room)
-  unfolding settled
-  answered P one four five six done =
-      let d : Out = whole image (topValue image s 0) in
-      picked P (leb (length s) limit.bytes) _ _
-      (λ h. picked P (leb (length image) limit.image) _ _
-      (λ i. ended-either P d (bytes d) room (whole-refuses s image limit.levels)
-      (λ n e. sized-either P (bytes d) (λ j. one) (λ j k. four) (λ j k. done (bytes d) k)) (λ p e. five) (λ p e. six))
-      (λ i. one))
-      (λ h. one)
+  module _ (d : Out) (r : Refuses d) where
+    -- it is refused for a limit, ends or is refused
+    called : (P : Written → Type 0) → (limit.bytes < length s → P (unwritten 1)) → (limit.image < length image → P (unwritten 1))
+        → (length s ≤ limit.bytes → length image ≤ limit.image
+        → ((n : ℕ) → Ends d n → P (sized (bytes d) room)) × ((p : ℕ) → Stops d 5 p → P (unwritten 5)) × ((p : ℕ) → Stops d 6 p → P (unwritten 6)))
+        → P (callOf image s d room)
+    unfolding settled
+    called P f g go =
+        picked P (leb (length s) limit.bytes) _ _
+        (λ h. picked P (leb (length image) limit.image) _ _
+        (λ i. let x = go (leb-true _ _ h) (leb-true _ _ i) in ended-either P d (bytes d) room r (x .0) (x .1) (x .2)) (λ i. g (leb-false _ _ i)))
+        (λ h. f (leb-false _ _ h))
 
-  pub reasons : Bytes image → Outcome image s room (writeOf image s room)
-  unfolding settled
-  reasons bs =
-      let d : Out = whole image (topValue image s 0) in
-      let P : Written → Type 0 = Outcome image s room in
-      picked P (leb (length s) limit.bytes) _ _
-      (λ h. picked P (leb (length image) limit.image) _ _
-      (λ i. ended-either P d (bytes d) room (whole-refuses s image limit.levels)
-      (λ n e. tree (leb-true _ _ h) (leb-true _ _ i) (image-of s image bs limit.levels n e))
-      (λ p e. OutcomeOf.too-deep (leb-true _ _ h) (leb-true _ _ i) (refused-by s image bs 5 p e))
-      (λ p e. OutcomeOf.wrong (leb-true _ _ h) (leb-true _ _ i) (refused-by s image bs 6 p e)))
-      (λ i. OutcomeOf.image-over (leb-false _ _ i)))
-      (λ h. OutcomeOf.text-over (leb-false _ _ h))
-    where
-      tree : length s ≤ limit.bytes → length image ≤ limit.image → (t : Tree Sort.value) × Images s t image × (depth t ≤ limit.levels)
-          → Outcome image s room (sized (bytes (whole image (topValue image s 0))) room)
-      tree h i x =
-          let w : Writable image s (x .0) = record { text-size = h; image-size = i; images = x .1; deep = x .2 } in
-          rw (puts-bytes (image-puts limit.levels (x .1) λ l. omega (arith, x .2)))
-          (sized-either (Outcome image s room) (write (x .0)) (OutcomeOf.output-over w) (OutcomeOf.no-room w) (OutcomeOf.put-out w))
+    -- with no word of what is written
+    answered : (P : Written → Type 0) → P (unwritten 1) → P (unwritten 4) → P (unwritten 5) → P (unwritten 6) → ((b : List ℕ) → length b ≤ room → P (written b))
+        → P (callOf image s d room)
+    answered P one four five six done =
+        called P (λ h. one) (λ h. one) λ h i.
+        (λ n e. sized-either P (bytes d) (λ j. one) (λ j k. four) (λ j k. done (bytes d) k), λ p e. five, λ p e. six)
+
+    pub call-answers : let a = callOf image s d room .writing .answer in (a ≡ 0) ⊎ ((a ≡ 1) ⊎ ((a ≡ 4) ⊎ ((a ≡ 5) ⊎ (a ≡ 6))))
+    call-answers =
+        answered (λ w. let a = w .writing .answer in (a ≡ 0) ⊎ ((a ≡ 1) ⊎ ((a ≡ 4) ⊎ ((a ≡ 5) ⊎ (a ≡ 6)))))
+        (inr (inl refl)) (inr (inr (inl refl))) (inr (inr (inr (inl refl)))) (inr (inr (inr (inr refl)))) (λ b h. inl refl)
+
+    pub call-settled : Settled room (callOf image s d room)
+    call-settled =
+        answered (Settled room) (Settled.refused 1 λ e. omega arith) (Settled.refused 4 λ e. omega arith) (Settled.refused 5 λ e. omega arith)
+        (Settled.refused 6 λ e. omega arith) Settled.put-out
+
+    -- where it ends, the image holds something, which is put out
+    pub call-reasons : {A : Type 0} (Holds : A → Type 0) (of : A → List ℕ) (By : ℕ → ℕ → Type 0)
+        → (length s ≤ limit.bytes → length image ≤ limit.image → (n : ℕ) → Ends d n → (x : A) × Holds x × (bytes d ≡ of x))
+        → ((a p : ℕ) → Stops d a p → By a p) → OutcomeOf Holds of By image s room (callOf image s d room)
+    call-reasons Holds of By holds by =
+        let P : Written → Type 0 = OutcomeOf Holds of By image s room in
+        called P OutcomeOf.text-over OutcomeOf.image-over λ h i. (
+          λ n e.
+              let x = holds h i n e in
+              rw (x .2) (sized-either P (of (x .0)) (OutcomeOf.output-over (x .1)) (OutcomeOf.no-room (x .1)) (OutcomeOf.put-out (x .1))),
+          λ p e. OutcomeOf.too-deep h i (by 5 p e),
+          λ p e. OutcomeOf.wrong h i (by 6 p e),
+        )
+
+-- of the writing of a value
+pub value-refusing : (image s : List ℕ) → Refuses (whole image (topValue image s 0))
+value-refusing image s = whole-refuses image (topValue image s 0) (value-refuses s image limit.levels 0)
+
+pub reasons : (image s : List ℕ) (room : ℕ) → Bytes image → Outcome image s room (writeOf image s room)
+reasons image s room bs =
+    call-reasons image s room (whole image (topValue image s 0)) (value-refusing image s) (Writable image s) (λ t. write t) (Refused image s)
+    (λ h i n e.
+    let x = image-of s image bs limit.levels n e in
+    (x .0, record { text-size = h; image-size = i; images = x .1; deep = x .2 }, puts-bytes (image-puts limit.levels (x .1) λ l. omega (arith, x .2))))
+    (refused-by s image bs)
 
 -- ---- what a call comes to, whatever is asked for
 
@@ -225,6 +252,11 @@ module _ {A : Type 0} {Holds : A → Type 0} {put : A → List ℕ} {Refused : �
   holds w (OutcomeOf.output-over m h) e = absurd (omega arith)
   holds w (OutcomeOf.no-room m h i) e = absurd (omega arith)
   holds w (OutcomeOf.put-out {x = x} m h i) e = (x, m, h, i)
+
+  -- and exactly there, where what it holds is written as its bytes
+  pub accepted : (w : Written) → OutcomeOf Holds put Refused image text room w → ((x : A) → Holds x → w ≡ sized (put x) room)
+      → w .writing .answer ≡ 0 ↔ (x : A) × Holds x × (length (put x) ≤ limit.bytes) × (length (put x) ≤ room)
+  accepted w o f = (holds w o, λ x. ap (λ (v : Written). v .writing .answer) (f (x .0) (x .1) ∙ sized-written (put (x .0)) room (x .2) (x .3)))
 
   -- within the limits, where the image holds nothing and no record of it is wrong, a value is too deep
   pub only-deep : (w : Written) → OutcomeOf Holds put Refused image text room w → length text ≤ limit.bytes → length image ≤ limit.image

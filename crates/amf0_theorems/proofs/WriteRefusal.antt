@@ -1,5 +1,5 @@
 -- A writing that is refused is so by what stands at its place: the records before it begin a tree, and what is due behind them is not there.
-use Rattle.wire.proofs.Kit.{ℕ, zero, suc, _+_, _≤_, _≡_, refl, sym, ap, _∙_, _⊎_, inl, inr, List, [], _∷_, _++_, arith, length, drop, length-append, leb}
+use Rattle.wire.proofs.Kit.{ℕ, zero, suc, _+_, _≤_, _<_, _≡_, refl, sym, ap, _∙_, _⊎_, inl, inr, List, [], _∷_, _++_, arith, length, drop, length-append, leb}
 use Rattle.wire.proofs.Kit.{leb-false}
 use Rattle.wire.specs.Choice.{pick}
 use Rattle.wire.specs.Number.{Bytes}
@@ -11,12 +11,12 @@ use Rattle.image.specs.Record.{bytesOf}
 use Rattle.image.specs.Out.{Out, end, stop, put, _>>=_}
 use Rattle.image.proofs.Laws.{size-bytes, size-some}
 use Rattle.amf0.specs.declared.write.Rest.{Rest}
-use Rattle.amf0.specs.Standard.{Item, Sort, follows}
+use Rattle.amf0.specs.Standard.{Sort, Content, content, sortOf}
 use Rattle.amf0.specs.Shown.{laid, Named, Right}
 use Rattle.amf0.specs.Writing.{valueAt, items, pairs, dense, rest, value, topValue, whole}
-use Rattle.amf0.specs.Written.{Lead, lead}
+use Rattle.amf0.specs.Written.{Lead, leadOf}
 use Rattle.amf0.specs.Written.Lead.{keyed, keyless}
-use Rattle.amf0_theorems.specs.Unwritten.{Stops, Slot, Begins, Opens, Fronts, NoPair, Valued, Refuses, Refused}
+use Rattle.amf0_theorems.specs.Unwritten.{Stops, Slot, Begins, Opens, Fronts, NoPair, Valued, Refuses, RefusedBy, Refused}
 use Rattle.amf0_theorems.proofs.Says.{restOf}
 use Rattle.amf0_theorems.proofs.Puts.{laid-append, laid-length, right-both, one}
 use Rattle.amf0_theorems.proofs.WriteSound.{Ends, Stood, before, sound}
@@ -27,6 +27,20 @@ pub bind-stops : {P : Type 0} (d : Out) (k : ℕ → Out) (a p : ℕ) → Stops 
 bind-stops (end n) k a p h f g = g n refl h
 bind-stops (stop b q) k a p h f g = f h
 bind-stops (put b d) k a p h f g = bind-stops d k a p h f g
+
+-- or bytes of the image are left behind it
+pub whole-stops : {P : Type 0} (image : List ℕ) (d : Out) (a p : ℕ) → Stops (whole image d) a p → (Stops d a p → P)
+    → ((n : ℕ) → Ends d n → n < length image → a ≡ 6 → p ≡ n → P) → P
+whole-stops {P} image d a p e f g =
+    bind-stops d (λ n. pick (leb (length image) n) (end n) (stop 6 n)) a p e f λ n h.
+    picked (λ (x : Out). Stops x a p → P) (leb (length image) n) (end n) (stop 6 n) (λ i j. absurd j) (λ i j. g n h (leb-false (length image) n i) (j .0) (j .1))
+
+pub left-behind : {image x z : List ℕ} → Here image 0 x z → length x < length image → 1 ≤ length z
+left-behind {x} {z} h l = omega (arith, ap length (h .same), length-append x z)
+
+pub non-empty : (P : List ℕ → Type 0) (x : List ℕ) → 1 ≤ length x → ((b : ℕ) (y : List ℕ) → P (b ∷ y)) → P x
+non-empty P [] l f = absurd (omega arith)
+non-empty P (b ∷ x) l f = f b x
 
 -- a writing ends, or it is refused
 pub ends-or-stops : (d : Out) → ((n : ℕ) × Ends d n) ⊎ ((a : ℕ) × (p : ℕ) × Stops d a p)
@@ -83,6 +97,21 @@ module _ (s image : List ℕ) (bs : Bytes image) where
 
   unfoldable pub past-tree : {l : Lead} {k : Sort} {left at q p : ℕ} → Stood s image bs l k left at q → Reached q p → Reached at p
   past-tree y x = past-records (y .records) (y .right) (y .here) (y .next) x
+
+  -- an image that is refused by what stands behind records from its start on
+  pub refused-at : {S : Type 0} {O : List Record → S → Type 0} {R : S → List ℕ → ℕ → Type 0} {a p : ℕ} (d : S) (x : Reached 0 p) → O (x .records) d
+      → R d (x .rest) a → RefusedBy O R image s a p
+  refused-at d x o r =
+      record {
+        records = x .records;
+        rest = x .rest;
+        slot = d;
+        lies = x .here .same;
+        stands = omega (arith, x .place);
+        right = x .right;
+        opens = o;
+        refuses = r;
+      }
 
   -- a record that was taken takes a byte, and so does a tree that stood
   took-on : {at q : ℕ} {r : Record} → Took s image bs at r q → at + 1 ≤ q
@@ -169,27 +198,18 @@ module _ (s image : List ℕ) (bs : Bytes image) where
         halted (x .reached) (y .1) (y .2))
 
     -- what follows a value's own record, and then the value
-    rest-halt : (i : Item) (at a p : ℕ) → Stops (rest v image s (restOf i) at) a p → Halted (lead i) (follows i) left at a p
+    rest-halt : (c : Content) (at a p : ℕ) → Stops (rest v image s (restOf c) at) a p → Halted (leadOf c) (sortOf c) left at a p
     unfolding rest
-    rest-halt (Item.number c) at a p e = absurd e
-    rest-halt (Item.boolean b) at a p e = absurd e
-    rest-halt (Item.string t) at a p e = absurd e
-    rest-halt Item.object at a p e = pairs-halt (length image) at a p (omega arith) e
-    rest-halt Item.null at a p e = absurd e
-    rest-halt Item.undefined at a p e = absurd e
-    rest-halt (Item.reference c) at a p e = absurd e
-    rest-halt (Item.ecma-array c) at a p e = dense-halt (suc (length image)) 0 at a p (omega arith) e
-    rest-halt (Item.strict-array c) at a p e = items-halt c at a p e
-    rest-halt (Item.date c z) at a p e = absurd e
-    rest-halt Item.unsupported at a p e = absurd e
-    rest-halt (Item.xml-document t) at a p e = absurd e
-    rest-halt (Item.typed-object t) at a p e = pairs-halt (length image) at a p (omega arith) e
+    rest-halt Content.nothing at a p e = absurd e
+    rest-halt Content.named at a p e = pairs-halt (length image) at a p (omega arith) e
+    rest-halt Content.associative at a p e = dense-halt (suc (length image)) 0 at a p (omega arith) e
+    rest-halt (Content.ordered c) at a p e = items-halt c at a p e
 
     node-halt : {at q a p : ℕ} {r : Record} {f : Rest} → Took s image bs at r q → Value s r f → Stops (rest v image s f q) a p
         → Halted keyed Sort.value (suc left) at a p
     unfolding past-record
     node-halt {q} {a} {p} t y e =
-        let x = rest-halt (y .what) q a p (rw (y .follows) at e) in
+        let x = rest-halt (content (y .what)) q a p (rw (y .follows) at e) in
         halted (past-record t (y .named) (x .reached)) (Begins.node (y .looks) (x .begins)) (x .refuses)
 
   -- a value within the levels that are left
@@ -213,35 +233,10 @@ module _ (s image : List ℕ) (bs : Bytes image) where
   -- an image that is refused
   pub refused-by : (a p : ℕ) → Stops (whole image (topValue image s 0)) a p → Refused image s a p
   refused-by a p e =
-      bind-stops (topValue image s 0) (λ n. pick (leb (length image) n) (end n) (stop 6 n)) a p e
-      (λ f.
-      let x = value-halt limit.levels 0 a p f in
-      record {
-        records = x .reached .records;
-        rest = x .reached .rest;
-        slot = x .slot;
-        lies = x .reached .here .same;
-        stands = omega (arith, x .reached .place);
-        right = x .reached .right;
-        opens = Opens.inside (x .begins);
-        refuses = x .refuses;
-      })
-      (λ n f g.
+      whole-stops image (topValue image s 0) a p e
+      (λ f. let x = value-halt limit.levels 0 a p f in refused-at (x .slot) (x .reached) (Opens.inside (x .begins)) (x .refuses))
+      (λ n f l i j.
       let y = sound s image bs limit.levels 0 n f in
-      picked (λ (d : Out). Stops d a p → Refused image s a p) (leb (length image) n) (end n) (stop 6 n) (λ h i. absurd i)
-      (λ h i.
-      record {
-        records = y .records;
-        rest = y .rest;
-        slot = Slot.nothing;
-        lies = y .here .same;
-        stands = omega (arith, i .1, y .next);
-        right = y .right;
-        opens = Opens.behind (y .spells) (y .deep);
-        refuses = rw (i .0) (past (y .rest) (omega (arith, leb-false (length image) n h, ap length (y .here .same), length-append (laid (y .records)) (y .rest), y .next)));
-      })
-      g)
-    where
-      past : (x : List ℕ) → 1 ≤ length x → Refuses s Slot.nothing x 6
-      past [] l = absurd (omega arith)
-      past (b ∷ x) l = Refuses.past
+      let x : Reached 0 p = record { records = y .records; rest = y .rest; right = y .right; here = y .here; place = j ∙ y .next } in
+      refused-at Slot.nothing x (Opens.behind (y .spells) (y .deep))
+      (rw i (non-empty (λ z. Refuses s Slot.nothing z 6) (y .rest) (left-behind (y .here) (omega (arith, y .next))) λ b z. Refuses.past)))

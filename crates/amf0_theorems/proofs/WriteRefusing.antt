@@ -1,22 +1,21 @@
 -- What stands where something else is due refuses the writing, at its place.
-use Rattle.wire.proofs.Kit.{ℕ, zero, suc, _+_, _≤_, _<_, _≡_, refl, ap, _∙_, List, _∷_, _++_, true, false, arith, length, drop, length-append}
+use Rattle.wire.proofs.Kit.{ℕ, zero, suc, _+_, _≤_, _<_, _≡_, refl, ap, List, _∷_, _++_, arith, length, drop, length-append}
 use Rattle.wire.specs.Number.{Bytes}
 use Rattle.wire.specs.Limit as limit
 use Rattle.wire.proofs.Laws.{pick-no}
 use Rattle.wire.proofs.Stands.{Here, cut, skip, inside}
 use Rattle.image.specs.declared.record.Record.{Record}
 use Rattle.image.specs.Record.{size}
-use Rattle.image.specs.Out.{Out, end, stop, put, _>>=_, row}
+use Rattle.image.specs.Out.{Out, end, stop, put, _>>=_}
 use Rattle.image.proofs.Laws.{size-some}
 use Rattle.amf0.specs.declared.write.Rest.{Rest}
-use Rattle.amf0.specs.Standard.{Item, Sort, follows}
+use Rattle.amf0.specs.Standard.{Item, Sort}
 use Rattle.amf0.specs.Shown.{Word, look, laid, Right}
-use Rattle.amf0.specs.Writing.{valueAt, items, pairs, dense, rest, value, topValue, whole}
+use Rattle.amf0.specs.Writing.{items, pairs, dense, rest, value, topValue, whole}
 use Rattle.amf0.specs.Written.{Lead, lead}
 use Rattle.amf0.specs.Written.Lead.{keyed, keyless}
 use Rattle.amf0_theorems.specs.Unwritten.{Stops, Slot, Begins, Opens, Refuses, NoValue, NoPair, Refused}
-use Rattle.amf0_theorems.proofs.Says.{says, Itemed, Keyed}
-use Rattle.amf0_theorems.proofs.Puts.{Puts, part, kind-at, rest-part, first, others, puts, laid-append, laid-length, laid-size, right-left, right-right, one, value-begins}
+use Rattle.amf0_theorems.proofs.Puts.{Puts, part, others, value-first, key-first, item-kind, key-kind, puts, laid-append, laid-length, laid-size, right-left, right-right, one, value-begins}
 use Rattle.amf0_theorems.proofs.Seen.{valued-seen, not-seen, SeenValue, see-value, SeenPair, see-pair, took-fronts}
 
 -- ---- a writing and then another
@@ -74,28 +73,6 @@ module _ (s image : List ℕ) (bs : Bytes image) where
 
   -- ---- before the place
 
-  -- the record that stands first is a value's, or a key's
-  module _ {at : ℕ} (r : Record) (rs : List Record) (z : List ℕ) (h : Here image at (laid (r ∷ rs)) z) (g : Right s (r ∷ rs)) (a p : ℕ) where
-    node-stops : (left : ℕ) (i : Item) → look s r ≡ Word.item i
-        → Stops (part s image (value left image s) (length image) (lead i) (follows i) (at + size r)) a p → Stops (value (suc left) image s at) a p
-    unfolding value row
-    node-stops left i e q =
-        let w : Itemed s r i = rw e at (says s r (g .0) (g .1)) in
-        rw (first s image r rs z h (g .0), w .shape, w .named, rest-part s image (value left image s) i (at + size r)) q
-
-    key-stops : (v : ℕ → Out) (fuel : ℕ) (k : List ℕ) → look s r ≡ Word.name k → Stops (v (at + size r) >>= pairs v image s fuel) a p
-        → Stops (pairs v image s (suc fuel) at) a p
-    unfolding pairs row
-    key-stops v fuel k e q =
-        let w : Keyed s r k = rw e at (says s r (g .0) (g .1)) in
-        rw (first s image r rs z h (g .0), w .shape, w .named) q
-
-    value-kind : (i : Item) → look s r ≡ Word.item i → valueAt image at ≡ true
-    value-kind i e = let w : Itemed s r i = rw e at (says s r (g .0) (g .1)) in kind-at s image r rs z h ∙ w .kind
-
-    key-kind : (k : List ℕ) → look s r ≡ Word.name k → valueAt image at ≡ false
-    key-kind k e = let w : Keyed s r k = rw e at (says s r (g .0) (g .1)) in kind-at s image r rs z h ∙ w .kind
-
   -- where keys follow on values without one, as many are looked at as the image has bytes
   abbrev Tight : Lead → ℕ → Type 0
   Tight keyed n = Unit {0}
@@ -114,13 +91,13 @@ module _ (s image : List ℕ) (bs : Bytes image) where
   stops {z} {a} (Begins.node {left} {r = c} {i} {rs} e b) g r at p fuel h m f w =
       let o = laid-size c rs in
       let j = inside h (omega (arith, o, size-some c)) in
-      node-stops c rs z h g a p left i e
+      rw (value-first s image c rs z h left i e g)
       (stops b (g .2) r (at + size c) p (length image) (others s image c rs z h) (omega (arith, o)) (omega (arith, o, j, size-some c)) (tight (lead i) (omega (arith, o, j, size-some c))))
   stops {left} Begins.pair g r at p fuel h m f w = let e : p ≡ at = omega arith in rw e (pair-slot (value left image s) fuel at (h .same) (omega arith) r)
   stops (Begins.key e b) g r at p zero h m f w = absurd (omega arith)
   stops {left} {z} {a} (Begins.key {r = c} {k} {rs} e b) g r at p (suc fuel) h m f w =
       let o = laid-size c rs in
-      key-stops c rs z h g a p (value left image s) fuel k e
+      rw (key-first s image c rs z h (value left image s) fuel k e g)
       (stops-first (value left image s (at + size c)) (pairs (value left image s) image s fuel) a p
       (stops b (g .2) r (at + size c) p (suc (length (laid rs))) (others s image c rs z h) (omega (arith, o)) (omega arith) tt))
   stops (Begins.property e c n b) g r at p zero h m f w = absurd (omega arith)
@@ -129,7 +106,7 @@ module _ (s image : List ℕ) (bs : Bytes image) where
       let o = laid-size c (rs ++ qs) in
       let q : ℕ = at + size c in
       let j : Here image q (laid rs ++ laid qs) z = rw (laid-append rs qs) at (others s image c (rs ++ qs) z h) in
-      key-stops c (rs ++ qs) z h g a p (value left image s) fuel k e
+      rw (key-first s image c (rs ++ qs) z h (value left image s) fuel k e g)
       (stops-then (puts s image t (right-left s rs qs (g .2)) (laid qs ++ z) q (q + length (laid rs)) left fuel (cut (laid rs) (laid qs) j) refl (λ i. omega arith) (omega (arith, size-some c)))
       (pairs (value left image s) image s fuel) a p
       (stops b (right-right s rs qs (g .2)) r (q + length (laid rs)) p fuel (skip (laid rs) (laid qs) j) (omega arith) (omega (arith, size-some c)) tt))
@@ -144,7 +121,7 @@ module _ (s image : List ℕ) (bs : Bytes image) where
   stops {left} (Begins.either {n = k}) g r at p fuel h m f w = let e : p ≡ at = omega arith in rw e (either-slot left fuel k at (h .same) (omega arith) r)
   stops {left} {z} {a} (Begins.lone {n = k} {r = c} {rs} b) g r at p fuel h m f w =
       let i = first-item b in
-      rw (value-kind c rs z h g a p (i .0) (i .1))
+      rw (item-kind s image c rs z h (i .0) (i .1) g)
       (stops-first (value left image s at) (dense (value left image s) image s fuel (k + 1)) a p (stops b g r at p fuel h m f tt))
   stops (Begins.dense t n b) g r at p zero h m f w = absurd (omega arith)
   stops {left} {z} {a} (Begins.dense {n = k} {v} {rs} {qs} t n b) g r at p (suc fuel) h m f w =
@@ -159,7 +136,7 @@ module _ (s image : List ℕ) (bs : Bytes image) where
       (stops b (right-right s rs qs g) r (at + length (laid rs)) p fuel (skip (laid rs) (laid qs) j) (omega arith) (omega arith) (omega arith)))
   stops {left} {z} {a} (Begins.pairs {n = k} {r = c} {rs} b) g r at p fuel h m f w =
       let i = first-key b in
-      rw (key-kind c rs z h g a p (i .0) (i .1)) (stops b g r at p (length image) h m w tt)
+      rw (key-kind s image c rs z h (i .0) (i .1) g) (stops b g r at p (length image) h m w tt)
 
   -- a value
   pub value-stops : {left : ℕ} {rs : List Record} {d : Slot} {z : List ℕ} {a : ℕ} → Begins s left keyed Sort.value rs d → Right s rs → Refuses s d z a

@@ -10,25 +10,23 @@ use Rattle.image.specs.declared.record.Record.the-variants as R
 use Rattle.image.specs.Out.{Written, written, unwritten, sized}
 use Rattle.image.specs.Whole.{Whole, bytes}
 use Rattle.amf0.specs.Standard.{Item, Sort, Tree, depth, Encodes}
-use Rattle.amf0.specs.Shown.{laid, Right, Shows}
+use Rattle.amf0.specs.Shown.{laid, Right}
 use Rattle.amf0.specs.Reading as reading
 use Rattle.amf0.specs.Reading.{readOf}
 use Rattle.amf0.specs.Writing.{topValue, whole, writeOf}
 use Rattle.amf0.specs.Written.{write, Shortest, Spells, Images, Writable, Over, numbered, Alike, rewriteOf}
 use Rattle.amf0.specs.Written.Lead.{keyed, keyless}
 use Rattle.amf0_theorems.specs.Unwritten.{Stops, Slot, Begins, Opens, Refuses, Refused, Outcome, OutcomeOf}
-use Rattle.amf0.proofs.Outcome.{thrice}
+use Rattle.amf0_theorems.proofs.Call.{value-bounded}
 use Rattle.amf0_theorems.proofs.Alike.{read-alike}
 use Rattle.amf0_theorems.proofs.Shortest.{encoded, least}
-use Rattle.amf0_theorems.proofs.Spelling as spelling
 use Rattle.amf0_theorems.proofs.WriteOutcome.{puts-bytes, image-puts, image-written, read-image, accepted-read, read-all, sized-written, written-sized}
 use Rattle.amf0_theorems.proofs.WriteReasons as because
-use Rattle.amf0_theorems.proofs.WriteReasons.{call-refusals, whole-refuses, stops-once, answered, reasons, holds, only-deep}
+use Rattle.amf0_theorems.proofs.WriteReasons.{call-refusals, stops-once, reasons, only-deep, call-settled, accepted, call-answers, value-refusing}
 use Rattle.amf0_theorems.proofs.WriteSound.{image-of}
 use Rattle.amf0_theorems.proofs.WriteRefusal.{ends-or-stops, no-front, refused-by}
 use Rattle.amf0_theorems.proofs.WriteRefusing.{refuses-by}
 use Rattle.amf0_theorems.proofs.Settled.{Settled}
-use Rattle.amf0_theorems.proofs.Settled.Settled.{refused, put-out}
 use Rattle.amf0_theorems.proofs.Theorems.{Means, sound, unique}
 
 -- ---- the writing and the standard
@@ -44,10 +42,6 @@ written-tree image text t room w = (
   image-written room (w .images) (w .deep) (w .text-size) (w .image-size),
   shortest image text t (w .images) (w .image-size),
 )
-
--- What shows a tree, as the image of a reading does, is an image of that tree.
-pub shown-images : (s image : List ℕ) (t : Tree Sort.value) → Shows s t image → Images s t image
-shown-images s image t = spelling.images
 
 -- No image is that of two trees.
 pub one-tree : (image text : List ℕ) (t u : Tree Sort.value) → length image ≤ limit.image → Images text t image → Images text u image → t ≡ u
@@ -120,7 +114,7 @@ written-back image text b t out more w f h =
       used = refl;
       encodes = e;
       writable =
-          record { text-size = l; image-size = omega (arith, thrice b); images = read-image e (record { same = sym (append-nil b) }) (w .deep) l; deep = w .deep };
+          record { text-size = l; image-size = omega (arith, value-bounded b .small); images = read-image e (record { same = sym (append-nil b) }) (w .deep) l; deep = w .deep };
     })
 
 -- And to write that once more puts out the same bytes.
@@ -190,9 +184,7 @@ again s b room out more once bs e f =
 -- The answer is one of 0, 1, 4, 5 and 6.
 pub write-answers : (image text : List ℕ) (room : ℕ)
     → let a = writeOf image text room .writing .answer in (a ≡ 0) ⊎ ((a ≡ 1) ⊎ ((a ≡ 4) ⊎ ((a ≡ 5) ⊎ (a ≡ 6))))
-write-answers image text room =
-    answered image text room (λ w. let a = w .writing .answer in (a ≡ 0) ⊎ ((a ≡ 1) ⊎ ((a ≡ 4) ⊎ ((a ≡ 5) ⊎ (a ≡ 6)))))
-    (inr (inl refl)) (inr (inr (inl refl))) (inr (inr (inr (inl refl)))) (inr (inr (inr (inr refl)))) (λ b h. inl refl)
+write-answers image text room = call-answers image text room (whole image (topValue image text 0)) (value-refusing image text)
 
 -- The writing is refused with an answer at a place exactly where the records before it begin a tree, and what stands there is not what is due and gives
 -- that answer.
@@ -240,7 +232,7 @@ write-reasons = reasons
 pub write-refusals : (image text : List ℕ) (room a : ℕ) → Bytes image → length text ≤ limit.bytes → length image ≤ limit.image → (a ≡ 5) ⊎ (a ≡ 6)
     → writeOf image text room ≡ unwritten a ↔ (p : ℕ) × Refused image text a p
 write-refusals image text room a bs h i o =
-    call-refusals image text (whole image (topValue image text 0)) room a (Refused image text a) (whole-refuses text image limit.levels) h i o λ p.
+    call-refusals image text (whole image (topValue image text 0)) room a (Refused image text a) (value-refusing image text) h i o λ p.
     refusal image text a p bs
 
 -- The answer is 1 exactly where the text or the image is over its limit, or the image is that of a tree whose bytes are.
@@ -267,10 +259,8 @@ write-over image text room bs = (go (writeOf image text room) (reasons image tex
 -- A write is accepted exactly where the image is that of a tree whose bytes are within the limit and the room.
 pub write-accepted : (image text : List ℕ) (room : ℕ) → Bytes image → writeOf image text room .writing .answer ≡ 0
     ↔ (t : Tree Sort.value) × Writable image text t × (length (write t) ≤ limit.bytes) × (length (write t) ≤ room)
-write-accepted image text room bs = (
-  holds (writeOf image text room) (reasons image text room bs),
-  λ x. ap (λ (w : Written). w .writing .answer) (written-tree image text (x .0) room (x .1) .0 ∙ sized-written (write (x .0)) room (x .2) (x .3)),
-)
+write-accepted image text room bs =
+    accepted (writeOf image text room) (reasons image text room bs) λ t w. written-tree image text t room w .0
 
 -- Within the limits, the image of a tree that is too deep is refused with 5.
 pub write-deep : (image text : List ℕ) (t : Tree Sort.value) (room : ℕ) → Bytes image → length text ≤ limit.bytes → length image ≤ limit.image
@@ -283,5 +273,4 @@ write-deep image text t room bs h i m d =
 
 -- A refused write counts 0 and has no byte of an output; an accepted one counts the bytes that it has of it, and they have room.
 pub write-settled : (image text : List ℕ) (room : ℕ) → Settled room (writeOf image text room)
-write-settled image text room =
-    answered image text room (Settled room) (refused 1 λ e. omega arith) (refused 4 λ e. omega arith) (refused 5 λ e. omega arith) (refused 6 λ e. omega arith) put-out
+write-settled image text room = call-settled image text room (whole image (topValue image text 0)) (value-refusing image text)

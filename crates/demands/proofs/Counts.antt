@@ -5,12 +5,14 @@ use Rattle.wire.specs.Limit as limit
 use Rattle.wire.specs.Text.{insideOf}
 use Rattle.wire.proofs.Laws.{picked}
 use Rattle.image.specs.Due.{Due, end, stop, due}
-use Rattle.image.specs.Whole.{Whole, bytes, accepted, refused, ended, settled}
+use Rattle.image.specs.Whole.{Whole, bytes, accepted, refused, ended, settled, all}
 use Rattle.amf0.specs.Reading.{readOf}
+use Rattle.amf0.specs.Span.{judge}
 use Rattle.lso.specs.Reading as lso
-use Rattle.lso.specs.Reading.{End, Body}
+use Rattle.lso.specs.Reading.{Body}
 use Rattle.packet.specs.Reading as packet
-use Rattle.packet.specs.Entry.{Cut, found, stops, cutOf, judge, entryIn, readSpan, readEntry}
+use Rattle.packet.specs.Entry.{Cut, found, stops, cutOf, entryIn, readSpan, readEntry}
+use Rattle.image.proofs.Settle.{on-case, all-cases}
 
 -- it counts the bytes that it has
 pub record Counts (w : Whole) : Type 0 where
@@ -36,6 +38,10 @@ settled-counts : (d : Due) (room : ℕ) → Counts (settled d room)
 unfolding settled
 settled-counts d room = either (leb (length (bytes d)) room) _ _ (ended-counts d (bytes d)) (none 4)
 
+-- to the end of an input
+all-counts : (s : List ℕ) (w : Whole) → Counts w → Counts (all s w)
+all-counts s w h = all-cases s w Counts (λ a. h) (λ a l. none 3) (λ a l. h)
+
 -- a judgement
 judge-counts : (n : ℕ) (w : Whole) → Counts w → Counts (judge n w)
 judge-counts n w h =
@@ -54,10 +60,7 @@ packet-incomplete-counts s room = either (leb (length s) limit.bytes) _ _ (settl
 -- of a packet,
 pub packet-counts : (s : List ℕ) (room : ℕ) → Counts (packet.wholeOf s room)
 unfolding packet.wholeOf
-packet-counts s room =
-    let w = packet.incompleteOf s room in
-    let h = packet-incomplete-counts s room in
-    either (eqb (w .reading .answer) 0) _ _ (either (leb (length s) (w .reading .used)) _ _ h (none 3)) h
+packet-counts s room = all-counts s _ (packet-incomplete-counts s room)
 
 -- of a part of a packet,
 pub span-counts : (s : List ℕ) (place n room : ℕ) → Counts (readSpan s place n room)
@@ -77,23 +80,17 @@ entry-counts s number room = go (cutOf s)
 -- of the beginning of an input, as a file,
 pub file-incomplete-counts : (s : List ℕ) (room : ℕ) → Counts (lso.incompleteOf s room)
 unfolding lso.incompleteOf
-file-incomplete-counts s room = either (leb (length s) limit.bytes) _ _ (go (lso.endOf (lso.headerAt s))) (none 1)
-  where
-    ending : (e : End) (w : Whole) → Counts w → Counts (lso.ending e w)
-    ending (End.ends n) w h = h
-    ending (End.stops a) w h = either (eqb a 2) _ _ h (either (eqb a 3) _ _ h (none a))
-
-    go : (e : End) → Counts (lso.headed e s room)
-    go (End.stops a) = none a
-    go (End.ends p) =
-        let b : Body = lso.bodyAt s (length s) p in
-        either (leb (length (lso.everDue s p)) room) _ _
-        (ending (lso.endOf (b .tried)) (accepted (b .at) (bytes (lso.headerAt s) ++ b .taken)) (record { same = refl })) (none 4)
+file-incomplete-counts s room =
+    either (leb (length s) limit.bytes) _ _
+    (on-case Counts (lso.headerAt s) _ _
+    (λ p e.
+    let b : Body = lso.bodyAt s (length s) p in
+    let w : Counts (accepted (b .at) (bytes (lso.headerAt s) ++ lso.kept (b .elements))) = record { same = refl } in
+    either (leb (length (lso.everDue s p)) room) _ _
+    (on-case Counts (b .tried) _ _ (λ n f. w) (λ a q f. either (eqb a 2) _ _ w (either (eqb a 3) _ _ w (none a)))) (none 4))
+    (λ a p e. none a)) (none 1)
 
 -- and of a file.
 pub file-counts : (s : List ℕ) (room : ℕ) → Counts (lso.wholeOf s room)
 unfolding lso.wholeOf
-file-counts s room =
-    let w = lso.incompleteOf s room in
-    let h = file-incomplete-counts s room in
-    either (eqb (w .reading .answer) 0) _ _ (either (leb (length s) (w .reading .used)) _ _ h (none 3)) h
+file-counts s room = all-counts s _ (file-incomplete-counts s room)

@@ -29,8 +29,10 @@ use Rattle.packet.specs.Reading as packet
 use Rattle.packet.specs.Entry.{spanOf, readSpan, readEntry}
 use Rattle.packet.specs.Writing as packet-write
 use Rattle.packet.specs.Written as packet-writing
-use Rattle.packet_theorems.proofs.Theorems.{entry-takes, span-takes, entry-span}
-use Rattle.packet_theorems.proofs.EntryTrip as trips
+use Rattle.packet_theorems.proofs.Theorems.{entry-takes, span-takes}
+use Rattle.amf0_theorems.proofs.Spans.{TakesSpan}
+use Rattle.amf0_theorems.proofs.SpanTrip.{span-write}
+use Rattle.packet_theorems.proofs.WriteOutcome.{read-whole, read-incomplete}
 use Rattle.packet_theorems.proofs.PacketTheorems as packets
 use Rattle.packet_theorems.proofs.WriteTheorems as packets-write
 use Rattle.demands.specs.Forms.{made, sent}
@@ -158,27 +160,26 @@ file-incomplete-fewer s room out bs z l = let g = files-write.accepted-write-inc
 -- a packet that was read whole,
 pub packet-fewer : (exact : Bool) (s : List ℕ) (room out : ℕ) → Bytes s → packet.wholeOf s room .reading .answer ≡ 0 → packet.wholeOf s room .reading .used ≤ out
     → Fewer (packet.wholeOf s room) (packet-write.writeOf (packet.wholeOf s room .bytes) s exact out)
-packet-fewer exact s room out bs z l = let g = packets-write.accepted-write s room exact out bs z l in (g .answer, g .fewer)
+packet-fewer exact s room out bs z l = let g = packets-write.accepted-write (read-whole s room bs z) exact out l in (g .answer, g .fewer)
 
 -- and one as far as it was used
 pub packet-incomplete-fewer : (exact : Bool) (s : List ℕ) (room out : ℕ) → Bytes s → packet.incompleteOf s room .reading .answer ≡ 0
     → packet.incompleteOf s room .reading .used ≤ out → Fewer (packet.incompleteOf s room) (packet-write.writeOf (packet.incompleteOf s room .bytes) s exact out)
-packet-incomplete-fewer exact s room out bs z l = let g = packets-write.accepted-write-incomplete s room exact out bs z l in (g .answer, g .fewer)
+packet-incomplete-fewer exact s room out bs z l = let g = packets-write.accepted-write (read-incomplete s room bs z) exact out l in (g .answer, g .fewer)
+
+-- What was accepted in a span is written, in no more bytes.
+fewer : {s : List ℕ} {place n room : ℕ} {w : Whole} (out : ℕ) → TakesSpan s place n room w → Bytes s → w .reading .used ≤ out → Fewer w (amf0.writeOf (w .bytes) s out)
+fewer {s} {place} {n} {room} {w} out t bs l =
+    let used = ap (λ (w : Whole). w .reading .used) (t .takes .same) in
+    let g = span-write s place n room w bs t out (omega arith) in
+    rw (g .writes) (refl, omega (arith, g .fewer))
 
 -- The value of a part of a packet,
 pub span-fewer : (place n : ℕ) (s : List ℕ) (room out : ℕ) → Bytes s → readSpan s place n room .reading .answer ≡ 0
     → readSpan s place n room .reading .used ≤ out → Fewer (readSpan s place n room) (amf0.writeOf (readSpan s place n room .bytes) s out)
-span-fewer place n s room out bs z l =
-    let used = ap (λ (w : Whole). w .reading .used) (span-takes s place n room z .same) in
-    let g = trips.span-write s place n room bs z out (omega arith) in
-    rw (g .writes) (refl, omega (arith, g .fewer))
+span-fewer place n s room out bs z l = fewer out (span-takes s place n room z) bs l
 
 -- and that of an entry
 pub entry-fewer : (k : ℕ) (s : List ℕ) (room out : ℕ) → Bytes s → readEntry s k room .reading .answer ≡ 0 → readEntry s k room .reading .used ≤ out
     → Fewer (readEntry s k room) (amf0.writeOf (readEntry s k room .bytes) s out)
-entry-fewer k s room out bs z l =
-    let t = entry-takes s k room z in
-    let same = entry-span s k room (t .entry) (t .found) in
-    rw same at
-    (span-fewer (t .entry .place) (t .entry .length) s room out bs (ap (λ (w : Whole). w .reading .answer) same ∙ z)
-    (rw (ap (λ (w : Whole). w .reading .used) same) l))
+entry-fewer k s room out bs z l = fewer out (entry-takes s k room z .holds) bs l

@@ -1,5 +1,5 @@
 -- Demand 3 of the calls: two packets, and what the calls give for the one and for the other.
-use Rattle.wire.proofs.Kit.{ℕ, suc, _+_, _/_, _≤_, _<_, _≡_, refl, sym, ap, _∙_, _≢_, List, [], _∷_, _++_, sub-zero, arith, length, getD, take, replicate}
+use Rattle.wire.proofs.Kit.{ℕ, suc, _+_, _/_, _≤_, _<_, _≡_, refl, sym, ap, _∙_, _≢_, List, [], _∷_, _++_, map, sub-zero, arith, length, getD, take, replicate}
 use Rattle.wire.proofs.Kit.{length-take, ltb, le-ltb, ltb-true}
 use Rattle.wire.proofs.Laws.{picked}
 use Rattle.wire.specs.Number.{Bytes}
@@ -9,14 +9,15 @@ use Rattle.image.specs.declared.reading.Reading.{Reading}
 use Rattle.image.specs.declared.record.Record.the-variants as R
 use Rattle.image.specs.Record.{bytesOf}
 use Rattle.image.specs.Whole.{Whole, refused}
+use Rattle.amf0.specs.Span.{Changed}
 use Rattle.packet.specs.declared.head.Entry.{Entry}
 use Rattle.packet.specs.declared.entry.Cutting.{Cutting}
 use Rattle.packet.specs.declared.entry.Found.{Found}
 use Rattle.packet.specs.declared.entry.Found.the-variants as Found
 use Rattle.packet.specs.Reading.{wholeOf}
-use Rattle.packet.specs.Entry.{Cut as PacketCut, found, stops, cutOf, noEntry, Listed, listOf, foundIn, spanOf, readSpan, readEntry}
+use Rattle.packet.specs.Entry.{Cut as PacketCut, found, stops, cutOf, noEntry, Listed, listOf, foundIn, span, spanOf, readSpan, readEntry}
 use Rattle.packet.specs.Change as change
-use Rattle.packet.specs.Change.{Changed, imagesFrom}
+use Rattle.packet.specs.Change.{imagesFrom}
 use Rattle.packet.proofs.Laws.{Splits, cut-told as cut-splits, entry-chosen}
 use Rattle.packet_theorems.specs.Cuts.{CutInto, Exact}
 use Rattle.packet_theorems.proofs.Demand3 as packets
@@ -74,7 +75,7 @@ found-in {s} {k} {e} a = go (cutOf s) refl (nth-told a)
 
 -- "Take a packet that its declared lengths cut exactly. Change bytes inside any of its values and nothing else."
 module _ (s t : List ℕ) (list left : List Entry) (c : Cutting) (call : Cut s list c left) (ok : c .answer ≡ 0)
-    (change : Changed (take (c .count) left) s t) where
+    (change : Changed (map span (take (c .count) left)) s t) where
   -- its entries,
   abbrev es : List Entry
   es = take (c .count) left
@@ -189,14 +190,14 @@ cut-span s list c left k a h i j x y r q b d =
     (span-reads (e .place) (e .length) .told s j q y d)
 
 -- Where bytes inside one value alone are changed, one marker or all of it, every other entry answers as before.
-pub neighbours : (s t : List ℕ) (m k : ℕ) (d e : Entry) → Nth s m (Found.Is d) → Changed (d ∷ []) s t → Nth s k (Found.Is e) → k ≢ m
+pub neighbours : (s t : List ℕ) (m k : ℕ) (d e : Entry) → Nth s m (Found.Is d) → Changed (span d ∷ []) s t → Nth s k (Found.Is e) → k ≢ m
     → Same (ParseEntry s k) (ParseEntry t k)
 neighbours s t m k d e a change b other i j x y r q u v =
     let f = found-in a in
     let g = found-in b in
     let h : found (f .entries) (f .ends) ≡ found (g .entries) (g .ends) = sym (f .cut) ∙ g .cut in
     let same : g .entries ≡ f .entries = cc in
-    let part : Changed (getD (f .entries) m noEntry ∷ []) s t = rw (f .same) at change in
+    let part : Changed (span (getD (f .entries) m noEntry) ∷ []) s t = rw (f .same) at change in
     same-read (λ room. packets.neighbours s t (f .entries) (f .ends) m (f .cut) (f .below) part k room (rw same at (g .below)) other) i j x y r q
     (entry-reads k .told s i r x u) (entry-reads k .told t j q y v)
 

@@ -26,6 +26,7 @@ use Rattle.lso_theorems.proofs.Reasons as files-why
 use Rattle.lso_theorems.proofs.Theorems as files
 use Rattle.lso_theorems.proofs.WriteTheorems as files-write
 use Rattle.lso_theorems.proofs.Room as files-room
+use Rattle.amf0.specs.Span.{Changed}
 use Rattle.packet.specs.declared.head.Entry.{Entry}
 use Rattle.packet.specs.declared.entry.Cutting.{Cutting}
 use Rattle.packet.specs.declared.entry.Found.{Found}
@@ -33,8 +34,7 @@ use Rattle.packet.specs.declared.entry.Found.the-variants as Found
 use Rattle.packet.specs.Packet.{Packet, Encoded}
 use Rattle.packet.specs.Shown.{Within}
 use Rattle.packet.specs.Reading.{packetAt}
-use Rattle.packet.specs.Entry.{noEntry, spanOf}
-use Rattle.packet.specs.Change.{Changed}
+use Rattle.packet.specs.Entry.{noEntry, span, spanOf}
 use Rattle.packet_theorems.specs.Cuts.{CutInto, Exact}
 use Rattle.packet_theorems.specs.Refusal.{Seven, RefusedCut}
 use Rattle.packet_theorems.specs.Why as packet-why
@@ -48,6 +48,7 @@ use Rattle.packet_theorems.proofs.PacketTheorems as packets
 use Rattle.packet_theorems.proofs.WriteTheorems as packets-write
 use Rattle.packet_theorems.proofs.Room as packets-room
 use Rattle.packet_theorems.proofs.EntryTrip as trips
+use Rattle.packet_theorems.proofs.WriteOutcome.{read-whole, read-incomplete}
 use Rattle.index.specs.declared.make.Indexing.{Indexing}
 use Rattle.demands.specs.Inputs.{IsValue, HasValue, IsFile, IsHeader, IsPacket, IsCut, Cuttable, WrongFile, TightFile, TightCut, HoldsValue, HoldsFile, HoldsPacket}
 use Rattle.demands.specs.Examples.{table}
@@ -67,6 +68,7 @@ use Rattle.demands.proofs.CDemand1 as c
 use Rattle.demands.proofs.Demand2 as two
 use Rattle.demands.proofs.Demand2.{Means}
 use Rattle.demands.proofs.Demand3 as three
+use Rattle.amf0_theorems.proofs.SpanTrip as span-trips
 
 -- ---- 1. "Every public call ends on every input; readers and writers answer from [the table of answers]. None relies on a check made by the caller. A refused
 -- read leaves the tree buffer all zeros; a refused write leaves the output as it was found." The table is the rule "Answers" (docs/DEMANDS.md).
@@ -353,7 +355,7 @@ demand1 =
 
 -- a round trip of the entry with a number
 abbrev pub EntryTrip : ℕ → List ℕ → List ℕ → Whole → Whole → Type 0
-EntryTrip k s b v w = trips.OfEntry s k λ e. trips.SpanTrip s (e .place) (e .length) b v w
+EntryTrip k s b v w = calls.OfEntry s k λ e. span-trips.SpanTrip s (e .place) (e .length) b v w
 
 pub record Demand2 : Type 0 where
   -- The readers and writers give what the Rust gives: the definitions under specs/ are the rules of docs/DEMANDS.md, the contracts are equations with them, and
@@ -419,7 +421,7 @@ pub record Demand2 : Type 0 where
       → Returns PacketParseIncomplete (λ i t. PacketWrite i t exact) PacketParse λ s b. packets-write.RoundTrip s b exact
   -- So does the tree of an entry, and that of a part of a packet: it is written as a value, and reads back as one.
   pub entry-trip : (k : ℕ) → Returns (λ s. ParseEntry s k) WriteValue ParseSingleElement (EntryTrip k)
-  pub span-trip : (p n : ℕ) → Returns (λ s. ParseSpan s p n) WriteValue ParseSingleElement λ s. trips.SpanTrip s p n
+  pub span-trip : (p n : ℕ) → Returns (λ s. ParseSpan s p n) WriteValue ParseSingleElement λ s. span-trips.SpanTrip s p n
   -- More room changes nothing, nor does a longer list.
   pub value-wider : Wider ParseSingleElement
   pub file-wider : Wider LsoParse
@@ -473,24 +475,27 @@ demand2 =
           files-write.round-trip-incomplete files-room.round-trip-any-incomplete files-room.same-room-incomplete files-room.again-any-incomplete;
       packet-trip = λ exact.
           law.returns packet-reads (packet-puts exact) packet-reads (λ s b. packets-write.RoundTrip s b exact) (two.packet-fewer exact)
-          (λ s b room. packets-write.round-trip s b room exact) (λ s b room out more bs. packets-room.round-trip-any s b room exact out bs more)
-          (λ s b room. packets-room.same-room s b room exact) λ s b room out more once bs. packets-room.again-any s b room exact out bs more once;
+          (λ s b room out more bs e f. packets-write.round-trip (read-whole s room bs e) exact b out f more)
+          (λ s b room out more bs e f. packets-room.round-trip-any (read-whole s room bs e) exact b out f more)
+          (λ s b room out bs e. packets-room.same-room (read-whole s room bs e) exact b out)
+          λ s b room out more once bs e f. packets-room.again-any (read-whole s room bs e) exact b out f more once;
       packet-incomplete-trip = λ exact.
           law.returns packet-incomplete-reads (packet-puts exact) packet-reads (λ s b. packets-write.RoundTrip s b exact) (two.packet-incomplete-fewer exact)
-          (λ s b room. packets-write.round-trip-incomplete s b room exact)
-          (λ s b room out more bs. packets-room.round-trip-any-incomplete s b room exact out bs more)
-          (λ s b room. packets-room.same-room-incomplete s b room exact)
-          λ s b room out more once bs. packets-room.again-any-incomplete s b room exact out bs more once;
+          (λ s b room out more bs e f. packets-write.round-trip (read-incomplete s room bs e) exact b out f more)
+          (λ s b room out more bs e f. packets-room.round-trip-any (read-incomplete s room bs e) exact b out f more)
+          (λ s b room out bs e. packets-room.same-room (read-incomplete s room bs e) exact b out)
+          λ s b room out more once bs e f. packets-room.again-any (read-incomplete s room bs e) exact b out f more once;
       entry-trip = λ k.
           law.returns (entry-reads k) value-puts value-reads (EntryTrip k) (two.entry-fewer k)
           (λ s b room out more bs e f. trips.entry-trip s k room bs e b out f more) (λ s b room out more bs e f. trips.entry-trip-any s k room bs e b out f more)
           (λ s b room out bs e f. trips.entry-same-room s k room bs e b out f)
           λ s b room out more once bs e f. trips.entry-again s k room bs e b out f more once;
       span-trip = λ p n.
-          law.returns (span-reads p n) value-puts value-reads (λ s. trips.SpanTrip s p n) (two.span-fewer p n)
-          (λ s b room out more bs e. trips.span-trip s p n room bs e b out more) (λ s b room out more bs e. trips.span-trip-any s p n room bs e b out more)
-          (λ s b room out bs e. trips.span-same-room s p n room bs e b out)
-          λ s b room out more once bs e. trips.span-again s p n room bs e b out more once;
+          law.returns (span-reads p n) value-puts value-reads (λ s. span-trips.SpanTrip s p n) (two.span-fewer p n)
+          (λ s b room out more bs e f. span-trips.span-trip s p n room _ bs (calls.span-takes s p n room e) b out f more)
+          (λ s b room out more bs e f. span-trips.span-trip-any s p n room _ bs (calls.span-takes s p n room e) b out f more)
+          (λ s b room out bs e. span-trips.span-same-room s p n room _ bs (calls.span-takes s p n room e) b out)
+          λ s b room out more once bs e f. span-trips.span-again s p n room _ bs (calls.span-takes s p n room e) b out f more once;
       value-wider = law.wider value-reads values.room-more;
       file-wider = law.wider file-reads files.room-more-whole;
       file-incomplete-wider = law.wider file-incomplete-reads files.room-more-incomplete;
@@ -532,7 +537,7 @@ pub record Demand3 : Type 0 where
   -- Every untouched value answers as before, by number and by its place and length; and so does every other entry where one alone is changed.
   pub untouched : Changes λ s t n. (k : ℕ) (e : Entry) → Nth s k (Found.Is e) → spanOf t e ≡ spanOf s e → Same (ParseEntry s k) (ParseEntry t k)
   pub untouched-span : Changes λ s t n. (p m : ℕ) → bytesAt m t p ≡ bytesAt m s p → Same (ParseSpan s p m) (ParseSpan t p m)
-  pub neighbours : (s t : List ℕ) (m k : ℕ) (d e : Entry) → Nth s m (Found.Is d) → Changed (d ∷ []) s t → Nth s k (Found.Is e) → k ≢ m
+  pub neighbours : (s t : List ℕ) (m k : ℕ) (d e : Entry) → Nth s m (Found.Is d) → Changed (span d ∷ []) s t → Nth s k (Found.Is e) → k ≢ m
       → Same (ParseEntry s k) (ParseEntry t k)
   -- A changed value answers as the value reader does on those bytes alone, places shifted, by number and by its place and length.
   pub changed : Changes λ s t n. (k : ℕ) (e : Entry) → Nth s k (Found.Is e) → Alone (e .place) (spanOf t e) (ParseEntry t k)

@@ -15,8 +15,8 @@ use Rattle.image.specs.declared.record.Record.{Record}
 use Rattle.image.specs.declared.record.Record.the-variants.{Number, Boolean, Text, Object, Null, Undefined, Reference, EcmaArray, ObjectEnd, StrictArray, Date, Unsupported, Xml, TypedObject, Key, Packet, Header, Message, Lso}
 use Rattle.image.specs.declared.reading.Step.{Step}
 use Rattle.image.specs.declared.reading.Step.the-variants.{Next, Stop}
-use Rattle.image.specs.Record.{_bytes_, layoutOf, bytesIn, sizeIn, bytesOf, size, moved, fieldBytes}
-use Rattle.image.specs.Due.{Due, end, stop, due, _>>=_, based, Ran, ran, run, Within}
+use Rattle.image.specs.Record.{_bytes_, layoutOf, bytesIn, sizeIn, bytesOf, size, placed, moved, fieldBytes}
+use Rattle.image.specs.Due.{Due, end, stop, due, _>>=_, based, Ran, ran, run, Within, put}
 use Rattle.image.specs.Whole.{padded}
 
 -- ---- a record's size
@@ -54,27 +54,28 @@ small (Header p n f) = omega arith
 small (Message p n q m) = omega arith
 small (Lso l p n) = omega arith
 
-pub size-moved : (a : ℕ) (r : Record) → size (moved a r) ≡ size r
+-- and so long wherever its texts stand
+pub size-placed : (f : ℕ → ℕ) (r : Record) → size (placed f r) ≡ size r
 unfolding size
-size-moved a (Number n) = refl
-size-moved a (Boolean b) = refl
-size-moved a (Text p n) = refl
-size-moved a Object = refl
-size-moved a Null = refl
-size-moved a Undefined = refl
-size-moved a (Reference n) = refl
-size-moved a (EcmaArray n) = refl
-size-moved a ObjectEnd = refl
-size-moved a (StrictArray n) = refl
-size-moved a (Date n z t) = refl
-size-moved a Unsupported = refl
-size-moved a (Xml p n) = refl
-size-moved a (TypedObject p n) = refl
-size-moved a (Key p n) = refl
-size-moved a (Packet h m) = refl
-size-moved a (Header p n f) = refl
-size-moved a (Message p n q m) = refl
-size-moved a (Lso l p n) = refl
+size-placed f (Number n) = refl
+size-placed f (Boolean b) = refl
+size-placed f (Text p n) = refl
+size-placed f Object = refl
+size-placed f Null = refl
+size-placed f Undefined = refl
+size-placed f (Reference n) = refl
+size-placed f (EcmaArray n) = refl
+size-placed f ObjectEnd = refl
+size-placed f (StrictArray n) = refl
+size-placed f (Date n z t) = refl
+size-placed f Unsupported = refl
+size-placed f (Xml p n) = refl
+size-placed f (TypedObject p n) = refl
+size-placed f (Key p n) = refl
+size-placed f (Packet h m) = refl
+size-placed f (Header p n b) = refl
+size-placed f (Message p n q m) = refl
+size-placed f (Lso l p n) = refl
 
 -- ---- a record laid field by field
 
@@ -84,8 +85,8 @@ pub record Laid (image : List ℕ) (at : ℕ) (x : List ℕ) (p : ℕ) (now : Li
   pub stored : now ≡ sets image at x
 
 module _ (image : List ℕ) (at : ℕ) where
-  pub laid-kind : (k : ℕ) {p : ℕ} {i : List ℕ} → k < 256 → p ≡ at + 1 → i ≡ sets image at (digits 1 k) → Laid image at (k ∷ []) p i
-  laid-kind k h e f = record { place = e; stored = f ∙ rw (div-one k, mod-eq-of-lt h) }
+  pub laid-kind : (k : ℕ) {i : List ℕ} → k < 256 → at + 1 ≤ length image → i ≡ stored 1 k at image → Laid image at (k ∷ []) (at + 1) i
+  laid-kind k h l e = record { place = refl; stored = e ∙ (pick-yes (at + 1) (length image) _ _ l ∙ rw (div-one k, mod-eq-of-lt h)) }
 
   pub laid-field : (f : Field) {x i j : List ℕ} {p q : ℕ} → Laid image at x p i → q ≡ p + f .width → j ≡ sets i p (fieldBytes f)
       → Laid image at (x ++ fieldBytes f) q j
@@ -113,12 +114,17 @@ module _ (image : List ℕ) (at : ℕ) where
   pub laid-all : {x i : List ℕ} {p : ℕ} → Laid image at x p i → at + length x ≤ length image → i ≡ laid x at image
   laid-all {x} l h = l .stored ∙ sym (laid-room x at image h)
 
-  pub laid-record : (r : Record) (l : Layout) {x i : List ℕ} {p : ℕ} → l ≡ layoutOf r → Laid image at x p i → x ≡ bytesIn l
-      → (p ≡ at + size r) × (i ≡ sets image at (bytesOf r))
-  unfolding bytesOf
-  laid-record r l {x} e z w =
-      let h : x ≡ bytesOf r = w ∙ ap bytesIn e in
-      (z .place ∙ rw (h, size-bytes r), z .stored ∙ rw h)
+  -- what lies so is laid, or has no room
+  pub put-laid : (l : Layout) (p n : ℕ) {x i : List ℕ} {m : ℕ} → Laid image at x m i → x ≡ bytesIn l → m ≤ length image
+      → ran (Next (to n) m) i ≡ put l p n at image
+  unfolding put
+  put-laid l p n {m = m} z e h =
+      let f : m ≡ at + sizeIn l = z .place ∙ (rw e (ap (λ (k : ℕ). at + k) (length-field l))) in
+      rw (f, z .stored, e) (sym (pick-yes (at + sizeIn l) (length image) _ _ (omega (arith, f, h))))
+
+  pub put-full : (l : Layout) (p n : ℕ) → length image < at + sizeIn l → ran (Stop 4 p) image ≡ put l p n at image
+  unfolding put
+  put-full l p n h = sym (pick-no (at + sizeIn l) (length image) _ _ h)
 
 -- ---- one reading and then another
 
@@ -137,32 +143,33 @@ based-bind a (end n) k = refl
 based-bind a (stop w p) k = refl
 based-bind a (due r p d) k = ap (due (moved a r) (a + p)) (based-bind a d k)
 
-moved-zero : (r : Record) → moved 0 r ≡ r
-moved-zero (Number n) = refl
-moved-zero (Boolean b) = refl
-moved-zero (Text p n) = rw zero-add
-moved-zero Object = refl
-moved-zero Null = refl
-moved-zero Undefined = refl
-moved-zero (Reference n) = refl
-moved-zero (EcmaArray n) = refl
-moved-zero ObjectEnd = refl
-moved-zero (StrictArray n) = refl
-moved-zero (Date n z t) = refl
-moved-zero Unsupported = refl
-moved-zero (Xml p n) = rw zero-add
-moved-zero (TypedObject p n) = rw zero-add
-moved-zero (Key p n) = rw zero-add
-moved-zero (Packet h m) = refl
-moved-zero (Header p n f) = rw zero-add
-moved-zero (Message p n q m) = rw (zero-add p, zero-add q)
-moved-zero (Lso l p n) = rw zero-add
+-- a record whose places are taken for themselves
+placed-same : (f : ℕ → ℕ) → ((p : ℕ) → f p ≡ p) → (r : Record) → placed f r ≡ r
+placed-same f e (Number n) = refl
+placed-same f e (Boolean b) = refl
+placed-same f e (Text p n) = rw e
+placed-same f e Object = refl
+placed-same f e Null = refl
+placed-same f e Undefined = refl
+placed-same f e (Reference n) = refl
+placed-same f e (EcmaArray n) = refl
+placed-same f e ObjectEnd = refl
+placed-same f e (StrictArray n) = refl
+placed-same f e (Date n z t) = refl
+placed-same f e Unsupported = refl
+placed-same f e (Xml p n) = rw e
+placed-same f e (TypedObject p n) = rw e
+placed-same f e (Key p n) = rw e
+placed-same f e (Packet h m) = refl
+placed-same f e (Header p n b) = rw e
+placed-same f e (Message p n q m) = rw (e p, e q)
+placed-same f e (Lso l p n) = rw e
 
 -- a part that begins at the front
 pub based-zero : (d : Due) → based 0 d ≡ d
 based-zero (end n) = refl
 based-zero (stop w p) = rw zero-add
-based-zero (due r p d) = rw (moved-zero r, zero-add p, based-zero d)
+based-zero (due r p d) = rw (placed-same (λ p. 0 + p) zero-add r, zero-add p, based-zero d)
 
 -- ---- a reading carried out
 
@@ -220,16 +227,6 @@ module _ (made : ℕ) (image : List ℕ) where
   unfolding run
   run-end n = refl
 
-  -- one record is laid, or refuses
-  pub run-laid : (r : Record) (p n : ℕ) → made + size r ≤ length image
-      → ran (Next (to n) (made + size r)) (sets image made (bytesOf r)) ≡ run (due r p (end n)) made image
-  unfolding run
-  run-laid r p n h = sym (pick-yes (made + size r) (length image) _ _ h)
-
-  pub run-full : (r : Record) (p n : ℕ) → length image < made + size r → ran (Stop 4 p) image ≡ run (due r p (end n)) made image
-  unfolding run
-  run-full r p n h = sym (pick-no (made + size r) (length image) _ _ h)
-
 -- the image keeps its length
 pub run-length : (d : Due) (made : ℕ) (image : List ℕ) → length (run d made image .image) ≡ length image
 unfolding run
@@ -251,6 +248,12 @@ within-stop = record { bounds = λ c m e. let z : _≡_ {A = ℕ} 0 1 = cc in ab
 pub within-next : {c : Cursor} {m l h room : ℕ} → l ≤ c .at → c .at ≤ h → m ≤ room → Within (Next c m) l h room
 within-next {c} {m} lo hi ro =
     record { bounds = λ d n e. let f : c .at ≡ d .at = ap (λ (x : Cursor). x .at) (cc) in let g : m ≡ n = cc in omega arith }
+
+-- what is laid as a record lies is the record
+pub put-record : (r : Record) (l : Layout) (made p n : ℕ) (image : List ℕ) {i : List ℕ} {x : Step} {room : ℕ}
+    → l ≡ layoutOf r → (ran x i ≡ put l p n made image) × Within x n n room → (ran x i ≡ run (due r p (end n)) made image) × Within x n n room
+unfolding put run size bytesOf
+put-record r l made p n image e z = (rw e at (z .0), z .1)
 
 -- ---- zeros from a place on
 

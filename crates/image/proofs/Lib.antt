@@ -3,3 +3,4 @@ pub mod Laws
 pub mod Settle
 pub mod Pouring
 pub mod Found
+pub mod Kinded

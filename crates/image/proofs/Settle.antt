@@ -1,52 +1,168 @@
 -- What a reading that was carried out comes to, as `Whole` has it: the bytes of its records, and how it ends.
-use Rattle.wire.proofs.Kit.{ℕ, _+_, _≤_, _≡_, sym, ap, _∙_, List, _++_, append-assoc, append-nil, zero-add, arith, length, take, drop, length-append, sets}
-use Rattle.wire.proofs.Kit.{sets-eq, take-at, length-sets, length-take-le, leb, leb-true, leb-false}
+use Rattle.wire.proofs.Kit.{ℕ, _+_, _≤_, _<_, _≡_, refl, sym, ap, _∙_, _⊎_, inl, inr, _≢_, List, [], _++_, append-assoc, append-nil, zero-add, arith, length, take, drop}
+use Rattle.wire.proofs.Kit.{length-append, sets, sets-eq, take-at, length-sets, length-take-le, leb, eqb, leb-true, leb-false, eqb-true, eqb-false, ne-eqb}
+use Rattle.wire.specs.Field.{to}
 use Rattle.wire.specs.Choice.{pick}
-use Rattle.wire.proofs.Laws.{pick-yes, pick-no, picked}
+use Rattle.wire.specs.declared.cursor.Cursor.{Cursor}
+use Rattle.wire.proofs.Laws.{pick-yes, pick-no, picked, then-sets}
 use Rattle.image.specs.declared.reading.Step.{Step}
+use Rattle.image.specs.declared.reading.Step.the-variants.{Next, Stop}
 use Rattle.image.specs.Record.{bytesOf, size}
-use Rattle.image.specs.Due.{Due, end, stop, due, Ran, ran, run}
-use Rattle.image.specs.Whole.{bytes, Whole, refused, ended, settled, finished}
+use Rattle.image.specs.Due.{Due, end, stop, due, _>>=_, Ends, Stops, onEnd, Ran, ran, run}
+use Rattle.image.specs.Whole.{bytes, Whole, refused, ended, settled, finished, all}
 use Rattle.image.proofs.Laws.{size-bytes}
+
+-- ---- how a reading ends
+
+pub ends-or-stops : (d : Due) → ((n : ℕ) × Ends d n) ⊎ ((a : ℕ) × (p : ℕ) × Stops d a p)
+ends-or-stops (end n) = inl (n, refl)
+ends-or-stops (stop a p) = inr (a, p, (refl, refl))
+ends-or-stops (due r p d) = ends-or-stops d
+
+module _ {A : Type 0} where
+  pub on-ends : (d : Due) (n : ℕ) (f : ℕ → A) (g : ℕ → ℕ → A) → Ends d n → onEnd d f g ≡ f n
+  on-ends (end m) n f g e = ap f (sym e)
+  on-ends (stop a p) n f g e = absurd e
+  on-ends (due r p d) n f g e = on-ends d n f g e
+
+  pub on-stops : (d : Due) (a p : ℕ) (f : ℕ → A) (g : ℕ → ℕ → A) → Stops d a p → onEnd d f g ≡ g a p
+  on-stops (end m) a p f g e = absurd e
+  on-stops (stop b q) a p f g e = rw (e .0, e .1)
+  on-stops (due r q d) a p f g e = on-stops d a p f g e
+
+  pub on-case : (P : A → Type 0) (d : Due) (f : ℕ → A) (g : ℕ → ℕ → A) → ((n : ℕ) → Ends d n → P (f n)) → ((a p : ℕ) → Stops d a p → P (g a p))
+      → P (onEnd d f g)
+  on-case P (end n) f g h i = h n refl
+  on-case P (stop a p) f g h i = i a p (refl, refl)
+  on-case P (due r p d) f g h i = on-case P d f g h i
+
+pub one-end : (d : Due) {m n : ℕ} → Ends d m → Ends d n → m ≡ n
+one-end (end q) e f = e ∙ sym f
+one-end (stop a p) e f = absurd e
+one-end (due r p d) e f = one-end d e f
+
+pub one-stop : (d : Due) {a p b q : ℕ} → Stops d a p → Stops d b q → (a ≡ b) × (p ≡ q)
+one-stop (end n) e f = absurd e
+one-stop (stop c o) e f = (e .0 ∙ sym (f .0), e .1 ∙ sym (f .1))
+one-stop (due r w d) e f = one-stop d e f
+
+pub ends-not : (d : Due) (n a p : ℕ) → Ends d n → Stops d a p → ⊥
+ends-not (end m) n a p e f = f
+ends-not (stop b q) n a p e f = e
+ends-not (due r w d) n a p e f = ends-not d n a p e f
+
+-- one reading and then another, where the first ends
+pub bytes-bind : (d : Due) (k : ℕ → Due) (n : ℕ) → Ends d n → bytes (d >>= k) ≡ bytes d ++ bytes (k n)
+unfolding bytes
+bytes-bind (end m) k n e = rw e
+bytes-bind (stop a p) k n e = absurd e
+bytes-bind (due r p d) k n e = ap (λ x. bytesOf r ++ x) (bytes-bind d k n e) ∙ sym (append-assoc (bytesOf r) (bytes d) (bytes (k n)))
+
+pub stops-behind : (d : Due) (k : ℕ → Due) (n a p : ℕ) → Ends d n → Stops (k n) a p → Stops (d >>= k) a p
+stops-behind (end m) k n a p e h = rw (← e) h
+stops-behind (stop b q) k n a p e h = absurd e
+stops-behind (due r q d) k n a p e h = stops-behind d k n a p e h
+
+-- ---- a reading carried out, with room and without
+
+pub run-fits : (d : Due) (made : ℕ) (image : List ℕ) → made + length (bytes d) ≤ length image
+    → run d made image ≡ ran (onEnd d (λ n. Next (to n) (made + length (bytes d))) Stop) (sets image made (bytes d))
+unfolding run bytes
+run-fits (end n) made image h = ap (λ m. ran (Next (to n) m) image) (omega arith)
+run-fits (stop a p) made image h = refl
+run-fits (due r p d) made image h =
+    let l = length-append (bytesOf r) (bytes d) in
+    let b = size-bytes r in
+    let same : made + size r + length (bytes d) ≡ made + length (bytesOf r ++ bytes d) = omega arith in
+    pick-yes (made + size r) (length image) _ _ (omega arith)
+    ∙ run-fits d (made + size r) (sets image made (bytesOf r)) (omega (arith, length-sets image made (bytesOf r)))
+    ∙ rw (same, then-sets image made (made + size r) (bytesOf r) (bytes d) (omega arith))
+
+-- the reading is refused for room
+pub record Full (x : Ran) : Type 0 where
+  pub place : ℕ
+  pub image : List ℕ
+  pub same : x ≡ ran (Stop 4 place) image
+
+pub run-over : (d : Due) (made : ℕ) (image : List ℕ) → made ≤ length image → length image < made + length (bytes d) → Full (run d made image)
+unfolding run bytes
+run-over (end n) made image g h = absurd (omega arith)
+run-over (stop a p) made image g h = absurd (omega arith)
+run-over (due r p d) made image g h =
+    let l = length-append (bytesOf r) (bytes d) in
+    let b = size-bytes r in
+    picked Full (leb (made + size r) (length image)) _ _
+    (λ t.
+    let k = length-sets image made (bytesOf r) in
+    let f = leb-true (made + size r) (length image) t in
+    run-over d (made + size r) (sets image made (bytesOf r)) (omega arith) (omega arith))
+    (λ t. record { place = p; image = image; same = refl })
+
+-- a reading that goes on has laid all its bytes, and ends there
+pub run-went : (d : Due) (made : ℕ) (image : List ℕ) {c : Cursor} {m : ℕ} {i : List ℕ} → ran (Next c m) i ≡ run d made image
+    → (m ≡ made + length (bytes d)) × Ends d (c .at)
+unfolding run bytes
+run-went (end n) made image {c} {m} e =
+    let s : Next c m ≡ Next (to n) made = ap (λ (x : Ran). x .step) e in
+    let same : c ≡ to n = cc in
+    let more : m ≡ made = cc in
+    (omega arith, ap (λ (x : Cursor). x .at) same)
+run-went (stop a p) made image {c} {m} e =
+    let s : Next c m ≡ Stop a p = ap (λ (x : Ran). x .step) e in
+    let z : _≡_ {A = ℕ} 0 1 = cc in
+    absurd (omega arith)
+run-went (due r p d) made image {c} {m} {i} e =
+    picked (λ (x : Ran). ran (Next c m) i ≡ x → (m ≡ made + length (bytesOf r ++ bytes d)) × Ends d (c .at)) (leb (made + size r) (length image)) _ _
+    (λ t f.
+    let w = run-went d (made + size r) (sets image made (bytesOf r)) f in
+    (omega (arith, size-bytes r, length-append (bytesOf r) (bytes d), w .0), w .1))
+    (λ t f.
+    let s : Next c m ≡ Stop 4 p = ap (λ (x : Ran). x .step) f in
+    let z : _≡_ {A = ℕ} 0 1 = cc in
+    absurd (omega arith)) e
+
+-- and one that stops, but not for room, is refused so
+pub run-stopped : (d : Due) (made : ℕ) (image : List ℕ) {a p : ℕ} {i : List ℕ} → ran (Stop a p) i ≡ run d made image → a ≢ 4 → Stops d a p
+unfolding run
+run-stopped (end n) made image {a} {p} e ne =
+    let s : Stop a p ≡ Next (to n) made = ap (λ (x : Ran). x .step) e in
+    let z : _≡_ {A = ℕ} 0 1 = cc in
+    absurd (omega arith)
+run-stopped (stop b q) made image {a} {p} e ne =
+    let s : Stop a p ≡ Stop b q = ap (λ (x : Ran). x .step) e in
+    (cc, cc)
+run-stopped (due r q d) made image {a} {p} {i} e ne =
+    picked (λ (x : Ran). ran (Stop a p) i ≡ x → Stops d a p) (leb (made + size r) (length image)) _ _
+    (λ t f. run-stopped d (made + size r) (sets image made (bytesOf r)) f ne)
+    (λ t f. let s : Stop a p ≡ Stop 4 q = ap (λ (x : Ran). x .step) f in absurd (ne (cc))) e
+
+-- ---- what it comes to
 
 abbrev ending : Ran → Whole
 ending x = finished (x .step) (x .image)
 
-take-sets : (l : List ℕ) (i : ℕ) (vs : List ℕ) → i + length vs ≤ length l → take (i + length vs) (sets l i vs) ≡ take i l ++ vs
-take-sets l i vs h =
-    rw (sets-eq vs l i h)
-    (take-at (take i l ++ vs) (drop (i + length vs) l) (i + length vs) (rw (length-append, length-take-le i l (omega arith))))
+pub take-sets : (l : List ℕ) (i : ℕ) (x y : List ℕ) → i + length (x ++ y) ≤ length l → take (i + length x) (sets l i (x ++ y)) ≡ take i l ++ x
+take-sets l i x y h =
+    let n = length-append x y in
+    let same : (take i l ++ (x ++ y)) ++ drop (i + length (x ++ y)) l ≡ (take i l ++ x) ++ (y ++ drop (i + length (x ++ y)) l) = simp append-assoc in
+    rw (sets-eq (x ++ y) l i h) (ap (take (i + length x)) same ∙ take-at (take i l ++ x) (y ++ drop (i + length (x ++ y)) l) (i + length x) (rw (length-append, length-take-le i l (omega arith))))
 
--- where so much is made already
-ending-run : (d : Due) (made : ℕ) (image : List ℕ) → made ≤ length image
-    → ending (run d made image) ≡ pick (leb (made + length (bytes d)) (length image)) (ended d (take made image ++ bytes d)) (refused 4)
-unfolding run bytes ended
-ending-run (end n) made image h =
-    sym (pick-yes (made + 0) (length image) _ _ (omega arith) ∙ rw (append-nil, length-take-le made image h))
-ending-run (stop a p) made image h = sym (pick-yes (made + 0) (length image) _ _ (omega arith))
-ending-run (due r p d) made image h =
-    let l : made + length (bytesOf r ++ bytes d) ≡ made + size r + length (bytes d) =
-    omega (arith, length-append (bytesOf r) (bytes d), size-bytes r)
-    in
-    picked (λ (x : Ran). ending x ≡ pick (leb (made + length (bytesOf r ++ bytes d)) (length image)) (ended d (take made image ++ (bytesOf r ++ bytes d))) (refused 4))
-    (leb (made + size r) (length image)) _ _
-    (λ t.
-    let f = leb-true (made + size r) (length image) t in
-    let g : made + length (bytesOf r) ≤ length image = omega (arith, size-bytes r) in
-    let k = length-sets image made (bytesOf r) in
-    let s : take (made + size r) (sets image made (bytesOf r)) ≡ take made image ++ bytesOf r =
-    rw (sym (size-bytes r)) (take-sets image made (bytesOf r) g)
-    in
-    rw (l, ← append-assoc (take made image) (bytesOf r) (bytes d), ← s, ← k)
-    (ending-run d (made + size r) (sets image made (bytesOf r)) (omega arith)))
-    (λ t.
-    let f = leb-false (made + size r) (length image) t in
-    sym (pick-no (made + length (bytesOf r ++ bytes d)) (length image) _ _ (omega arith)))
+-- where there is room
+ended-ran : (d : Due) (m : ℕ) (i b : List ℕ) → take m i ≡ b → m ≡ length b → finished (onEnd d (λ n. Next (to n) m) Stop) i ≡ ended d b
+unfolding ended
+ended-ran (end n) m i b e l = rw (e, l)
+ended-ran (stop a p) m i b e l = refl
+ended-ran (due r p d) m i b e l = ended-ran d m i b e l
 
 -- from an empty image
 pub finished-run : (d : Due) (image : List ℕ) → finished (run d 0 image .step) (run d 0 image .image) ≡ settled d (length image)
 unfolding settled
-finished-run d image = rw zero-add at (ending-run d 0 image (omega arith))
+finished-run d image =
+    picked (λ (w : Whole). ending (run d 0 image) ≡ w) (leb (length (bytes d)) (length image)) _ _
+    (λ t.
+    let h = leb-true (length (bytes d)) (length image) t in
+    ap ending (run-fits d 0 image (omega arith)) ∙ ended-ran d (0 + length (bytes d)) (sets image 0 (bytes d)) (bytes d) (rw append-nil at (take-sets image 0 (bytes d) [] (rw append-nil (omega arith)))) (omega arith))
+    (λ t. ap ending (run-over d 0 image (omega arith) (omega (arith, leb-false (length (bytes d)) (length image) t)) .same))
 
 -- the same of a step that is known to be what the reading comes to
 pub finished-ran : (d : Due) (image : List ℕ) {x : Step} {i : List ℕ} → ran x i ≡ run d 0 image → finished x i ≡ settled d (length image)
@@ -56,3 +172,23 @@ finished-ran d image e = ap ending e ∙ finished-run d image
 pub settled-stop : (a p room : ℕ) → settled (stop a p) room ≡ refused a
 unfolding settled bytes ended
 settled-stop a p room = pick-yes 0 room _ _ (omega arith)
+
+-- ---- an input that has to be used to its end
+
+module _ (s : List ℕ) where
+  pub all-refused : (a : ℕ) → a ≢ 0 → all s (refused a) ≡ refused a
+  all-refused a h = rw (ne-eqb a 0 h)
+
+  module _ (w : Whole) where
+    pub all-left : w .reading .answer ≡ 0 → w .reading .used < length s → all s w ≡ refused 3
+    all-left a l = rw a (pick-no (length s) (w .reading .used) _ _ l)
+
+    pub all-used : w .reading .answer ≡ 0 → length s ≤ w .reading .used → all s w ≡ w
+    all-used a l = rw a (pick-yes (length s) (w .reading .used) _ _ l)
+
+    pub all-cases : (P : Whole → Type 0) → (w .reading .answer ≢ 0 → P w) → (w .reading .answer ≡ 0 → w .reading .used < length s → P (refused 3))
+        → (w .reading .answer ≡ 0 → length s ≤ w .reading .used → P w) → P (all s w)
+    all-cases P f g h =
+        picked P (eqb (w .reading .answer) 0) _ _
+        (λ a. picked P (leb (length s) (w .reading .used)) _ _ (λ l. h (eqb-true _ 0 a) (leb-true _ _ l)) (λ l. g (eqb-true _ 0 a) (leb-false _ _ l)))
+        (λ a. f (eqb-false _ 0 a))

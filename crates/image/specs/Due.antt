@@ -7,7 +7,8 @@ use Rattle.wire.specs.declared.cursor.Cursor.{Cursor}
 use Rattle.image.specs.declared.record.Record.{Record}
 use Rattle.image.specs.declared.reading.Step.{Step}
 use Rattle.image.specs.declared.reading.Step.the-variants.{Next, Stop}
-use Rattle.image.specs.Record.{bytesOf, size, moved}
+use Rattle.image.specs.Record.{bytesOf, size, moved, bytesIn, sizeIn}
+use Rattle.image.specs.declared.record.Layout.{Layout}
 
 pub data Due : Type 0 where
   -- read up to here
@@ -48,6 +49,12 @@ Stops (end n) a p = ⊥
 Stops (stop b q) a p = (a ≡ b) × (p ≡ q)
 Stops (due r q d) a p = Stops d a p
 
+-- what is made of how a reading ends: of where it ended, or of the answer that refused it and the place
+abbrev pub onEnd : {A : Type 0} → Due → (ℕ → A) → (ℕ → ℕ → A) → A
+onEnd (end n) f g = f n
+onEnd (stop a p) f g = g a p
+onEnd (due r p d) f g = onEnd d f g
+
 -- how a reading that was carried out went, and the image then
 pub record Ran : Type 0 where
   pub step : Step
@@ -64,6 +71,11 @@ run (due r p d) made image =
     pick (leb (made + size r) (length image))
     (run d (made + size r) (sets image made (bytesOf r)))
     (ran (Stop 4 p) image)
+
+-- what lies so is laid behind what is made, or refused at the place p with 4: so one record is carried out, and the reading goes on at n
+unfoldable pub put : Layout → ℕ → ℕ → ℕ → List ℕ → Ran
+put l p n made image =
+    pick (leb (made + sizeIn l) (length image)) (ran (Next (to n) (made + sizeIn l)) (sets image made (bytesIn l))) (ran (Stop 4 p) image)
 
 -- a step that goes on does so at a place from `low` to `high`, with no more made than there is room
 pub record Within (x : Step) (low high room : ℕ) : Type 0 where

@@ -1,10 +1,12 @@
 -- How each record lies: the lines of the rule "Tree image" (docs/DEMANDS.md), in its order.
-use Rattle.wire.specs.Kit.{ℕ, _+_, List, _∷_, _++_, Bool, true, false}
+use Rattle.wire.specs.Kit.{ℕ, _+_, List, [], _∷_, _++_, Bool, true, false}
+use lib.ListN.{getD}
 use Rattle.wire.specs.Number.{digits}
 use Rattle.image.specs.declared.record.Field.{Field}
 use Rattle.image.specs.declared.record.Layout.{Layout}
 use Rattle.image.specs.declared.record.Record.{Record}
 use Rattle.image.specs.declared.record.Record.the-variants.{Number, Boolean, Text, Object, Null, Undefined, Reference, EcmaArray, ObjectEnd, StrictArray, Date, Unsupported, Xml, TypedObject, Key, Packet, Header, Message, Lso}
+use Rattle.image.specs.Kind as kind
 
 infix 90 _bytes_
 abbrev pub _bytes_ : ℕ → ℕ → Field
@@ -20,26 +22,55 @@ abbrev pub bitOf : Bool → ℕ
 bitOf true = 1
 bitOf false = 0
 
+-- ---- the table
+
+-- a part of a record's body: a number in so many bytes, or a text, as its place in three bytes and its length in so many
+pub data Part : Type 0 where
+  number : (width n : ℕ) → Part
+  text : (width place length : ℕ) → Part
+
+pub record Form : Type 0 where
+  pub kind : ℕ
+  pub parts : List Part
+
+infix 5 _has_
+abbrev pub _has_ : ℕ → List Part → Form
+k has ps = record { kind = k; parts = ps }
+
+abbrev pub formOf : Record → Form
+formOf (Number n) = kind.number has number 8 n ∷ []
+formOf (Boolean b) = kind.boolean has number 1 (bitOf b) ∷ []
+formOf (Text p n) = kind.text has text 3 p n ∷ []
+formOf (Xml p n) = kind.xml has text 3 p n ∷ []
+formOf Object = kind.object has []
+formOf Null = kind.null has []
+formOf Undefined = kind.undefined has []
+formOf ObjectEnd = kind.object-end has []
+formOf Unsupported = kind.unsupported has []
+formOf (Reference n) = kind.reference has number 2 n ∷ []
+formOf (EcmaArray n) = kind.ecma-array has number 4 n ∷ []
+formOf (StrictArray n) = kind.strict-array has number 4 n ∷ []
+formOf (Date n present zone) = kind.date has number 8 n ∷ number 1 (bitOf present) ∷ number 2 zone ∷ []
+formOf (TypedObject p n) = kind.typed-object has text 2 p n ∷ []
+formOf (Key p n) = kind.key has text 2 p n ∷ []
+formOf (Packet headers messages) = kind.packet has number 2 headers ∷ number 2 messages ∷ []
+formOf (Header p n flag) = kind.header has text 2 p n ∷ number 1 (bitOf flag) ∷ []
+formOf (Message p n q m) = kind.message has text 2 p n ∷ text 2 q m ∷ []
+formOf (Lso stored p n) = kind.lso has number 4 stored ∷ text 2 p n ∷ []
+
+-- ---- the fields of a record
+
+abbrev pub fieldsOf : List Part → List Field
+fieldsOf [] = []
+fieldsOf (number w n ∷ ps) = w bytes n ∷ fieldsOf ps
+fieldsOf (text w p n ∷ ps) = 3 bytes p ∷ w bytes n ∷ fieldsOf ps
+
+-- none has more than four
+abbrev pub layout : ℕ → List Field → Layout
+layout k fs = lies k (getD fs 0 none) (getD fs 1 none) (getD fs 2 none) (getD fs 3 none)
+
 abbrev pub layoutOf : Record → Layout
-layoutOf (Number n) = lies 0x00 (8 bytes n) none none none
-layoutOf (Boolean b) = lies 0x01 (1 bytes (bitOf b)) none none none
-layoutOf (Text p n) = lies 0x02 (3 bytes p) (3 bytes n) none none
-layoutOf (Xml p n) = lies 0x0F (3 bytes p) (3 bytes n) none none
-layoutOf Object = lies 0x03 none none none none
-layoutOf Null = lies 0x05 none none none none
-layoutOf Undefined = lies 0x06 none none none none
-layoutOf ObjectEnd = lies 0x09 none none none none
-layoutOf Unsupported = lies 0x0D none none none none
-layoutOf (Reference n) = lies 0x07 (2 bytes n) none none none
-layoutOf (EcmaArray n) = lies 0x08 (4 bytes n) none none none
-layoutOf (StrictArray n) = lies 0x0A (4 bytes n) none none none
-layoutOf (Date n present zone) = lies 0x0B (8 bytes n) (1 bytes (bitOf present)) (2 bytes zone) none
-layoutOf (TypedObject p n) = lies 0x10 (3 bytes p) (2 bytes n) none none
-layoutOf (Key p n) = lies 0x20 (3 bytes p) (2 bytes n) none none
-layoutOf (Packet headers messages) = lies 0x30 (2 bytes headers) (2 bytes messages) none none
-layoutOf (Header p n flag) = lies 0x31 (3 bytes p) (2 bytes n) (1 bytes (bitOf flag)) none
-layoutOf (Message p n q m) = lies 0x32 (3 bytes p) (2 bytes n) (3 bytes q) (2 bytes m)
-layoutOf (Lso stored p n) = lies 0x33 (4 bytes stored) (3 bytes p) (2 bytes n) none
+layoutOf r = layout (formOf r .kind) (fieldsOf (formOf r .parts))
 
 abbrev pub fieldBytes : Field → List ℕ
 fieldBytes f = digits (f .width) (f .number)
@@ -56,24 +87,34 @@ sizeIn l = 1 + l .a .width + l .b .width + l .c .width + l .d .width
 unfoldable pub size : Record → ℕ
 size r = sizeIn (layoutOf r)
 
+-- ---- its places
+
+-- a record with each place p taken for f p
+abbrev pub placed : (ℕ → ℕ) → Record → Record
+placed f (Number n) = Number n
+placed f (Boolean b) = Boolean b
+placed f (Text p n) = Text (f p) n
+placed f (Xml p n) = Xml (f p) n
+placed f Object = Object
+placed f Null = Null
+placed f Undefined = Undefined
+placed f ObjectEnd = ObjectEnd
+placed f Unsupported = Unsupported
+placed f (Reference n) = Reference n
+placed f (EcmaArray n) = EcmaArray n
+placed f (StrictArray n) = StrictArray n
+placed f (Date n present zone) = Date n present zone
+placed f (TypedObject p n) = TypedObject (f p) n
+placed f (Key p n) = Key (f p) n
+placed f (Packet headers messages) = Packet headers messages
+placed f (Header p n flag) = Header (f p) n flag
+placed f (Message p n q m) = Message (f p) n (f q) m
+placed f (Lso stored p n) = Lso stored (f p) n
+
 -- a record with its places further on
 abbrev pub moved : ℕ → Record → Record
-moved a (Number n) = Number n
-moved a (Boolean b) = Boolean b
-moved a (Text p n) = Text (a + p) n
-moved a Object = Object
-moved a Null = Null
-moved a Undefined = Undefined
-moved a (Reference n) = Reference n
-moved a (EcmaArray n) = EcmaArray n
-moved a ObjectEnd = ObjectEnd
-moved a (StrictArray n) = StrictArray n
-moved a (Date n z t) = Date n z t
-moved a Unsupported = Unsupported
-moved a (Xml p n) = Xml (a + p) n
-moved a (TypedObject p n) = TypedObject (a + p) n
-moved a (Key p n) = Key (a + p) n
-moved a (Packet h m) = Packet h m
-moved a (Header p n f) = Header (a + p) n f
-moved a (Message p n q m) = Message (a + p) n (a + q) m
-moved a (Lso l p n) = Lso l (a + p) n
+moved a r = placed (λ p. a + p) r
+
+-- a record with its places taken for 0
+abbrev pub unplaced : Record → Record
+unplaced r = placed (λ p. 0) r

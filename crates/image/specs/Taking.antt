@@ -11,6 +11,7 @@ use Rattle.image.specs.declared.taking.Flag.{Flag}
 use Rattle.image.specs.declared.taking.Flag.the-variants as Flag
 use Rattle.image.specs.declared.taking.Taken.{Taken}
 use Rattle.image.specs.declared.taking.Taken.the-variants.{Found, Bad}
+use Rattle.image.specs.Kind as kind
 use Rattle.image.specs.Record.{layoutOf}
 
 -- ---- fields
@@ -64,9 +65,12 @@ unfoldable pub long : (ℕ → ℕ → Body) → Body
 long k s at = gotText bad (longAt s at) λ p n e. k p n s e
 
 -- a zone that is absent is 0
+abbrev pub zoneFits : Bool → ℕ → Bool
+zoneFits true z = true
+zoneFits false z = eqb z 0
+
 unfoldable pub zoned : Bool → ℕ → Body → Body
-zoned true z k s at = k s at
-zoned false z k s at = pick (eqb z 0) (k s at) Bad
+zoned b z k s at = pick (zoneFits b z) (k s at) Bad
 
 -- ---- the table
 
@@ -80,25 +84,25 @@ k has b = record { kind = k; body = b }
 
 abbrev pub lines : List Line
 lines =
-    (0x00 has u64 λ n. found (Number n))
-    ∷ (0x01 has flag λ b. found (Boolean b))
-    ∷ (0x02 has long λ p n. found (Text p n))
-    ∷ (0x0F has long λ p n. found (Xml p n))
-    ∷ (0x03 has found Object)
-    ∷ (0x05 has found Null)
-    ∷ (0x06 has found Undefined)
-    ∷ (0x09 has found ObjectEnd)
-    ∷ (0x0D has found Unsupported)
-    ∷ (0x07 has u16 λ n. found (Reference n))
-    ∷ (0x08 has u32 λ n. found (EcmaArray n))
-    ∷ (0x0A has u32 λ n. found (StrictArray n))
-    ∷ (0x0B has u64 λ n. flag λ present. u16 λ zone. zoned present zone (found (Date n present zone)))
-    ∷ (0x10 has short λ p n. found (TypedObject p n))
-    ∷ (0x20 has short λ p n. found (Key p n))
-    ∷ (0x30 has u16 λ headers. u16 λ messages. found (Packet headers messages))
-    ∷ (0x31 has short λ p n. flag λ f. found (Header p n f))
-    ∷ (0x32 has short λ p n. short λ q m. found (Message p n q m))
-    ∷ (0x33 has u32 λ stored. short λ p n. found (Lso stored p n))
+    (kind.number has u64 λ n. found (Number n))
+    ∷ (kind.boolean has flag λ b. found (Boolean b))
+    ∷ (kind.text has long λ p n. found (Text p n))
+    ∷ (kind.xml has long λ p n. found (Xml p n))
+    ∷ (kind.object has found Object)
+    ∷ (kind.null has found Null)
+    ∷ (kind.undefined has found Undefined)
+    ∷ (kind.object-end has found ObjectEnd)
+    ∷ (kind.unsupported has found Unsupported)
+    ∷ (kind.reference has u16 λ n. found (Reference n))
+    ∷ (kind.ecma-array has u32 λ n. found (EcmaArray n))
+    ∷ (kind.strict-array has u32 λ n. found (StrictArray n))
+    ∷ (kind.date has u64 λ n. flag λ present. u16 λ zone. zoned present zone (found (Date n present zone)))
+    ∷ (kind.typed-object has short λ p n. found (TypedObject p n))
+    ∷ (kind.key has short λ p n. found (Key p n))
+    ∷ (kind.packet has u16 λ headers. u16 λ messages. found (Packet headers messages))
+    ∷ (kind.header has short λ p n. flag λ f. found (Header p n f))
+    ∷ (kind.message has short λ p n. short λ q m. found (Message p n q m))
+    ∷ (kind.lso has u32 λ stored. short λ p n. found (Lso stored p n))
     ∷ []
 
 abbrev pub bodyIn : List Line → ℕ → Body

@@ -1,5 +1,5 @@
 -- What a reading in a room comes to: the answer, the counts and every byte of the image, with no word of the order in which the image is made.
-use Rattle.wire.specs.Kit.{ℕ, _-_, List, [], _++_, length, take, replicate, leb}
+use Rattle.wire.specs.Kit.{ℕ, _-_, List, [], _++_, length, take, replicate, leb, eqb}
 use Rattle.wire.specs.Choice.{pick}
 use Rattle.image.specs.declared.reading.Reading.{Reading}
 use Rattle.image.specs.declared.reading.Step.{Step}
@@ -33,6 +33,10 @@ ended (due r p d) b = ended d b
 -- 4 where the records of a reading have no room
 unfoldable pub settled : Due → ℕ → Whole
 settled d room = pick (leb (length (bytes d)) room) (ended d (bytes d)) (refused 4)
+
+-- the same of an input that has to be used to its end: bytes left over are 3, after everything else
+abbrev pub all : List ℕ → Whole → Whole
+all s w = pick (eqb (w .reading .answer) 0) (pick (leb (length s) (w .reading .used)) w (refused 3)) w
 
 -- the image: the result's bytes, and zeros to its end
 abbrev pub padded : List ℕ → ℕ → List ℕ

@@ -1,6 +1,7 @@
 // One record of the tree image: a byte of kind, and a body whose length the kind fixes.
+use crate::kind;
 ghost use mathlib.Core.Path.{_≡_};
-ghost use Rattle.image.specs.Record.{layoutOf, size, lies, none, bitOf, _bytes_};
+ghost use Rattle.image.specs.Record.{layoutOf, lies, none, bitOf, _bytes_};
 
 // A text is its place in the input and its length.
 pub enum Record {
@@ -46,18 +47,19 @@ pub struct Layout {
     pub d: Field,
 }
 
-fn bit(b: bool) -> u64
+// A bool as a number.
+pub fn bit(b: bool) -> u64
     ensures { λ r. ⌜ r ≡ bitOf b ⌝ }
 {
     if b { 1 } else { 0 }
 }
 
 // Four fields, three, two, one, none.
-fn four(kind: u64, v: usize, a: u64, w: usize, b: u64, x: usize, c: u64, y: usize, d: u64) -> Layout
+fn four(kind: u8, v: usize, a: u64, w: usize, b: u64, x: usize, c: u64, y: usize, d: u64) -> Layout
     ensures { λ l. ⌜ l ≡ lies kind (v bytes a) (w bytes b) (x bytes c) (y bytes d) ⌝ }
 {
     Layout {
-        kind: kind,
+        kind: kind as u64,
         a: Field {
             width: v,
             number: a,
@@ -77,25 +79,25 @@ fn four(kind: u64, v: usize, a: u64, w: usize, b: u64, x: usize, c: u64, y: usiz
     }
 }
 
-fn three(kind: u64, v: usize, a: u64, w: usize, b: u64, x: usize, c: u64) -> Layout
+fn three(kind: u8, v: usize, a: u64, w: usize, b: u64, x: usize, c: u64) -> Layout
     ensures { λ l. ⌜ l ≡ lies kind (v bytes a) (w bytes b) (x bytes c) none ⌝ }
 {
     four(kind, v, a, w, b, x, c, 0, 0)
 }
 
-fn two(kind: u64, v: usize, a: u64, w: usize, b: u64) -> Layout
+fn two(kind: u8, v: usize, a: u64, w: usize, b: u64) -> Layout
     ensures { λ l. ⌜ l ≡ lies kind (v bytes a) (w bytes b) none none ⌝ }
 {
     three(kind, v, a, w, b, 0, 0)
 }
 
-fn one(kind: u64, v: usize, a: u64) -> Layout
+fn one(kind: u8, v: usize, a: u64) -> Layout
     ensures { λ l. ⌜ l ≡ lies kind (v bytes a) none none none ⌝ }
 {
     two(kind, v, a, 0, 0)
 }
 
-fn bare(kind: u64) -> Layout
+fn bare(kind: u8) -> Layout
     ensures { λ l. ⌜ l ≡ lies kind none none none none ⌝ }
 {
     one(kind, 0, 0)
@@ -105,25 +107,31 @@ pub fn layout_of(r: Record) -> Layout
     ensures { λ l. ⌜ l ≡ layoutOf r ⌝ }
 {
     match r {
-        Record::Number(n) => one(0x00, 8, n),
-        Record::Boolean(v) => one(0x01, 1, bit(v)),
-        Record::Text(p, n) => two(0x02, 3, p as u64, 3, n as u64),
-        Record::Object => bare(0x03),
-        Record::Null => bare(0x05),
-        Record::Undefined => bare(0x06),
-        Record::Reference(n) => one(0x07, 2, n as u64),
-        Record::EcmaArray(n) => one(0x08, 4, n as u64),
-        Record::ObjectEnd => bare(0x09),
-        Record::StrictArray(n) => one(0x0A, 4, n as u64),
-        Record::Date(n, present, zone) => three(0x0B, 8, n, 1, bit(present), 2, zone as u64),
-        Record::Unsupported => bare(0x0D),
-        Record::Xml(p, n) => two(0x0F, 3, p as u64, 3, n as u64),
-        Record::TypedObject(p, n) => two(0x10, 3, p as u64, 2, n as u64),
-        Record::Key(p, n) => two(0x20, 3, p as u64, 2, n as u64),
-        Record::Packet(headers, messages) => two(0x30, 2, headers as u64, 2, messages as u64),
-        Record::Header(p, n, flag) => three(0x31, 3, p as u64, 2, n as u64, 1, bit(flag)),
+        Record::Number(n) => one(kind::NUMBER, 8, n),
+        Record::Boolean(v) => one(kind::BOOLEAN, 1, bit(v)),
+        Record::Text(p, n) => two(kind::TEXT, 3, p as u64, 3, n as u64),
+        Record::Object => bare(kind::OBJECT),
+        Record::Null => bare(kind::NULL),
+        Record::Undefined => bare(kind::UNDEFINED),
+        Record::Reference(n) => one(kind::REFERENCE, 2, n as u64),
+        Record::EcmaArray(n) => one(kind::ECMA_ARRAY, 4, n as u64),
+        Record::ObjectEnd => bare(kind::OBJECT_END),
+        Record::StrictArray(n) => one(kind::STRICT_ARRAY, 4, n as u64),
+        Record::Date(n, present, zone) => three(kind::DATE, 8, n, 1, bit(present), 2, zone as u64),
+        Record::Unsupported => bare(kind::UNSUPPORTED),
+        Record::Xml(p, n) => two(kind::XML, 3, p as u64, 3, n as u64),
+        Record::TypedObject(p, n) => two(kind::TYPED_OBJECT, 3, p as u64, 2, n as u64),
+        Record::Key(p, n) => two(kind::KEY, 3, p as u64, 2, n as u64),
+        Record::Packet(headers, messages) => two(
+            kind::PACKET,
+            2,
+            headers as u64,
+            2,
+            messages as u64,
+        ),
+        Record::Header(p, n, flag) => three(kind::HEADER, 3, p as u64, 2, n as u64, 1, bit(flag)),
         Record::Message(p, n, q, m) => four(
-            0x32,
+            kind::MESSAGE,
             3,
             p as u64,
             2,
@@ -133,18 +141,6 @@ pub fn layout_of(r: Record) -> Layout
             2,
             m as u64,
         ),
-        Record::Lso(stored, p, n) => three(0x33, 4, stored as u64, 3, p as u64, 2, n as u64),
+        Record::Lso(stored, p, n) => three(kind::LSO, 4, stored as u64, 3, p as u64, 2, n as u64),
     }
-}
-
-// How many image bytes a record takes.
-pub(crate) fn record_size(r: Record) -> usize
-    ensures { λ n. ⌜ n ≡ size r ⌝ }
-{
-    let l = layout_of(r);
-    let a = l.a;
-    let b = l.b;
-    let c = l.c;
-    let d = l.d;
-    1 + a.width + b.width + c.width + d.width
 }

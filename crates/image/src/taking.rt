@@ -1,4 +1,5 @@
 // The record at a place of an image.
+use crate::kind;
 use crate::record::Record;
 use wire::cursor::Cursor;
 use wire::cursor::Text;
@@ -7,7 +8,7 @@ use wire::cursor::U16;
 use wire::cursor::U32;
 use wire::cursor::U64;
 ghost use mathlib.Core.Path.{_≡_};
-ghost use Rattle.image.specs.Taking.{flagAt, shortAt, longAt, bodyAt, recordAt};
+ghost use Rattle.image.specs.Taking.{flagAt, shortAt, longAt, zoneFits, bodyAt, recordAt};
 
 // A record with the cursor behind it; or its kind is none of the table's, or its body is not whole or not right.
 pub enum Taken {
@@ -64,6 +65,16 @@ pub fn long_at(image: &[u8], c: Cursor) -> Text
     }
 }
 
+// A zone that is absent is 0.
+pub fn zone_fits(present: bool, zone: u16) -> bool
+    ensures { λ r. ⌜ r ≡ zoneFits present zone ⌝ }
+{
+    if present {
+        return true;
+    }
+    zone == 0
+}
+
 // The longer bodies, each by the line of its kind.
 fn date_at(image: &[u8], c: Cursor) -> Taken
     ensures { λ r. ⌜ r ≡ bodyAt 0x0B (now (image .entry)) (c .at) ⌝ }
@@ -72,10 +83,8 @@ fn date_at(image: &[u8], c: Cursor) -> Taken
         U64::Got(n, d) => match flag_at(image, d) {
             Flag::Got(present, e) => match e.be_u16(image) {
                 U16::Got(zone, f) => {
-                    if present {
-                        Taken::Found(Record::Date(n, true, zone), f)
-                    } else if zone == 0 {
-                        Taken::Found(Record::Date(n, false, zone), f)
+                    if zone_fits(present, zone) {
+                        Taken::Found(Record::Date(n, present, zone), f)
                     } else {
                         Taken::Bad
                     }
@@ -140,52 +149,52 @@ fn body_at(image: &[u8], kind: u8, c: Cursor) -> Taken
     ensures { λ r. ⌜ r ≡ bodyAt kind (now (image .entry)) (c .at) ⌝ }
 {
     match kind {
-        0x00 => match c.be_u64(image) {
+        kind::NUMBER => match c.be_u64(image) {
             U64::Got(n, d) => Taken::Found(Record::Number(n), d),
             U64::Stop(_, _) => Taken::Bad,
         },
-        0x01 => match flag_at(image, c) {
+        kind::BOOLEAN => match flag_at(image, c) {
             Flag::Got(b, d) => Taken::Found(Record::Boolean(b), d),
             Flag::Bad => Taken::Bad,
         },
-        0x02 => match long_at(image, c) {
+        kind::TEXT => match long_at(image, c) {
             Text::Got(p, n, d) => Taken::Found(Record::Text(p, n), d),
             Text::Stop(_, _) => Taken::Bad,
         },
-        0x03 => Taken::Found(Record::Object, c),
-        0x05 => Taken::Found(Record::Null, c),
-        0x06 => Taken::Found(Record::Undefined, c),
-        0x07 => match c.be_u16(image) {
+        kind::OBJECT => Taken::Found(Record::Object, c),
+        kind::NULL => Taken::Found(Record::Null, c),
+        kind::UNDEFINED => Taken::Found(Record::Undefined, c),
+        kind::REFERENCE => match c.be_u16(image) {
             U16::Got(n, d) => Taken::Found(Record::Reference(n), d),
             U16::Stop(_, _) => Taken::Bad,
         },
-        0x08 => match c.be_u32(image) {
+        kind::ECMA_ARRAY => match c.be_u32(image) {
             U32::Got(n, d) => Taken::Found(Record::EcmaArray(n), d),
             U32::Stop(_, _) => Taken::Bad,
         },
-        0x09 => Taken::Found(Record::ObjectEnd, c),
-        0x0A => match c.be_u32(image) {
+        kind::OBJECT_END => Taken::Found(Record::ObjectEnd, c),
+        kind::STRICT_ARRAY => match c.be_u32(image) {
             U32::Got(n, d) => Taken::Found(Record::StrictArray(n), d),
             U32::Stop(_, _) => Taken::Bad,
         },
-        0x0B => date_at(image, c),
-        0x0D => Taken::Found(Record::Unsupported, c),
-        0x0F => match long_at(image, c) {
+        kind::DATE => date_at(image, c),
+        kind::UNSUPPORTED => Taken::Found(Record::Unsupported, c),
+        kind::XML => match long_at(image, c) {
             Text::Got(p, n, d) => Taken::Found(Record::Xml(p, n), d),
             Text::Stop(_, _) => Taken::Bad,
         },
-        0x10 => match short_at(image, c) {
+        kind::TYPED_OBJECT => match short_at(image, c) {
             Text::Got(p, n, d) => Taken::Found(Record::TypedObject(p, n), d),
             Text::Stop(_, _) => Taken::Bad,
         },
-        0x20 => match short_at(image, c) {
+        kind::KEY => match short_at(image, c) {
             Text::Got(p, n, d) => Taken::Found(Record::Key(p, n), d),
             Text::Stop(_, _) => Taken::Bad,
         },
-        0x30 => packet_at(image, c),
-        0x31 => header_at(image, c),
-        0x32 => message_at(image, c),
-        0x33 => lso_at(image, c),
+        kind::PACKET => packet_at(image, c),
+        kind::HEADER => header_at(image, c),
+        kind::MESSAGE => message_at(image, c),
+        kind::LSO => lso_at(image, c),
         _ => Taken::Bad,
     }
 }

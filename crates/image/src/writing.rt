@@ -36,6 +36,16 @@ pub struct Writing {
     pub count: usize,
 }
 
+// A writing that is refused.
+pub fn refused(a: u8) -> Writing
+    ensures { λ r. ⌜ r ≡ record { answer = a; count = 0 } ⌝ }
+{
+    Writing {
+        answer: a,
+        count: 0,
+    }
+}
+
 // Whether a text stands in the lent one and is UTF-8.
 fn named(text: &[u8], place: usize, n: usize) -> bool
     ensures { λ x. ⌜ x ≡ namedAt (now (text .entry)) place n ⌝ }

@@ -1,5 +1,6 @@
 // Which of two marks comes first.
 use crate::mark::Mark;
+use image::kind;
 use image::taking::short_at;
 use wire::cursor::Cursor;
 use wire::cursor::Text;
@@ -43,7 +44,7 @@ pub(crate) fn key_text<'a>(image: &[u8], text: &'a [u8], key: u32) -> &'a [u8]
 {
     match (Cursor { at: key as usize }).be_u8(image) {
         U8::Got(kind, c) => {
-            if kind == 0x20 {
+            if kind == kind::KEY {
                 match short_at(image, c) {
                     Text::Got(p, n, _) => part(text, p, n),
                     Text::Stop(_, _) => &text[0..0],

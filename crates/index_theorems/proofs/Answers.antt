@@ -1,25 +1,24 @@
 -- What the public call answers, whatever the image is.
-use Rattle.wire.proofs.Kit.{ℕ, _*_, _/_, _≤_, _<_, _≡_, refl, sym, ap, _∙_, List, [], _⊎_, inl, inr, ⊎-elim, _≢_, _↔_, arith, leb, length, le-leb, leb-true}
-use Rattle.wire.proofs.Kit.{leb-false}
+use Rattle.wire.proofs.Kit.{ℕ, _*_, _/_, _≤_, _<_, _≡_, refl, sym, ap, _∙_, List, [], Bool, true, false, _⊎_, inl, inr, ⊎-elim, _≢_, _↔_, arith, leb, length, le-leb, leb-true}
+use Rattle.wire.proofs.Kit.{leb-false, eqb}
 use Rattle.wire.specs.Choice.{pick}
 use Rattle.wire.specs.Limit as limit
 use Rattle.wire.specs.Number.{Bytes}
 use Rattle.wire.proofs.Laws.{picked}
 use Rattle.image.specs.declared.taking.Taken.{Taken}
 use Rattle.image.specs.declared.taking.Taken.the-variants.{Found, Bad}
+use Rattle.image.specs.Kind as kind
+use Rattle.image.specs.Record.{layoutOf}
 use Rattle.image.specs.Taking.{recordAt}
 use Rattle.image.specs.Out.{Out, end, stop, put, bytes as bytesOut, Written, unwritten, ended, settled}
 use Rattle.amf0.specs.Writing as amf0
-use Rattle.lso.specs.declared.write.Part.{Part}
-use Rattle.lso.specs.declared.write.Part.the-variants as P
 use Rattle.lso.specs.Writing as lso
-use Rattle.lso.specs.Writing.{partOf}
 use Rattle.index.specs.declared.mark.Mark.{Mark}
 use Rattle.index.specs.Mark.{rows}
 use Rattle.index.specs.Index.{Indexed, unindexed, keyed, unless, indexed, indexOf, keysOf}
 use Rattle.index.proofs.Rows.{length-rowsAt}
 use Rattle.index_theorems.proofs.Refusals.{answerOf}
-use Rattle.index_theorems.proofs.FileRefusals.{writingBy, writingIn, writingOf, refused-as-written}
+use Rattle.index_theorems.proofs.FileRefusals.{writingIn, writingOf, refused-as-written}
 use Rattle.index_theorems.proofs.Room.{Rowed, counted, keys-rowed}
 
 -- ---- a walk that is refused, or not
@@ -112,13 +111,8 @@ index-refused image text room = go (indexOf image text room) (index-outcome imag
 -- ---- the public writers
 
 -- what the public writer of files comes to, where the first record is a file's, else what that of values does
-abbrev pub writesBy : (image text : List ℕ) → ℕ → Part → Written
-writesBy image text out (P.File p n) = lso.writeOf image text out
-writesBy image text out (P.Key p n) = amf0.writeOf image text out
-writesBy image text out P.Other = amf0.writeOf image text out
-
 abbrev pub writesIn : (image text : List ℕ) → ℕ → Taken → Written
-writesIn image text out (Found r c) = writesBy image text out (partOf r)
+writesIn image text out (Found r c) = pick (eqb (layoutOf r .kind) kind.lso) (lso.writeOf image text out) (amf0.writeOf image text out)
 writesIn image text out Bad = amf0.writeOf image text out
 
 unfoldable pub writesOf : (image text : List ℕ) → ℕ → Written
@@ -130,15 +124,16 @@ writes-walk : (image text : List ℕ) (out : ℕ) → writesOf image text out
 unfolding writesOf writingOf
 writes-walk image text out = go (recordAt image 0)
   where
-    by : (x : Part) → writesBy image text out x
-        ≡ pick (leb (length text) limit.bytes) (pick (leb (length image) limit.image) (settled (writingBy image text x) out) (unwritten 1)) (unwritten 1)
-    by (P.File p n) = refl
-    by (P.Key p n) = refl
-    by P.Other = refl
+    by : (t : Bool) → pick t (lso.writeOf image text out) (amf0.writeOf image text out)
+        ≡ pick (leb (length text) limit.bytes)
+        (pick (leb (length image) limit.image)
+        (settled (pick t (lso.file lso.lengthOf image text) (amf0.whole image (amf0.value limit.levels image text 0))) out) (unwritten 1)) (unwritten 1)
+    by true = refl
+    by false = refl
 
     go : (t : Taken) → writesIn image text out t
         ≡ pick (leb (length text) limit.bytes) (pick (leb (length image) limit.image) (settled (writingIn image text t) out) (unwritten 1)) (unwritten 1)
-    go (Found r c) = by (partOf r)
+    go (Found r c) = by (eqb (layoutOf r .kind) kind.lso)
     go Bad = refl
 
 -- an answer for what the image holds

@@ -1,5 +1,5 @@
 -- The index of a file's image is refused where, and with what, the writing of that file is.
-use Rattle.wire.proofs.Kit.{ℕ, zero, suc, _+_, _≤_, _<_, _≡_, refl, List, false, _≢_, arith, leb, length, le-leb, leb-true}
+use Rattle.wire.proofs.Kit.{ℕ, zero, suc, _+_, _≤_, _<_, _≡_, refl, List, false, _≢_, arith, leb, eqb, length, le-leb, leb-true}
 use Rattle.wire.specs.Choice.{pick}
 use Rattle.wire.specs.Limit as limit
 use Rattle.wire.specs.Number.{Bytes}
@@ -8,14 +8,13 @@ use Rattle.image.specs.declared.record.Record.{Record}
 use Rattle.image.specs.declared.record.Record.the-variants as R
 use Rattle.image.specs.declared.taking.Taken.{Taken}
 use Rattle.image.specs.declared.taking.Taken.the-variants.{Found, Bad}
-use Rattle.image.specs.Record.{_bytes_, none}
+use Rattle.image.specs.Kind as kind
+use Rattle.image.specs.Record.{layoutOf}
 use Rattle.image.specs.Taking.{recordAt}
 use Rattle.image.specs.Out.{Out, end, stop, put, _>>=_, row, namedAt, rowBytes}
 use Rattle.image.proofs.Pouring.{named-none}
 use Rattle.amf0.specs.Writing.{taken, value as written, whole}
-use Rattle.lso.specs.declared.write.Part.{Part}
-use Rattle.lso.specs.declared.write.Part.the-variants as P
-use Rattle.lso.specs.Writing.{partOf, keyed as keyedBy, rowOf, element, body, file, lengthOf}
+use Rattle.lso.specs.Writing.{keying, zero-byte, element, body, file, lengthOf}
 use Rattle.index.specs.declared.walk.Rest.the-variants.{Body}
 use Rattle.index.specs.declared.walk.Role.{Role}
 use Rattle.index.specs.declared.walk.Role.the-variants as Role
@@ -25,38 +24,41 @@ use Rattle.index.specs.Keys.{roleOf, keyBy, keyIn, pairAt, turnOf, turned, rest
 use Rattle.index_theorems.proofs.Refusals.{Alike, behind, both, cases, Ahead, alike-value, answerOf, same-answer, refused-alike}
 
 -- what a record is to the two
-data Kin : Part → Role → Type 0 where
-  k-key : {p n : ℕ} → Kin (P.Key p n) (Role.Key p n)
-  k-file : {p n : ℕ} → Kin (P.File p n) (Role.File p n)
-  k-value : {p n : ℕ} {f : _} → Kin P.Other (Role.Value p n f)
-  k-end : Kin P.Other Role.End
-  k-other : Kin P.Other Role.Other
+abbrev Neither : Record → Type 0
+Neither r = (eqb (layoutOf r .kind) kind.key ≡ false) × (eqb (layoutOf r .kind) kind.lso ≡ false)
 
-kin : (r : Record) → Kin (partOf r) (roleOf r)
-kin (R.Number n) = Kin.k-value
-kin (R.Boolean b) = Kin.k-value
-kin (R.Text p n) = Kin.k-value
-kin R.Object = Kin.k-value
-kin R.Null = Kin.k-value
-kin R.Undefined = Kin.k-value
-kin (R.Reference n) = Kin.k-value
-kin (R.EcmaArray n) = Kin.k-value
-kin R.ObjectEnd = Kin.k-end
-kin (R.StrictArray n) = Kin.k-value
-kin (R.Date n present zone) = Kin.k-value
-kin R.Unsupported = Kin.k-value
-kin (R.Xml p n) = Kin.k-value
-kin (R.TypedObject p n) = Kin.k-value
+data Kin : Record → Role → Type 0 where
+  k-key : {p n : ℕ} → Kin (R.Key p n) (Role.Key p n)
+  k-file : {l p n : ℕ} → Kin (R.Lso l p n) (Role.File p n)
+  k-value : {r : Record} {p n : ℕ} {f : _} → Neither r → Kin r (Role.Value p n f)
+  k-end : {r : Record} → Neither r → Kin r Role.End
+  k-other : {r : Record} → Neither r → Kin r Role.Other
+
+kin : (r : Record) → Kin r (roleOf r)
+kin (R.Number n) = Kin.k-value (refl, refl)
+kin (R.Boolean b) = Kin.k-value (refl, refl)
+kin (R.Text p n) = Kin.k-value (refl, refl)
+kin R.Object = Kin.k-value (refl, refl)
+kin R.Null = Kin.k-value (refl, refl)
+kin R.Undefined = Kin.k-value (refl, refl)
+kin (R.Reference n) = Kin.k-value (refl, refl)
+kin (R.EcmaArray n) = Kin.k-value (refl, refl)
+kin R.ObjectEnd = Kin.k-end (refl, refl)
+kin (R.StrictArray n) = Kin.k-value (refl, refl)
+kin (R.Date n present zone) = Kin.k-value (refl, refl)
+kin R.Unsupported = Kin.k-value (refl, refl)
+kin (R.Xml p n) = Kin.k-value (refl, refl)
+kin (R.TypedObject p n) = Kin.k-value (refl, refl)
 kin (R.Key p n) = Kin.k-key
-kin (R.Packet h m) = Kin.k-other
-kin (R.Header p n f) = Kin.k-other
-kin (R.Message p n q m) = Kin.k-other
+kin (R.Packet h m) = Kin.k-other (refl, refl)
+kin (R.Header p n f) = Kin.k-other (refl, refl)
+kin (R.Message p n q m) = Kin.k-other (refl, refl)
 kin (R.Lso l p n) = Kin.k-file
 
 module _ (image s : List ℕ) (known : Bytes image) where
   -- a value, and the zero behind it
   zeroed : ℕ → ℕ → Out
-  zeroed at q = written 32 image s q >>= λ e. row s (rowOf (1 bytes 0) none none 0 0) at (end e)
+  zeroed at q = written 32 image s q >>= λ e. row s zero-byte at (end e)
 
   tail : {P : ℕ → Type 0} {d e : Out} (k : ℕ → Out) (b : List ℕ) → ((n : ℕ) → k n ≡ put b (end n)) → Alike P d e → Alike P d (e >>= k)
   tail k b f (Alike.ends {n} p) = rw (f n) (Alike.aft (Alike.ends p))
@@ -67,7 +69,7 @@ module _ (image s : List ℕ) (known : Bytes image) where
   alike-zeroed : (at q : ℕ) → q ≤ length image → Alike (Ahead image s known q) (value 32 image s q) (zeroed at q)
   unfolding zeroed row
   alike-zeroed at q h =
-      tail (λ e. row s (rowOf (1 bytes 0) none none 0 0) at (end e)) (rowBytes s (rowOf (1 bytes 0) none none 0 0)) (λ n. rw (named-none s))
+      tail (λ e. row s zero-byte at (end e)) (rowBytes s zero-byte) (λ n. rw (named-none s))
       (alike-value image s known 32 q h)
 
   -- at the image's end
@@ -84,29 +86,30 @@ module _ (image s : List ℕ) (known : Bytes image) where
       (λ t. rw t (Alike.ends {n = at} (leb-true (length image) at t)))
       (λ t. rw t (go (recordAt image at) refl (λ n b. alike-body f g n (b .1) (omega arith) (omega arith))))
     where
-      by : (x : Part) (y : Role) (c : Cursor) → at + 1 ≤ c .at → c .at ≤ length image → Kin x y
+      by : (r : Record) (y : Role) (c : Cursor) → at + 1 ≤ c .at → c .at ≤ length image → Kin r y
           → ((n : ℕ) → (at + 1 ≤ n) × (n ≤ length image) → Alike AtEnd (rest (value 32 image s) image s 0 1 f Body n) (body image s g n))
           → Alike AtEnd
           (turned at (keyBy s Body false y c) (λ q t. value 32 image s q >>= rest (value 32 image s) image s 0 1 f t)
           (λ q t. put (markBytes (mark 1 0 at q)) (value 32 image s q >>= rest (value 32 image s) image s 0 1 f t)))
-          ((keyedBy at x λ p n. row s (rowOf none (2 bytes n) none p n) at (zeroed at (c .at))) >>= body image s g)
-      by x y c b e (Kin.k-key {p} {n}) more =
+          (pick (eqb (layoutOf r .kind) kind.key) (row s (keying (layoutOf r .a .number) (layoutOf r .b .number)) at (zeroed at (c .at))) (stop 6 at) >>= body image s g)
+      by r y c b e (Kin.k-key {p} {n}) more =
           cases (namedAt s p n)
           (λ t. rw t
           (Alike.fore (Alike.aft (both (rest (value 32 image s) image s 0 1 f Body) (body image s g) (alike-zeroed at (c .at) e) (λ m u. more m (omega arith, u .1))))))
           (λ t. rw t Alike.stops)
-      by x y c b e Kin.k-file more = Alike.stops
-      by x y c b e Kin.k-value more = Alike.stops
-      by x y c b e Kin.k-end more = Alike.stops
-      by x y c b e Kin.k-other more = Alike.stops
+      by r y c b e Kin.k-file more = Alike.stops
+      by r y c b e (Kin.k-value i) more = rw (i .0) Alike.stops
+      by r y c b e (Kin.k-end i) more = rw (i .0) Alike.stops
+      by r y c b e (Kin.k-other i) more = rw (i .0) Alike.stops
 
       go : (t : Taken) → recordAt image at ≡ t
           → ((n : ℕ) → (at + 1 ≤ n) × (n ≤ length image) → Alike AtEnd (rest (value 32 image s) image s 0 1 f Body n) (body image s g n))
           → Alike AtEnd
           (turned at (keyIn s Body false t) (λ q y. value 32 image s q >>= rest (value 32 image s) image s 0 1 f y)
           (λ q y. put (markBytes (mark 1 0 at q)) (value 32 image s q >>= rest (value 32 image s) image s 0 1 f y)))
-          ((taken at t λ r q. keyedBy at (partOf r) λ p n. row s (rowOf none (2 bytes n) none p n) at (zeroed at q)) >>= body image s g)
-      go (Found r c) e more = let p = behind image known at r c e in by (partOf r) (roleOf r) c (p .from) (p .fits) (kin r) more
+          ((taken at t λ r q.
+          pick (eqb (layoutOf r .kind) kind.key) (row s (keying (layoutOf r .a .number) (layoutOf r .b .number)) at (zeroed at q)) (stop 6 at)) >>= body image s g)
+      go (Found r c) e more = let p = behind image known at r c e in by r (roleOf r) c (p .from) (p .fits) (kin r) more
       go Bad e more = Alike.stops
 
   abbrev Any : ℕ → Type 0
@@ -120,20 +123,16 @@ module _ (image s : List ℕ) (known : Bytes image) where
   checked (Alike.fore a) = Alike.fore (checked a)
   checked (Alike.aft a) = Alike.aft (checked a)
 
-  file-alike-by : (says : ℕ → ℕ → ℕ) (r : Record) (p n : ℕ) (c : Cursor) → recordAt image 0 ≡ Found r c → partOf r ≡ P.File p n → roleOf r ≡ Role.File p n
-      → Alike Any (keysOf image s) (file says image s)
-  unfolding keysOf rootOf file row
-  file-alike-by says r p n c e f g =
-      let b = behind image known 0 r c e in
-      cases (namedAt s p n)
-      (λ t. rw (e, f, g, t, named-none s)
-      (Alike.aft (Alike.aft (Alike.aft (checked (alike-body (suc (length image)) (length image) (c .at) (b .fits) (omega arith) (omega arith)))))))
-      (λ t. rw (e, f, g, t, named-none s) (Alike.aft Alike.stops))
-
   -- an image that begins with a file's record
   pub file-keys-alike : (says : ℕ → ℕ → ℕ) (stored p n : ℕ) (c : Cursor) → recordAt image 0 ≡ Found (R.Lso stored p n) c
       → Alike Any (keysOf image s) (file says image s)
-  file-keys-alike says stored p n c e = file-alike-by says (R.Lso stored p n) p n c e refl refl
+  unfolding keysOf rootOf file row
+  file-keys-alike says stored p n c e =
+      let b = behind image known 0 (R.Lso stored p n) c e in
+      cases (namedAt s p n)
+      (λ t. rw (e, t, named-none s)
+      (Alike.aft (Alike.aft (Alike.aft (checked (alike-body (suc (length image)) (length image) (c .at) (b .fits) (omega arith) (omega arith)))))))
+      (λ t. rw (e, t, named-none s) (Alike.aft Alike.stops))
 
   pub file-refused-alike : (says : ℕ → ℕ → ℕ) (stored p n : ℕ) (c : Cursor) → recordAt image 0 ≡ Found (R.Lso stored p n) c
       → answerOf (keysOf image s) ≡ answerOf (file says image s)
@@ -142,13 +141,8 @@ module _ (image s : List ℕ) (known : Bytes image) where
 -- ---- any image
 
 module _ (image s : List ℕ) where
-  abbrev pub writingBy : Part → Out
-  writingBy (P.File p n) = file lengthOf image s
-  writingBy (P.Key p n) = whole image (written limit.levels image s 0)
-  writingBy P.Other = whole image (written limit.levels image s 0)
-
   abbrev pub writingIn : Taken → Out
-  writingIn (Found r c) = writingBy (partOf r)
+  writingIn (Found r c) = pick (eqb (layoutOf r .kind) kind.lso) (file lengthOf image s) (whole image (written limit.levels image s 0))
   writingIn Bad = whole image (written limit.levels image s 0)
 
   -- the writing of an image: that of a file, where the first record is a file's, else that of a value
@@ -160,16 +154,16 @@ pub refused-as-written : (image s : List ℕ) → Bytes image → answerOf (keys
 unfolding writingOf rootOf
 refused-as-written image s known = go (recordAt image 0) refl
   where
-    by : (r : Record) (c : Cursor) → recordAt image 0 ≡ Found r c → (x : Part) (y : Role) → partOf r ≡ x → roleOf r ≡ y → Kin x y
-        → answerOf (keysOf image s) ≡ answerOf (writingBy image s x)
-    by r c e x y f g (Kin.k-file {p} {n}) = same-answer (file-alike-by image s known lengthOf r p n c e f g)
-    by r c e x y f g Kin.k-key = refused-alike image s known (rw (e, g) refl)
-    by r c e x y f g Kin.k-value = refused-alike image s known (rw (e, g) refl)
-    by r c e x y f g Kin.k-end = refused-alike image s known (rw (e, g) refl)
-    by r c e x y f g Kin.k-other = refused-alike image s known (rw (e, g) refl)
+    by : (r : Record) (c : Cursor) → recordAt image 0 ≡ Found r c → (y : Role) → roleOf r ≡ y → Kin r y
+        → answerOf (keysOf image s) ≡ answerOf (writingIn image s (Found r c))
+    by r c e y g (Kin.k-file {l} {p} {n}) = same-answer (file-keys-alike image s known lengthOf l p n c e)
+    by r c e y g Kin.k-key = refused-alike image s known (rw e refl)
+    by r c e y g (Kin.k-value i) = rw (i .1) (refused-alike image s known (rw (e, g) refl))
+    by r c e y g (Kin.k-end i) = rw (i .1) (refused-alike image s known (rw (e, g) refl))
+    by r c e y g (Kin.k-other i) = rw (i .1) (refused-alike image s known (rw (e, g) refl))
 
     go : (t : Taken) → recordAt image 0 ≡ t → answerOf (keysOf image s) ≡ answerOf (writingIn image s t)
-    go (Found r c) e = by r c e (partOf r) (roleOf r) refl refl (kin r)
+    go (Found r c) e = by r c e (roleOf r) refl (kin r)
     go Bad e = refused-alike image s known (rw e refl)
 
 -- A writing as a file that is not refused with 6 goes as the index does: then a file's record is in front.
@@ -178,14 +172,13 @@ pub refused-as-file : (image s : List ℕ) → Bytes image → (says : ℕ → �
 unfolding file answerOf
 refused-as-file image s known says ne = go (recordAt image 0) refl
   where
-    by : (r : Record) (c : Cursor) → recordAt image 0 ≡ Found r c → (x : Part) (y : Role) → partOf r ≡ x → roleOf r ≡ y → Kin x y
-        → answerOf (keysOf image s) ≡ answerOf (file says image s)
-    by r c e x y f g (Kin.k-file {p} {n}) = same-answer (file-alike-by image s known says r p n c e f g)
-    by r c e x y f g Kin.k-key = absurd (ne (rw (e, f) refl))
-    by r c e x y f g Kin.k-value = absurd (ne (rw (e, f) refl))
-    by r c e x y f g Kin.k-end = absurd (ne (rw (e, f) refl))
-    by r c e x y f g Kin.k-other = absurd (ne (rw (e, f) refl))
+    by : (r : Record) (c : Cursor) → recordAt image 0 ≡ Found r c → (y : Role) → Kin r y → answerOf (keysOf image s) ≡ answerOf (file says image s)
+    by r c e y (Kin.k-file {l} {p} {n}) = same-answer (file-keys-alike image s known says l p n c e)
+    by r c e y Kin.k-key = absurd (ne (rw e refl))
+    by r c e y (Kin.k-value i) = absurd (ne (rw (e, i .1) refl))
+    by r c e y (Kin.k-end i) = absurd (ne (rw (e, i .1) refl))
+    by r c e y (Kin.k-other i) = absurd (ne (rw (e, i .1) refl))
 
     go : (t : Taken) → recordAt image 0 ≡ t → answerOf (keysOf image s) ≡ answerOf (file says image s)
-    go (Found r c) e = by r c e (partOf r) (roleOf r) refl refl (kin r)
+    go (Found r c) e = by r c e (roleOf r) (kin r)
     go Bad e = absurd (ne (rw e refl))

@@ -40,7 +40,7 @@ module _ (s image : List ℕ) where
   element-first : {at : ℕ} (p n : ℕ) (rs : List Record) (z : List ℕ) → Here image at (laid (R.Key p n ∷ rs)) z → Right s (R.Key p n ∷ rs)
       → pairAt image s Body false at ≡ Coming.Key (to (at + size (R.Key p n))) Body
   unfolding pairAt
-  element-first p n rs z h g = rw (first s image (R.Key p n) rs z h (g .0), stands s p n (g .1))
+  element-first p n rs z h g = rw (first s image (R.Key p n) rs z h (g .0), stands s p n (g .1 .0))
 
   key-turn : (v : ℕ → Out) (fuel at q : ℕ) {x : List ℕ} {n : ℕ} → at < length image → pairAt image s Body false at ≡ Coming.Key (to q) Body
       → Puts ⊥ (v q >>= rest v image s 0 1 fuel Body) x n → Puts ⊥ (rest v image s 0 1 (suc fuel) Body at) (markBytes (mark 1 0 at q) ++ x) n

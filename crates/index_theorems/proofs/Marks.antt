@@ -9,11 +9,11 @@ use Rattle.image.specs.Record.{size}
 use Rattle.image.specs.Out.{Out, _>>=_, namedAt}
 use Rattle.image.proofs.Laws.{size-some}
 use Rattle.image.proofs.Pouring.{named-none}
-use Rattle.amf0.specs.Standard.{Item, Sort, Tree, depth, follows}
+use Rattle.amf0.specs.Standard.{Item, Sort, Tree, depth, follows, Content, content, sortOf}
 use Rattle.amf0.specs.Shown.{Word, look, laid, Stands, Named, Right}
 use Rattle.amf0.specs.Shown.Word.{item, name, close, other}
 use Rattle.amf0.specs.Writing.{valueAt}
-use Rattle.amf0.specs.Written.{Lead, lead, Spells}
+use Rattle.amf0.specs.Written.{Lead, lead, Spells, leadOf}
 use Rattle.amf0.specs.Written.Lead.{keyed, keyless}
 use Rattle.amf0_theorems.proofs.Complete.{within}
 use Rattle.amf0_theorems.proofs.Puts.{Puts, then, laid-append, laid-length, laid-size, right-left, right-right, one, first, others, value-begins, pairs-begin}
@@ -34,25 +34,16 @@ flat-append (e ∷ a) b = rw (flat-append a b) (sym (append-assoc (markBytes e) 
 -- ---- what the records are
 
 -- what follows an item
-abbrev pub dueOf : Item → Rest
-dueOf (Item.number n) = Nothing
-dueOf (Item.boolean b) = Nothing
-dueOf (Item.string t) = Nothing
-dueOf Item.object = Pairs
-dueOf Item.null = Nothing
-dueOf Item.undefined = Nothing
-dueOf (Item.reference n) = Nothing
-dueOf (Item.ecma-array n) = Dense
-dueOf (Item.strict-array n) = Values n
-dueOf (Item.date n z) = Nothing
-dueOf Item.unsupported = Nothing
-dueOf (Item.xml-document t) = Nothing
-dueOf (Item.typed-object t) = Pairs
+abbrev pub dueOf : Content → Rest
+dueOf Content.nothing = Nothing
+dueOf Content.named = Pairs
+dueOf Content.associative = Dense
+dueOf (Content.ordered n) = Values n
 
 pub record Valued (s : List ℕ) (r : Record) (i : Item) : Type 0 where
   pub p : ℕ
   pub n : ℕ
-  pub role : roleOf r ≡ Role.Value p n (dueOf i)
+  pub role : roleOf r ≡ Role.Value p n (dueOf (content i))
   pub named : namedAt s p n ≡ true
 
 pub record Keyed (s : List ℕ) (r : Record) (k : List ℕ) : Type 0 where
@@ -80,7 +71,7 @@ module _ (s : List ℕ) where
   pub means : (r : Record) → Named s r → Means s r (look s r)
   means (R.Number n) h = record { p = 0; n = 0; role = refl; named = named-none s }
   means (R.Boolean b) h = record { p = 0; n = 0; role = refl; named = named-none s }
-  means (R.Text p n) h = record { p = p; n = n; role = refl; named = stands p n h }
+  means (R.Text p n) h = record { p = p; n = n; role = refl; named = stands p n (h .0) }
   means R.Object h = record { p = 0; n = 0; role = refl; named = named-none s }
   means R.Null h = record { p = 0; n = 0; role = refl; named = named-none s }
   means R.Undefined h = record { p = 0; n = 0; role = refl; named = named-none s }
@@ -90,9 +81,9 @@ module _ (s : List ℕ) where
   means (R.StrictArray n) h = record { p = 0; n = 0; role = refl; named = named-none s }
   means (R.Date n present zone) h = record { p = 0; n = 0; role = refl; named = named-none s }
   means R.Unsupported h = record { p = 0; n = 0; role = refl; named = named-none s }
-  means (R.Xml p n) h = record { p = p; n = n; role = refl; named = stands p n h }
-  means (R.TypedObject p n) h = record { p = p; n = n; role = refl; named = stands p n h }
-  means (R.Key p n) h = record { p = p; n = n; is = refl; stands = h; text = refl; role = refl; named = stands p n h }
+  means (R.Xml p n) h = record { p = p; n = n; role = refl; named = stands p n (h .0) }
+  means (R.TypedObject p n) h = record { p = p; n = n; role = refl; named = stands p n (h .0) }
+  means (R.Key p n) h = record { p = p; n = n; is = refl; stands = h .0; text = refl; role = refl; named = stands p n (h .0) }
   means (R.Packet a b) h = tt
   means (R.Header p n f) h = tt
   means (R.Message p n q m) h = tt
@@ -110,21 +101,12 @@ module _ (s image : List ℕ) where
   part v place d fuel (keyless k) Sort.properties at = rest v image s place d fuel Dense at
   part v place d fuel (keyless k) (Sort.values n) at = rest v image s place d fuel (Values n) at
 
-  rest-part : (v : ℕ → Out) (place d fuel : ℕ) (i : Item) (q : ℕ) → rest v image s place d (suc fuel) (dueOf i) q ≡ part v place d (suc fuel) (lead i) (follows i) q
+  rest-part : (v : ℕ → Out) (place d fuel : ℕ) (c : Content) (q : ℕ) → rest v image s place d (suc fuel) (dueOf c) q ≡ part v place d (suc fuel) (leadOf c) (sortOf c) q
   unfolding rest turnOf
-  rest-part v place d fuel (Item.number n) q = refl
-  rest-part v place d fuel (Item.boolean b) q = refl
-  rest-part v place d fuel (Item.string t) q = refl
-  rest-part v place d fuel Item.object q = refl
-  rest-part v place d fuel Item.null q = refl
-  rest-part v place d fuel Item.undefined q = refl
-  rest-part v place d fuel (Item.reference n) q = refl
-  rest-part v place d fuel (Item.ecma-array n) q = refl
-  rest-part v place d fuel (Item.strict-array n) q = refl
-  rest-part v place d fuel (Item.date n z) q = refl
-  rest-part v place d fuel Item.unsupported q = refl
-  rest-part v place d fuel (Item.xml-document t) q = refl
-  rest-part v place d fuel (Item.typed-object t) q = refl
+  rest-part v place d fuel Content.nothing q = refl
+  rest-part v place d fuel Content.named q = refl
+  rest-part v place d fuel Content.associative q = refl
+  rest-part v place d fuel (Content.ordered n) q = refl
 
   module _ {at : ℕ} (r : Record) (rs : List Record) (z : List ℕ) (h : Here image at (laid (r ∷ rs)) z) where
     value-first : (left : ℕ) (i : Item) → look s r ≡ Word.item i → Right s (r ∷ rs)
@@ -132,7 +114,7 @@ module _ (s image : List ℕ) where
     unfolding value ownOf
     value-first left i e g =
         let w : Valued s r i = rw e at (means s r (g .1)) in
-        rw (first s image r rs z h (g .0), w .role, w .named) (rest-part (value left image s) at (33 - left) (length image) i (at + size r))
+        rw (first s image r rs z h (g .0), w .role, w .named) (rest-part (value left image s) at (33 - left) (length image) (content i) (at + size r))
 
     pair-first : (k : List ℕ) → look s r ≡ Word.name k → Right s (r ∷ rs) → pairAt image s Pairs true at ≡ Coming.Key (to (at + size r)) Pairs
     unfolding pairAt

@@ -1,10 +1,13 @@
 -- Why an index is refused, in terms of the trees and the files whose image is given: it has an index exactly where it is the image of one that is not too deep.
-use Rattle.wire.proofs.Kit.{ℕ, zero, suc, _*_, _≤_, _<_, _≡_, refl, ap, _∙_, List, [], _∷_, _++_, _⊎_, inl, inr, ⊎-elim, _≢_, _↔_, arith, length}
+use Rattle.wire.proofs.Kit.{ℕ, zero, suc, _*_, _≤_, _<_, _≡_, refl, ap, _∙_, List, [], _∷_, _++_, Bool, true, false, _⊎_, inl, inr, ⊎-elim, _≢_, _↔_, arith, length}
+use Rattle.wire.proofs.Kit.{eqb}
+use Rattle.wire.specs.Choice.{pick}
 use Rattle.wire.specs.Number.{Bytes, digits}
 use Rattle.wire.specs.Limit as limit
 use Rattle.image.specs.declared.record.Record.{Record}
 use Rattle.image.specs.declared.record.Record.the-variants as R
 use Rattle.image.specs.declared.record.Layout.{Layout}
+use Rattle.image.specs.Kind as kind
 use Rattle.image.specs.Record.{layoutOf, bytesOf, fieldBytes}
 use Rattle.image.specs.declared.taking.Taken.{Taken}
 use Rattle.image.specs.declared.taking.Taken.the-variants.{Found, Bad}
@@ -19,18 +22,16 @@ use Rattle.amf0_theorems.specs.Unwritten.{OutcomeOf}
 use Rattle.amf0_theorems.proofs.Puts.{Puts}
 use Rattle.amf0_theorems.proofs.WriteOutcome.{image-puts}
 use Rattle.amf0_theorems.proofs.WriteReasons as amf0-reasons
-use Rattle.lso.specs.declared.write.Part.{Part}
-use Rattle.lso.specs.declared.write.Part.the-variants as P
 use Rattle.lso.specs.File.{Lso, deepest}
 use Rattle.lso.specs.Writing as lso-writes
-use Rattle.lso.specs.Writing.{partOf, lengthOf}
+use Rattle.lso.specs.Writing.{lengthOf}
 use Rattle.lso.specs.Written as lso
 use Rattle.lso_theorems.proofs.Puts.{file-puts}
 use Rattle.lso_theorems.proofs.WriteReasons as lso-reasons
 use Rattle.index.specs.Index.{Indexed, unindexed, indexOf, keysOf}
 use Rattle.index_theorems.proofs.Refusals.{answerOf, refused-as-value}
 use Rattle.index_theorems.proofs.FileRefusals.{refused-as-written, refused-as-file}
-use Rattle.index_theorems.proofs.Answers.{allKeys, Outcome, index-outcome, index-accepted, room-enough, Own, writesBy, writesIn, writesOf, writes-own}
+use Rattle.index_theorems.proofs.Answers.{allKeys, Outcome, index-outcome, index-accepted, room-enough, Own, writesIn, writesOf, writes-own}
 
 -- ---- an image is a row of bytes
 
@@ -125,13 +126,13 @@ meant {image} {text} known x = go (recordAt image 0) (none 5 (inl refl)) (none 6
     tree : amf0-writes.writeOf image text 0 .writing .answer ≢ 5 → amf0-writes.writeOf image text 0 .writing .answer ≢ 6 → Meant image text
     tree = held (λ t m. Meant.of-tree m) (amf0-writes.writeOf image text 0) (amf0-reasons.reasons image text 0 known)
 
-    by : (y : Part) → writesBy image text 0 y .writing .answer ≢ 5 → writesBy image text 0 y .writing .answer ≢ 6 → Meant image text
-    by (P.File p n) = held (λ f m. Meant.of-file m) (lso-writes.writeOf image text 0) (lso-reasons.reasons image text 0 known)
-    by (P.Key p n) = tree
-    by P.Other = tree
+    by : (t : Bool) → pick t (lso-writes.writeOf image text 0) (amf0-writes.writeOf image text 0) .writing .answer ≢ 5
+        → pick t (lso-writes.writeOf image text 0) (amf0-writes.writeOf image text 0) .writing .answer ≢ 6 → Meant image text
+    by true = held (λ f m. Meant.of-file m) (lso-writes.writeOf image text 0) (lso-reasons.reasons image text 0 known)
+    by false = tree
 
     go : (t : Taken) → writesIn image text 0 t .writing .answer ≢ 5 → writesIn image text 0 t .writing .answer ≢ 6 → Meant image text
-    go (Found r c) = by (partOf r)
+    go (Found r c) = by (eqb (layoutOf r .kind) kind.lso)
     go Bad = tree
 
 -- ---- the call

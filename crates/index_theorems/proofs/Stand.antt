@@ -8,9 +8,9 @@ use Rattle.image.specs.declared.record.Record.the-variants as R
 use Rattle.image.specs.declared.taking.Taken.the-variants.{Found}
 use Rattle.image.specs.Record.{size}
 use Rattle.image.specs.Taking.{recordAt}
-use Rattle.amf0.specs.Standard.{Item, Sort, Tree, follows}
+use Rattle.amf0.specs.Standard.{Item, Sort, Content, content, sortOf, Tree}
 use Rattle.amf0.specs.Shown.{Word, look, laid, Right}
-use Rattle.amf0.specs.Written.{Lead, lead, Spells}
+use Rattle.amf0.specs.Written.{Lead, leadOf, Spells}
 use Rattle.amf0.specs.Written.Lead.{keyed}
 use Rattle.amf0_theorems.proofs.Puts.{laid-append, right-left, right-right, first, others}
 use Rattle.index.specs.declared.mark.Mark.{Mark}
@@ -54,7 +54,7 @@ module _ (s image : List ℕ) where
       rw (first s image r rs z h (g .0), w .role)
 
   pub opens-there : (at : ℕ) (r : Record) (rs : List Record) (z : List ℕ) (i : Item) → Here image at (laid (r ∷ rs)) z → Right s (r ∷ rs) → look s r ≡ Word.item i
-      → opensAt image at ≡ hasPairs (dueOf i)
+      → opensAt image at ≡ hasPairs (dueOf (content i))
   unfolding opensAt roleAt
   opens-there at r rs z i h g e =
       let w : Valued s r i = rw e at (means s r (g .1)) in
@@ -74,21 +74,12 @@ module _ (s image : List ℕ) where
   values-nowhere (Spells.cons v vs) key at = refl
 
   -- where no pairs follow there is no way down
-  pub no-pairs : (i : Item) {t : Tree (follows i)} {rs : List Record} (c : Spells s (lead i) (follows i) t rs) (key : List ℕ) (at : ℕ) → hasPairs (dueOf i) ≡ false
-      → lastIn s c key at ≡ Perhaps.nowhere
-  no-pairs (Item.number n) c key at h = values-nowhere c key at
-  no-pairs (Item.boolean b) c key at h = values-nowhere c key at
-  no-pairs (Item.string t) c key at h = values-nowhere c key at
-  no-pairs Item.object c key at h = absurd (false-true (sym h))
-  no-pairs Item.null c key at h = values-nowhere c key at
-  no-pairs Item.undefined c key at h = values-nowhere c key at
-  no-pairs (Item.reference n) c key at h = values-nowhere c key at
-  no-pairs (Item.ecma-array n) c key at h = absurd (false-true (sym h))
-  no-pairs (Item.strict-array n) c key at h = values-nowhere c key at
-  no-pairs (Item.date n z) c key at h = values-nowhere c key at
-  no-pairs Item.unsupported c key at h = values-nowhere c key at
-  no-pairs (Item.xml-document t) c key at h = values-nowhere c key at
-  no-pairs (Item.typed-object t) c key at h = absurd (false-true (sym h))
+  pub no-pairs : (i : Content) {t : Tree (sortOf i)} {rs : List Record} (c : Spells s (leadOf i) (sortOf i) t rs) (key : List ℕ) (at : ℕ)
+      → hasPairs (dueOf i) ≡ false → lastIn s c key at ≡ Perhaps.nowhere
+  no-pairs Content.nothing c key at h = values-nowhere c key at
+  no-pairs Content.named c key at h = absurd (false-true (sym h))
+  no-pairs Content.associative c key at h = absurd (false-true (sym h))
+  no-pairs (Content.ordered n) c key at h = values-nowhere c key at
 
   -- ---- all marks
 

@@ -7,7 +7,7 @@ use Rattle.wire.proofs.Stands.{Here, cut, skip}
 use Rattle.image.specs.declared.record.Record.{Record}
 use Rattle.image.specs.Record.{size}
 use Rattle.image.proofs.Laws.{size-some}
-use Rattle.amf0.specs.Standard.{Sort, Tree}
+use Rattle.amf0.specs.Standard.{Sort, content, Tree}
 use Rattle.amf0.specs.Shown.{laid, Right}
 use Rattle.amf0.specs.Written.{Lead, Spells}
 use Rattle.amf0.specs.Written.Lead.{keyed}
@@ -303,13 +303,13 @@ module _ (s image : List ℕ) (all es : List Mark) (kept : Kept image s all es) 
       let l = laid-size r rs in
       let b = size-some r in
       let w = opens-there s image at r rs (o .behind) i (o .here) (o .right) q in
-      cases (hasPairs (dueOf i))
+      cases (hasPairs (dueOf (content i)))
       (λ h.
       finish key at (length (laid (r ∷ rs))) (o .level + 1) (marks c at (o .level + 1) (at + size r)) (o .owns) (o .gives) (omega arith)
       (w ∙ h) (at + size r) (omega arith) (lastIn s c key (at + size r))
       (outcome s image at key c (o .right .2) (o .behind) (o .level + 1) (at + size r) (at + length (laid (r ∷ rs)))
       (others s image r rs (o .behind) (o .here)) (omega arith) (omega arith)))
-      (λ h. rw (no-pairs s image i c key (at + size r) h, w, h) refl)
+      (λ h. rw (no-pairs s image (content i) c key (at + size r) h, w, h) refl)
 
   pub leads : (path : List (List ℕ)) (x : Sub s) → Owned x → looked s image es (x .at) path ≡ placeOf s (way s x path)
   unfolding looked way

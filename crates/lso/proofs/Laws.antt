@@ -1,5 +1,5 @@
 -- The laws of the file's reading, step by step, that the functions' proofs cite.
-use Rattle.wire.proofs.Kit.{ℕ, zero, suc, _+_, _-_, _≤_, _<_, _≡_, refl, ap, _∙_, _⊎_, inl, inr, List, [], _∷_, sub-one, arith, length, eq-eqb, ne-eqb, lt-leb}
+use Rattle.wire.proofs.Kit.{ℕ, zero, suc, _+_, _-_, _≤_, _<_, _≡_, refl, ap, _∙_, List, [], _∷_, sub-one, arith, length}
 use Rattle.wire.specs.declared.cursor.Cursor.{Cursor}
 use Rattle.wire.specs.declared.cursor.Tag.{Tag}
 use Rattle.wire.specs.declared.cursor.Tag.the-variants as Tag
@@ -8,12 +8,9 @@ use Rattle.wire.specs.Field.{to, tagAt, textAt, pastTag}
 use Rattle.wire.specs.Limit as limit
 use Rattle.wire.proofs.Laws.{tag-next, pick-yes, pick-no}
 use Rattle.image.specs.declared.reading.Step.the-variants.{Next, Stop}
-use Rattle.image.specs.declared.record.Record.the-variants.{Key}
-use Rattle.image.specs.Due.{Due, end, stop, due, _>>=_, Ran, ran, run}
-use Rattle.image.proofs.Laws.{run-stop}
-use Rattle.amf0.specs.Reading.{value, topValue}
-use Rattle.lso.specs.Reading.{zerosAt, headerAt, elementAt}
-use Rattle.lso.specs.Code.{tried, runBody, runFile}
+use Rattle.image.specs.Due.{stop, ran, run}
+use Rattle.lso.specs.Reading.{zerosAt, headerAt, keyedAt, elementAt, bodyAt}
+use Rattle.lso.specs.Code.{runBody, runFile}
 
 -- ---- zeros
 
@@ -54,66 +51,15 @@ zeros-past (suc n) s at c e = go (λ p. zeros-past n s p c) (tagAt (0 ∷ []) s 
 
 -- ---- an element
 
--- the zero behind a value
-abbrev pub closing : List ℕ → ℕ → Due
-closing s e = pastTag stop (tagAt (0 ∷ []) s e) end
-
 module _ (s : List ℕ) (at : ℕ) where
   pub element-cut : {a p : ℕ} → textAt 2 s at ≡ Text.Stop a p → elementAt s at ≡ stop a p
   unfolding elementAt
   element-cut e = rw e
 
   pub element-key : {p n : ℕ} {c : Cursor} → textAt 2 s at ≡ Text.Got p n c
-      → elementAt s at ≡ due (Key p n) at (topValue s (c .at) >>= closing s)
+      → elementAt s at ≡ keyedAt s at p n (c .at)
   unfolding elementAt
   element-key e = rw e
-
--- ---- the body
-
--- where nothing is left no element is
-pub element-out : (s : List ℕ) (at : ℕ) → length s ≤ at → elementAt s at ≡ stop 2 at
-unfolding elementAt textAt
-element-out s at h = rw (lt-leb (at + 2) (length s) (omega arith))
-
-module _ (s : List ℕ) (at : ℕ) (fuel : ℕ) (h : length s ≤ fuel + at) (made : ℕ) (image : List ℕ) where
-  pub body-next : {c : Cursor} {m : ℕ} {i : List ℕ} → ran (Next c m) i ≡ run (elementAt s at) made image → at < length s
-      → runBody s fuel at made image ≡ runBody s (fuel - 1) (c .at) m i
-  unfolding runBody
-  body-next {c} {m} {i} e l = go fuel h
-    where
-      go : (f : ℕ) → length s ≤ f + at → runBody s f at made image ≡ runBody s (f - 1) (c .at) m i
-      go zero g = absurd (omega arith)
-      go (suc f) g = rw (← e, sub-one (suc f))
-
-  -- an element that gave 2 or 3 ends the body before it
-  pub body-ends : {a p : ℕ} {i : List ℕ} → ran (Stop a p) i ≡ run (elementAt s at) made image → (a ≡ 2) ⊎ (a ≡ 3)
-      → runBody s fuel at made image ≡ ran (Next (to at) made) i
-  unfolding runBody
-  body-ends {a} {p} {i} e w = go fuel h
-    where
-      pass : (a ≡ 2) ⊎ (a ≡ 3) → tried (Stop a p) i at made (runBody s 0) ≡ ran (Next (to at) made) i
-      pass (inl x) = rw (eq-eqb a 2 x)
-      pass (inr x) = let y : a ≡ 2 → ⊥ = λ z. omega arith in rw (ne-eqb a 2 y, eq-eqb a 3 x)
-
-      go : (f : ℕ) → length s ≤ f + at → runBody s f at made image ≡ ran (Next (to at) made) i
-      go zero g =
-          let d = e ∙ ap (λ (x : Due). run x made image) (element-out s at (omega arith)) ∙ run-stop made image 2 at in
-          let same : i ≡ image = ap (λ (x : Ran). x .image) d in
-          rw same
-      go (suc f) g = rw (← e) (pass w)
-
-  -- any other answer ends the call
-  pub body-stops : {a p : ℕ} {i : List ℕ} → ran (Stop a p) i ≡ run (elementAt s at) made image → (a ≡ 2 → ⊥) → (a ≡ 3 → ⊥)
-      → runBody s fuel at made image ≡ ran (Stop a p) i
-  unfolding runBody
-  body-stops {a} {p} {i} e x y = go fuel h
-    where
-      go : (f : ℕ) → length s ≤ f + at → runBody s f at made image ≡ ran (Stop a p) i
-      go zero g =
-          let d = e ∙ ap (λ (x : Due). run x made image) (element-out s at (omega arith)) ∙ run-stop made image 2 at in
-          let same : Stop a p ≡ Stop 2 at = ap (λ (x : Ran). x .step) d in
-          absurd (x (cc))
-      go (suc f) g = rw (← e, ne-eqb a 2 x, ne-eqb a 3 y)
 
 -- ---- the file
 
@@ -127,6 +73,6 @@ module _ (s image : List ℕ) where
   file-stops h e = pick-yes (length s) limit.bytes _ _ h ∙ rw (← e)
 
   pub file-body : {c : Cursor} {m : ℕ} {i : List ℕ} → length s ≤ limit.bytes → ran (Next c m) i ≡ run (headerAt s) 0 image
-      → runFile s image ≡ runBody s (length s) (c .at) m i
+      → runFile s image ≡ runBody (bodyAt s (length s) (c .at)) m i
   unfolding runFile
   file-body h e = pick-yes (length s) limit.bytes _ _ h ∙ rw (← e)

@@ -3,97 +3,42 @@ use Rattle.wire.proofs.Kit.{ℕ, zero, suc, _+_, _-_, _≤_, _<_, _≡_, refl, 
 use Rattle.wire.specs.Choice.{pick}
 use Rattle.wire.specs.Bytes.{laid}
 use Rattle.wire.specs.Limit as limit
-use Rattle.wire.specs.Field.{to, u8At}
+use Rattle.wire.specs.Field.{u8At}
 use Rattle.wire.specs.declared.cursor.Cursor.{Cursor}
 use Rattle.wire.specs.declared.cursor.U8.the-variants as U8
 use Rattle.wire.proofs.Laws.{pick-yes, pick-no, picked, laid-none}
-use Rattle.image.specs.declared.record.Record.{Record}
-use Rattle.image.specs.declared.record.Record.the-variants.{Number, Boolean, Text, Object, Null, Undefined, Reference, EcmaArray, ObjectEnd, StrictArray, Date, Unsupported, Xml, TypedObject, Key, Packet, Header, Message, Lso}
+use Rattle.image.specs.declared.record.Layout.{Layout}
 use Rattle.image.specs.declared.reading.Step.the-variants.{Next, Stop}
-use Rattle.image.specs.declared.taking.Taken.{Taken}
-use Rattle.image.specs.declared.taking.Taken.the-variants.{Found, Bad}
 use Rattle.image.specs.declared.writing.Row.{Row}
-use Rattle.image.specs.Record.{_bytes_, none, layoutOf}
-use Rattle.image.specs.Taking.{recordAt}
+use Rattle.image.specs.Kind as kind
 use Rattle.image.specs.Out.{Out, end, stop, put, _>>=_, rowBytes, namedOf, row, Poured, poured, pour, bytes as bytesOut, settled, written, unwritten}
-use Rattle.image.proofs.Found.{found-kind}
 use Rattle.image.proofs.Pouring.{Inside, inside, length-row, row-bind, went, settled-halt, settled-over, settled-full, settled-fits}
-use Rattle.amf0.specs.Writing.{value, topValue, taken}
-use Rattle.amf0.proofs.Putting.{known-bytes}
-use Rattle.lso.specs.declared.write.Part.{Part}
-use Rattle.lso.specs.declared.write.Part.the-variants as P
+use Rattle.amf0.specs.Writing.{topValue, asked}
+use Rattle.amf0.proofs.Putting.{asked-both, asked-none}
 use Rattle.lso.specs.Code.{keyOf}
-use Rattle.lso.specs.Writing.{partOf, keyed, filed, rowOf, header, element, body, file, lengthOf, writeOf}
-
--- ---- rows
-
--- the header's: the version of the form and the length; the signature and the name; four zeros
-abbrev pub opening : ℕ → Row
-opening s = rowOf (2 bytes 0x00BF) (4 bytes s) none 0 0
-
-abbrev pub naming : ℕ → ℕ → Row
-naming p n = rowOf (4 bytes 0x5443534F) (6 bytes 0x000400000000) (2 bytes n) p n
-
-abbrev pub closing : Row
-closing = rowOf (4 bytes 0) none none 0 0
-
--- an element's: its key, and the zero behind its value
-abbrev pub keying : ℕ → ℕ → Row
-keying p n = rowOf none (2 bytes n) none p n
-
-abbrev pub padding : Row
-padding = rowOf (1 bytes 0) none none 0 0
+use Rattle.lso.specs.Writing.{opening, naming, closing, keying, zero-byte, header, element, body, file, lengthOf, writeOf}
 
 -- ---- an element
 
 -- a value and a zero
 abbrev pub padded : List ℕ → List ℕ → ℕ → ℕ → Out
-padded image text at q = topValue image text q >>= λ e. row text padding at (end e)
+padded image text at q = topValue image text q >>= λ e. row text zero-byte at (end e)
 
 module _ (image text : List ℕ) (at : ℕ) where
-  -- it is its key, and then its value and the zero
-  pub element-key : element image text at ≡ keyOf (recordAt image at) text at >>= padded image text at
-  unfolding element
-  element-key = go (recordAt image at)
-    where
-      part : (y : Part) (q : ℕ) → keyed at y (λ p n. row text (keying p n) at (padded image text at q)) ≡ keyed at y (λ p n. row text (keying p n) at (end q)) >>= padded image text at
-      part (P.File p n) q = refl
-      part (P.Key p n) q = row-bind text (keying p n) at q (padded image text at)
-      part P.Other q = refl
+  -- a key's record, and what follows it
+  abbrev keyed : (ℕ → Out) → Layout → ℕ → Out
+  keyed k l q = row text (keying (l .a .number) (l .b .number)) at (k q)
 
-      go : (t : Taken) → taken at t (λ r q. keyed at (partOf r) λ p n. row text (keying p n) at (padded image text at q)) ≡ keyOf t text at >>= padded image text at
-      go (Found r c) = part (partOf r) (c .at)
-      go Bad = refl
+  -- it is its key, and then its value and the zero
+  pub element-key : element image text at ≡ keyOf image text at >>= padded image text at
+  unfolding element
+  element-key =
+      asked-both image kind.key at (λ x y. x ≡ y >>= padded image text at) (keyed (padded image text at)) (keyed end) refl
+      λ l q. row-bind text (keying (l .a .number) (l .b .number)) at q (padded image text at)
 
   -- a record of another kind is no key
-  module _ (h : (i : ℕ) → getD image i 0 < 256) (kind : ℕ) (d : Cursor) (byte : u8At image at ≡ U8.Got kind d) (other : kind ≡ 0x20 → ⊥) where
-    no-key : (r : Record) → kind ≡ layoutOf r .kind → (q : ℕ) → keyOf (Found r (to q)) text at ≡ stop 6 at
-    no-key (Number n) e q = refl
-    no-key (Boolean b) e q = refl
-    no-key (Text p n) e q = refl
-    no-key Object e q = refl
-    no-key Null e q = refl
-    no-key Undefined e q = refl
-    no-key (Reference n) e q = refl
-    no-key (EcmaArray n) e q = refl
-    no-key ObjectEnd e q = refl
-    no-key (StrictArray n) e q = refl
-    no-key (Date n z t) e q = refl
-    no-key Unsupported e q = refl
-    no-key (Xml p n) e q = refl
-    no-key (TypedObject p n) e q = refl
-    no-key (Key p n) e q = absurd (other e)
-    no-key (Packet m n) e q = refl
-    no-key (Header p n f) e q = refl
-    no-key (Message p n q₁ m) e q = refl
-    no-key (Lso s p n) e q = refl
-
-    pub key-other : keyOf (recordAt image at) text at ≡ stop 6 at
-    key-other = go (recordAt image at) refl
-      where
-        go : (t : Taken) → recordAt image at ≡ t → keyOf t text at ≡ stop 6 at
-        go Bad e = refl
-        go (Found r c) e = no-key r (found-kind image (known-bytes image h) at r c e kind d byte) (c .at)
+  pub key-other : ((i : ℕ) → getD image i 0 < 256) → (k : ℕ) (d : Cursor) → u8At image at ≡ U8.Got k d → (k ≡ kind.key → ⊥) → keyOf image text at ≡ stop 6 at
+  key-other h = asked-none image kind.key at (keyed end) h
 
   -- ---- elements
 
@@ -123,21 +68,14 @@ header-bind s text p n q k =
     row-bound text (opening s) _ _ k (row-bound text (naming p n) _ _ k (row-bound text closing _ _ k refl))
 
 module _ (says : ℕ → ℕ → ℕ) (image text : List ℕ) where
-  -- a file from its record's part and the place behind it on
-  abbrev pub filing : Part → ℕ → Out
-  filing x q = filed 0 x λ p n. header (says n (length (bytesOut (body image text (length image) q)))) text p n (body image text (length image) q)
+  -- a file from its record on, and the place behind it
+  abbrev pub filing : Layout → ℕ → Out
+  filing l q =
+      header (says (l .c .number) (length (bytesOut (body image text (length image) q)))) text (l .b .number) (l .c .number) (body image text (length image) q)
 
-  -- the same from its record on
-  abbrev found : Taken → Out
-  found x = taken 0 x λ r q. filing (partOf r) q
-
-  pub file-bad : recordAt image 0 ≡ Bad → file says image text ≡ stop 6 0
+  pub file-asked : file says image text ≡ asked image kind.lso 0 filing
   unfolding file
-  file-bad e = rw e
-
-  pub file-parted : {r : Record} {c : Cursor} {x : Part} → recordAt image 0 ≡ Found r c → partOf r ≡ x → file says image text ≡ filing x (c .at)
-  unfolding file
-  file-parted e f = rw (e, f)
+  file-asked = refl
 
 -- ---- a length that is not known yet
 
@@ -151,25 +89,20 @@ blank true x y d z e h =
 blank false x y d z e h = refl
 
 module _ (says says′ : ℕ → ℕ → ℕ) (image text z : List ℕ) (h : length z ≡ 0) where
-  measured-part : (x : Part) (q : ℕ) → pour (filing says image text x q) 0 z ≡ pour (filing says′ image text x q) 0 z
+  measured-part : (l : Layout) (q : ℕ) → pour (filing says image text l q) 0 z ≡ pour (filing says′ image text l q) 0 z
   unfolding row
-  measured-part (P.File p n) q =
+  measured-part l q =
+      let n = l .c .number in
       let s = says n (length (bytesOut (body image text (length image) q))) in
       let t = says′ n (length (bytesOut (body image text (length image) q))) in
       let k = length-row text (opening s) in
-      let l = length-row text (opening t) in
-      blank (namedOf text (opening s)) (rowBytes text (opening s)) (rowBytes text (opening t)) _ z (k ∙ sym l) (omega arith)
-  measured-part (P.Key p n) q = refl
-  measured-part P.Other q = refl
-
-  measured-found : (x : Taken) → pour (found says image text x) 0 z ≡ pour (found says′ image text x) 0 z
-  measured-found (Found r c) = measured-part (partOf r) (c .at)
-  measured-found Bad = refl
+      let o = length-row text (opening t) in
+      blank (namedOf text (opening s)) (rowBytes text (opening s)) (rowBytes text (opening t)) _ z (k ∙ sym o) (omega arith)
 
   -- the first pass counts the same, whatever length the header says
   measured : pour (file says image text) 0 z ≡ pour (file says′ image text) 0 z
   unfolding file
-  measured = measured-found (recordAt image 0)
+  measured = asked-both image kind.lso 0 (λ x y. pour x 0 z ≡ pour y 0 z) (filing says image text) (filing says′ image text) refl measured-part
 
 -- a row that was put out: its text is named, and the rest goes on behind it
 row-went : (text : List ℕ) (r : Row) (at : ℕ) (d : Out) (count : ℕ) (out : List ℕ) {c : Cursor} {n : ℕ} {o : List ℕ}
@@ -190,29 +123,24 @@ pub record Fixed (n : ℕ) (d e : Out) : Type 0 where
   pub same : d ≡ e
 
 module _ (image text z : List ℕ) {c : Cursor} {n : ℕ} {o : List ℕ} where
-  fixed-part : (x : Part) (q : ℕ) → poured (Next c n) o ≡ pour (filing lengthOf image text x q) 0 z
-      → Fixed n (filing (λ name body. n - 6) image text x q) (filing lengthOf image text x q)
+  fixed-part : (l : Layout) (q : ℕ) → poured (Next c n) o ≡ pour (filing lengthOf image text l q) 0 z
+      → Fixed n (filing (λ name body. n - 6) image text l q) (filing lengthOf image text l q)
   unfolding pour
-  fixed-part (P.File p m) q e =
+  fixed-part l q e =
       let d = body image text (length image) q in
+      let m = l .c .number in
       let u = row-went text _ 0 _ _ z e in
       let v = row-went text _ 0 _ _ _ (u .1) in
       let w = row-went text _ 0 d _ _ (v .1) in
       let g = went d _ _ (w .1) in
       let k : n ≡ 22 + m + length (bytesOut d) = omega (arith, u .0 .size, v .0 .size, w .0 .size, g .size) in
-      record { enough = omega arith; same = ap (λ (s : ℕ). header s text p m d) (omega arith) }
-  fixed-part (P.Key p m) q e = let s = ap (λ (x : Poured). x .step) e in let y : _≡_ {A = ℕ} 0 1 = cc in absurd (omega arith)
-  fixed-part P.Other q e = let s = ap (λ (x : Poured). x .step) e in let y : _≡_ {A = ℕ} 0 1 = cc in absurd (omega arith)
-
-  fixed-found : (x : Taken) → poured (Next c n) o ≡ pour (found lengthOf image text x) 0 z
-      → Fixed n (found (λ name body. n - 6) image text x) (found lengthOf image text x)
-  unfolding pour
-  fixed-found (Found r d) e = fixed-part (partOf r) (d .at) e
-  fixed-found Bad e = let s = ap (λ (x : Poured). x .step) e in let y : _≡_ {A = ℕ} 0 1 = cc in absurd (omega arith)
+      record { enough = omega arith; same = ap (λ (s : ℕ). header s text (l .b .number) m d) (omega arith) }
 
   fixed : poured (Next c n) o ≡ pour (file lengthOf image text) 0 z → Fixed n (file (λ name body. n - 6) image text) (file lengthOf image text)
-  unfolding file
-  fixed e = fixed-found (recordAt image 0) e
+  unfolding file pour
+  fixed =
+      asked-both image kind.lso 0 (λ x y. poured (Next c n) o ≡ pour y 0 z → Fixed n x y) (filing (λ name body. n - 6) image text) (filing lengthOf image text)
+      (λ e. let s = ap (λ (x : Poured). x .step) e in let y : _≡_ {A = ℕ} 0 1 = cc in absurd (omega arith)) fixed-part
 
 -- ---- the call
 

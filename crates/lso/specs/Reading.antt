@@ -6,9 +6,9 @@ use Rattle.wire.specs.Field.{to, u32At, textAt, tagAt, got32, gotText, pastTag}
 use Rattle.wire.specs.declared.cursor.Tag.{Tag}
 use Rattle.wire.specs.declared.cursor.Tag.the-variants as Tag
 use Rattle.image.specs.declared.record.Record.the-variants.{Key, Lso}
-use Rattle.image.specs.Due.{Due, end, stop, due, _>>=_}
-use Rattle.image.specs.Whole.{Whole, bytes, accepted, refused}
-use Rattle.amf0.specs.Reading.{value, topValue}
+use Rattle.image.specs.Due.{Due, end, stop, due, _>>=_, onEnd}
+use Rattle.image.specs.Whole.{Whole, bytes, accepted, refused, all}
+use Rattle.amf0.specs.Reading.{topValue}
 use Rattle.lso.specs.File.{version, signature}
 
 -- ---- the fields
@@ -28,68 +28,77 @@ headerAt s =
     pastTag stop (zerosAt 4 s f) λ g.
     due (Lso stored name n) 0 (end g)
 
--- an element: its key, whose record is due at once, its value, and a zero
+-- the zero behind a value
+abbrev pub closing : List ℕ → ℕ → Due
+closing s at = pastTag stop (tagAt (0 ∷ []) s at) end
+
+-- an element with its key: the key's record is due at once, then its value is read, and a zero
+abbrev pub keyedAt : List ℕ → (at place size value : ℕ) → Due
+keyedAt s at place size value = due (Key place size) at (topValue s value >>= closing s)
+
 unfoldable pub elementAt : List ℕ → ℕ → Due
-elementAt s at =
-    gotText stop (textAt 2 s at) λ p n q.
-    due (Key p n) at (topValue s q >>= λ e. pastTag stop (tagAt (0 ∷ []) s e) end)
+elementAt s at = gotText stop (textAt 2 s at) (keyedAt s at)
 
 -- ---- the body
 
--- how a reading ends
-pub data End : Type 0 where
-  ends : (next : ℕ) → End
-  stops : (answer : ℕ) → End
-
-abbrev pub endOf : Due → End
-endOf (end n) = ends n
-endOf (stop a p) = stops a
-endOf (due r p d) = endOf d
-
--- what was read of a body: up to which place, the bytes of its records, and what was tried from there on and stopped
-pub record Body : Type 0 where
+-- an element that was read: where it begins, its key's place and length, where its value begins, where it ends, and what was read
+pub record Element : Type 0 where
   pub at : ℕ
-  pub taken : List ℕ
+  pub place : ℕ
+  pub size : ℕ
+  pub value : ℕ
+  pub next : ℕ
+  pub read : Due
+
+-- what was read of a body: its elements, up to which place, and what was tried from there on and stopped
+pub record Body : Type 0 where
+  pub elements : List Element
+  pub at : ℕ
   pub tried : Due
 
 -- an element that ends is taken, and the body goes on behind it; the first that stops is only tried
-abbrev pub step : End → Due → ℕ → (ℕ → Body) → Body
-step (ends n) d at more = record { at = more n .at; taken = bytes d ++ more n .taken; tried = more n .tried }
-step (stops a) d at more = record { at = at; taken = []; tried = d }
+abbrev pub takes : Element → Body → Body
+takes e b = record { elements = e ∷ b .elements; at = b .at; tried = b .tried }
+
+abbrev pub tries : ℕ → Due → Body
+tries at d = record { elements = []; at = at; tried = d }
 
 -- each element takes bytes, so the input's length bounds their number
 unfoldable pub bodyAt : List ℕ → ℕ → ℕ → Body
-bodyAt s zero at = record { at = at; taken = []; tried = stop 2 at }
-bodyAt s (suc fuel) at = step (endOf (elementAt s at)) (elementAt s at) at (bodyAt s fuel)
+bodyAt s zero at = tries at (stop 2 at)
+bodyAt s (suc fuel) at =
+    gotText (λ a w. tries at (stop a w)) (textAt 2 s at) λ p n q.
+    onEnd (keyedAt s at p n q)
+    (λ e. takes (record { at = at; place = p; size = n; value = q; next = e; read = keyedAt s at p n q }) (bodyAt s fuel e))
+    (λ a w. tries at (keyedAt s at p n q))
+
+-- the bytes of the elements' records
+abbrev pub kept : List Element → List ℕ
+kept [] = []
+kept (e ∷ es) = bytes (e .read) ++ kept es
 
 -- ---- what a reading comes to
 
 -- 2 and 3 end the body; any other answer ends the call
-abbrev pub ending : End → Whole → Whole
-ending (ends n) w = w
-ending (stops a) w = pick (eqb a 2) w (pick (eqb a 3) w (refused a))
+abbrev pub halted : ℕ → Whole → Whole
+halted a w = pick (eqb a 2) w (pick (eqb a 3) w (refused a))
 
 -- where the header's records and the body's have room, and also those of the element that was tried and is dropped
 abbrev pub settle : List ℕ → Body → ℕ → Whole
 settle h b room =
-    pick (leb (length (h ++ (b .taken ++ bytes (b .tried)))) room)
-    (ending (endOf (b .tried)) (accepted (b .at) (h ++ b .taken)))
-    (refused 4)
+    let w = accepted (b .at) (h ++ kept (b .elements)) in
+    pick (leb (length (h ++ (kept (b .elements) ++ bytes (b .tried)))) room) (onEnd (b .tried) (λ n. w) (λ a p. halted a w)) (refused 4)
 
 -- the bytes of all records that fall due behind a header that ends at p, those of the element that is dropped too
 abbrev pub everDue : List ℕ → ℕ → List ℕ
-everDue s p = bytes (headerAt s) ++ (bodyAt s (length s) p .taken ++ bytes (bodyAt s (length s) p .tried))
-
-abbrev pub headed : End → List ℕ → ℕ → Whole
-headed (stops a) s room = refused a
-headed (ends p) s room = settle (bytes (headerAt s)) (bodyAt s (length s) p) room
+everDue s p = let b = bodyAt s (length s) p in bytes (headerAt s) ++ (kept (b .elements) ++ bytes (b .tried))
 
 unfoldable pub incompleteOf : List ℕ → ℕ → Whole
-incompleteOf s room = pick (leb (length s) limit.bytes) (headed (endOf (headerAt s)) s room) (refused 1)
+incompleteOf s room =
+    pick (leb (length s) limit.bytes)
+    (onEnd (headerAt s) (λ p. settle (bytes (headerAt s)) (bodyAt s (length s) p) room) (λ a p. refused a))
+    (refused 1)
 
 -- the whole reading: bytes left over are 3, after everything else
-abbrev pub all : List ℕ → Whole → Whole
-all s w = pick (eqb (w .reading .answer) 0) (pick (leb (length s) (w .reading .used)) w (refused 3)) w
-
 unfoldable pub wholeOf : List ℕ → ℕ → Whole
 wholeOf s room = all s (incompleteOf s room)

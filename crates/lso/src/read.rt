@@ -1,5 +1,4 @@
 // Reading a file.
-use amf0::read::Setting;
 use amf0::read::parse_value;
 use image::reading::Reading;
 use image::reading::Step;
@@ -22,7 +21,7 @@ ghost use Rattle.wire.specs.Limit.{bytes};
 ghost use Rattle.wire.specs.Field.{tagAt};
 ghost use Rattle.image.specs.Due.{run, ran, Within};
 ghost use Rattle.image.specs.Whole.{padded};
-ghost use Rattle.lso.specs.Reading.{zerosAt, headerAt, elementAt, incompleteOf, wholeOf};
+ghost use Rattle.lso.specs.Reading.{zerosAt, headerAt, elementAt, bodyAt, incompleteOf, wholeOf};
 ghost use Rattle.lso.specs.Code.{runBody, runFile};
 
 fn zero(s: &[u8], c: Cursor) -> Tag
@@ -85,7 +84,7 @@ fn parse_element(image: &mut [u8], s: &[u8], c: Cursor, made: usize) -> Step
         Text::Stop(a, p) => Step::Stop(a, p),
         Text::Got(p, n, q) => match put(image, made, Record::Key(p, n), c.at, q) {
             Step::Stop(a, w) => Step::Stop(a, w),
-            Step::Next(v, laid) => match parse_value(image, s, Setting { base: 0 }, v, laid) {
+            Step::Next(v, laid) => match parse_value(image, s, 0, v, laid) {
                 Step::Stop(a, w) => Step::Stop(a, w),
                 Step::Next(e, total) => match zero(s, e) {
                     Tag::Stop(a, w) => Step::Stop(a, w),
@@ -99,7 +98,7 @@ fn parse_element(image: &mut [u8], s: &[u8], c: Cursor, made: usize) -> Step
 // Elements up to the first that is not whole or not right, which is dropped.
 fn parse_body(image: &mut [u8], s: &[u8], start: Cursor, done: usize) -> Step
     requires { ⌜ (length (now s) ≤ bytes) × (start .at ≤ length (now s)) × (done ≤ length (now image)) ⌝ }
-    ensures { λ r. ⌜ ran r (now (image .exit)) ≡ runBody (now (s .entry)) (length (now (s .entry))) (start .at) done (now (image .entry)) ⌝ }
+    ensures { λ r. ⌜ ran r (now (image .exit)) ≡ runBody (bodyAt (now (s .entry)) (length (now (s .entry))) (start .at)) done (now (image .entry)) ⌝ }
     ensures { λ r. ⌜ Within r (start .at) (length (now (s .entry))) (length (now (image .entry))) ⌝ }
 {
     let mut c = start;

@@ -1,8 +1,9 @@
 // Writing a file.
 use amf0::write::pour_value;
+use image::kind;
 use image::reading::Step;
 use image::record::Field;
-use image::record::Record;
+use image::record::layout_of;
 use image::taking::Taken;
 use image::taking::record_at;
 use image::taking::short_at;
@@ -11,6 +12,7 @@ use image::writing::Writing;
 use image::writing::emit;
 use image::writing::emit_numbers;
 use image::writing::emit_text;
+use image::writing::refused;
 use wire::answer::ACCEPTED;
 use wire::answer::NO_ROOM;
 use wire::answer::NO_TREE;
@@ -23,67 +25,40 @@ ghost use mathlib.Core.Path.{_≡_};
 ghost use Prim.Native.Nat.{_+_, _*_, _≤_};
 ghost use lib.ListN.{length};
 ghost use Rattle.wire.specs.Limit.{bytes as most-bytes, «image» as most-image};
-ghost use Rattle.image.specs.Record.{_bytes_};
 ghost use Rattle.image.specs.Out.{most, pour, poured, «end», onto, Grown};
-ghost use Rattle.image.specs.Taking.{recordAt};
 ghost use Rattle.amf0.specs.Code.{Ahead, longest, growth};
 ghost use Rattle.lso.specs.Code.{keyOf};
-ghost use Rattle.lso.specs.Writing.{partOf, rowOf, header, element, body, file, writeOf};
+ghost use Rattle.lso.specs.Writing.{naming, header, element, body, file, writeOf};
 
-// What a record is to a writing of files.
-pub enum Part {
-    File(usize, usize),
-    Key(usize, usize),
-    Other,
-}
+// The version of the form, and the signature in two numbers.
+const VERSION: u64 = 0x00BF;
 
-fn part_of(r: Record) -> Part
-    ensures { λ x. ⌜ x ≡ partOf r ⌝ }
-{
-    match r {
-        Record::Number(_) => Part::Other,
-        Record::Boolean(_) => Part::Other,
-        Record::Text(_, _) => Part::Other,
-        Record::Object => Part::Other,
-        Record::Null => Part::Other,
-        Record::Undefined => Part::Other,
-        Record::Reference(_) => Part::Other,
-        Record::EcmaArray(_) => Part::Other,
-        Record::ObjectEnd => Part::Other,
-        Record::StrictArray(_) => Part::Other,
-        Record::Date(_, _, _) => Part::Other,
-        Record::Unsupported => Part::Other,
-        Record::Xml(_, _) => Part::Other,
-        Record::TypedObject(_, _) => Part::Other,
-        Record::Key(p, n) => Part::Key(p, n),
-        Record::Packet(_, _) => Part::Other,
-        Record::Header(_, _, _) => Part::Other,
-        Record::Message(_, _, _, _) => Part::Other,
-        Record::Lso(_, p, n) => Part::File(p, n),
-    }
-}
+const SIGNATURE: u64 = 0x5443_534F;
 
-fn row(v: usize, m: u64, w: usize, n: u64, x: usize, k: u64, place: usize, length: usize) -> Row
-    ensures { λ r. ⌜ r ≡ rowOf (v bytes m) (w bytes n) (x bytes k) place length ⌝ }
+const SIGNATURE_REST: u64 = 0x0004_0000_0000;
+
+// The signature and the name.
+fn named(p: usize, n: usize) -> Row
+    ensures { λ r. ⌜ r ≡ naming p n ⌝ }
 {
     let mark = Field {
-        width: v,
-        number: m,
+        width: 4,
+        number: SIGNATURE,
     };
     let a = Field {
-        width: w,
-        number: n,
+        width: 6,
+        number: SIGNATURE_REST,
     };
     let b = Field {
-        width: x,
-        number: k,
+        width: 2,
+        number: n as u64,
     };
     Row {
         mark: mark,
         a: a,
         b: b,
-        place: place,
-        length: length,
+        place: p,
+        length: n,
     }
 }
 
@@ -93,18 +68,11 @@ fn write_header(out: &mut [u8], text: &[u8], stored: u64, p: usize, n: usize, ne
     ensures { λ r. ⌜ poured r (now (out .exit)) ≡ pour (header stored (now (text .entry)) p n (end (next .at))) 0 (now (out .entry)) ⌝ }
     ensures { λ r. ⌜ Grown r (next .at) (72 + 3 * length (now (text .entry))) ⌝ }
 {
-    match emit(out, text, 0, row(2, 0x00BF, 4, stored, 0, 0, 0, 0), 0, next) {
+    match emit_numbers(out, 0, 2, VERSION, 4, stored, 0, 0, next) {
         Step::Stop(a, w) => Step::Stop(a, w),
-        Step::Next(c, k) => match emit(
-            out,
-            text,
-            k,
-            row(4, 0x5443_534F, 6, 0x0004_0000_0000, 2, n as u64, p, n),
-            0,
-            c,
-        ) {
+        Step::Next(c, k) => match emit(out, text, k, named(p, n), 0, c) {
             Step::Stop(a, w) => Step::Stop(a, w),
-            Step::Next(d, m) => emit(out, text, m, row(4, 0, 0, 0, 0, 0, 0, 0), 0, d),
+            Step::Next(d, m) => emit_numbers(out, m, 4, 0, 0, 0, 0, 0, d),
         },
     }
 }
@@ -112,14 +80,14 @@ fn write_header(out: &mut [u8], text: &[u8], stored: u64, p: usize, n: usize, ne
 // The key whose record stands at a cursor.
 fn write_key(out: &mut [u8], image: &[u8], text: &[u8], c: Cursor, count: usize) -> Step
     requires { ⌜ (length (now text) ≤ most-bytes) × (count ≤ most) ⌝ }
-    ensures { λ r. ⌜ poured r (now (out .exit)) ≡ pour (keyOf (recordAt (now (image .entry)) (c .at)) (now (text .entry)) (c .at)) count (now (out .entry)) ⌝ }
+    ensures { λ r. ⌜ poured r (now (out .exit)) ≡ pour (keyOf (now (image .entry)) (now (text .entry)) (c .at)) count (now (out .entry)) ⌝ }
     ensures { λ r. ⌜ Ahead r (c .at + 1) (length (now (image .entry))) (count + longest) ⌝ }
 {
     let at = c.at;
     match c.be_u8(image) {
         U8::Stop(_, _) => Step::Stop(NO_TREE, at),
         U8::Got(kind, d) => {
-            if kind != 0x20 {
+            if kind != kind::KEY {
                 return Step::Stop(NO_TREE, at);
             }
             match short_at(image, d) {
@@ -175,25 +143,17 @@ fn write_file(out: &mut [u8], image: &[u8], text: &[u8], stored: u64) -> Step
     match record_at(image, c) {
         Taken::Bad => Step::Stop(NO_TREE, 0),
         Taken::Found(r, d) => {
-            let part = part_of(r);
-            match part {
-                Part::Key(_, _) => Step::Stop(NO_TREE, 0),
-                Part::Other => Step::Stop(NO_TREE, 0),
-                Part::File(p, n) => match write_header(out, text, stored, p, n, d) {
-                    Step::Stop(a, w) => Step::Stop(a, w),
-                    Step::Next(e, k) => write_body(out, image, text, e, k),
-                },
+            let l = layout_of(r);
+            if l.kind != kind::LSO as u64 {
+                return Step::Stop(NO_TREE, 0);
+            }
+            let p = l.b;
+            let n = l.c;
+            match write_header(out, text, stored, p.number as usize, n.number as usize, d) {
+                Step::Stop(a, w) => Step::Stop(a, w),
+                Step::Next(e, k) => write_body(out, image, text, e, k),
             }
         }
-    }
-}
-
-fn refused(a: u8) -> Writing
-    ensures { λ r. ⌜ r ≡ record { answer = a; count = 0 } ⌝ }
-{
-    Writing {
-        answer: a,
-        count: 0,
     }
 }
 

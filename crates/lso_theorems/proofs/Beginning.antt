@@ -1,30 +1,28 @@
 -- Proper beginnings of a file: one that ends in the header is refused with 2, and any other is accepted by the incomplete reading with the elements that
 -- are whole in it.
-use Rattle.wire.proofs.Kit.{ℕ, _+_, _*_, _^_, _≤_, _<_, _≡_, refl, sym, ap, _∙_, _≢_, ⊎-elim, List, [], _∷_, _++_, append-assoc, append-nil, arith, length}
-use Rattle.wire.proofs.Kit.{take, drop, length-append, take-append-drop, take-append-le, drop-append-le, take-append-seam, drop-append-seam, lit<}
+use Rattle.wire.proofs.Kit.{ℕ, _+_, _*_, _≤_, _<_, _≡_, refl, sym, ap, _∙_, _≢_, ⊎-elim, List, [], _∷_, _++_, append-assoc, append-nil, arith, length}
+use Rattle.wire.proofs.Kit.{take, drop, length-append, take-append-drop, take-append-le, drop-append-le, take-append-seam, drop-append-seam, length-drop, lit<}
 use Rattle.wire.specs.Number.{digits, Bytes}
 use Rattle.wire.specs.Limit as limit
-use Rattle.wire.proofs.Stands.{Here, join, bytes-left}
+use Rattle.wire.proofs.Stands.{bytes-left}
 use Rattle.image.specs.Whole.{refused}
-use Rattle.image.specs.Due.{Due, end, stop, due, shifted, Stops}
-use Rattle.amf0.specs.Reading.{value, topValue}
+use Rattle.image.specs.Due.{Ends, Stops}
+use Rattle.image.proofs.Settle.{ends-or-stops, one-end, ends-not}
 use Rattle.amf0.specs.Standard.{Sort, Tree, depth, UTF-8, Encodes}
 use Rattle.amf0.specs.Standard.UTF-8.{short}
-use Rattle.amf0_theorems.specs.Refusal.{Field, width, InText, Refuses}
+use Rattle.amf0_theorems.specs.Refusal.{Field, InText, Refuses}
 use Rattle.amf0_theorems.proofs.Bytes.{_also_, both, text, encoding}
-use Rattle.amf0_theorems.proofs.Theorems.{shift}
 use Rattle.amf0_theorems.proofs.Refused.{still-refused}
-use Rattle.amf0_theorems.proofs.Refusals.{value-refused, beginning-refused}
-use Rattle.lso.specs.Reading.{End, endOf, headerAt, incompleteOf, wholeOf}
-use Rattle.lso.specs.Reading.End.{ends, stops}
+use Rattle.amf0_theorems.proofs.Refusals.{beginning-refused}
+use Rattle.lso.specs.Reading.{headerAt, incompleteOf, wholeOf}
 use Rattle.lso.specs.File.{Body, Lso, Elements, File, deepest, version, signature, padding}
 use Rattle.lso.proofs.Settle.{either}
 use Rattle.lso.proofs.Outcome.{whole-refused}
 use Rattle.lso_theorems.specs.Refusal.{LeadsElement, RefusedHeader, RefusedElement, Halts, Heads, PartOfElement, Parts, WholeIn}
-use Rattle.lso_theorems.proofs.Complete.{header-reads}
-use Rattle.lso_theorems.proofs.FileBytes.{file-bytes}
-use Rattle.lso_theorems.proofs.Sound.{element-more, header-more}
-use Rattle.lso_theorems.proofs.Stopping.{stops-end, end-stops, heads-end, end-heads, Accepts, refused-header}
+use Rattle.lso_theorems.proofs.Complete.{element-more, header-reads}
+use Rattle.lso_theorems.proofs.Files.{file-bytes}
+use Rattle.lso_theorems.proofs.Sound.{header-more, end-heads}
+use Rattle.lso_theorems.proofs.Stopping.{heads-end, Accepts, refused-header}
 use Rattle.lso_theorems.proofs.Refusals.{header-refused, header-either}
 use Rattle.lso_theorems.proofs.Theorems.{complete-incomplete}
 
@@ -49,39 +47,32 @@ heads-longer {x} {p} q h =
     }
 
 module _ (x r : List ℕ) (p : ℕ) (bs : Bytes (x ++ r)) (h : Heads (x ++ r) p) (l : length x < p) where
-  header-short : endOf (headerAt x) ≡ stops 2
-  header-short = go (endOf (headerAt x)) refl
-    where
-      part : Bytes x
-      part = bytes-left x r bs
-
-      whole : endOf (headerAt (x ++ r)) ≡ ends p
-      whole = heads-end h
-
-      go : (e : End) → endOf (headerAt x) ≡ e → e ≡ stops 2
-      go (ends q) e =
-          let g = end-heads x part q e in
-          let f = heads-end (heads-longer r g) in
-          let o = whole in
-          let same : q ≡ p = cc in
-          absurd (omega (arith, g .begins .within))
-      go (stops a) e =
-          let s = end-stops (headerAt x) e in
-          let f = header-refused x a (s .0) part .0 (s .1) in
-          ⊎-elim (ap stops)
-          (λ y.
-          let g = header-longer r f (λ z. omega arith) in
-          let t = stops-end (headerAt (x ++ r)) a (s .0) (header-refused (x ++ r) a (s .0) bs .1 g) in
-          let o = whole in
-          let z : _≡_ {A = ℕ} 0 1 = cc in
-          absurd (omega arith))
-          (header-either f)
+  header-short : (q : ℕ) × Stops (headerAt x) 2 q
+  header-short =
+      let part : Bytes x = bytes-left x r bs in
+      let whole = heads-end h in
+      ⊎-elim
+      (λ e.
+      let g = end-heads x part (e .0) (e .1) in
+      let same = one-end (headerAt (x ++ r)) (heads-end (heads-longer r g)) whole in
+      absurd (omega (arith, g .begins .within)))
+      (λ e.
+      let a : ℕ = e .0 in
+      let q : ℕ = e .1 in
+      let f = header-refused x a q part .0 (e .2) in
+      ⊎-elim (λ y. (q, rw y at (e .2)))
+      (λ y.
+      let g = header-longer r f (λ z. omega arith) in
+      absurd (ends-not (headerAt (x ++ r)) p a q whole (header-refused (x ++ r) a q bs .1 g)))
+      (header-either f))
+      (ends-or-stops (headerAt x))
 
 -- A proper beginning of a header, that is, of the bytes before the first element, is refused with 2 by both readings, whatever the room.
 pub beginning-header : (x r : List ℕ) (p room : ℕ) → Bytes (x ++ r) → Heads (x ++ r) p → length x < p → length x ≤ limit.bytes
     → (incompleteOf x room ≡ refused 2) × (wholeOf x room ≡ refused 2)
 beginning-header x r p room bs h l i =
-    let e = refused-header x room i 2 (header-short x r p bs h l) in
+    let t = header-short x r p bs h l in
+    let e = refused-header x room i 2 (t .0) (t .1) in
     (e, sym (whole-refused x room 2 (sym e)))
 
 -- ---- rows that begin alike
@@ -91,6 +82,7 @@ record More (a b c d : List ℕ) : Type 0 where
   more : List ℕ
   first : c ≡ a ++ more
   second : b ≡ more ++ d
+  size : length c ≡ length a + length more
 
 split : (a b c d : List ℕ) → a ++ b ≡ c ++ d → length a ≤ length c → More a b c d
 split a b c d e l =
@@ -100,10 +92,8 @@ split a b c d e l =
       more = drop n c;
       first = sym (take-append-drop n c) ∙ ap (λ y. y ++ drop n c) (sym t);
       second = sym (drop-append-seam a b) ∙ (ap (drop n) e ∙ drop-append-le n c d l);
+      size = omega (arith, length-drop n c);
     }
-
-long : (a b c d : List ℕ) (m : More a b c d) → length c ≡ length a + length (m .more)
-long a b c d m = ap length (m .first) ∙ length-append a (m .more)
 
 -- a front before a row that is cut
 longer-front : {x m d : List ℕ} (a b c : List ℕ) → x ≡ a ++ m → m ≡ b ++ c → a ++ b ≡ d → x ≡ d ++ c
@@ -167,119 +157,67 @@ cut-body (Elements.element {x = y} {b} {y = row} {z} t c els) x r e l d =
     cut-more t c (omega arith) (m .first) (cut-body els (m .more) r (m .second) l (omega arith)))
     (λ i.
     let m = split x r one z (sym whole) (omega arith) in
-    cut-here b (m .more) t c (omega arith) (m .first) (omega (arith, long x r one z m)))
+    cut-here b (m .more) t c (omega arith) (m .first) (omega (arith, m .size)))
 
--- what is whole in a beginning of a file, within the levels
-record CutFile (f : Lso) (x : List ℕ) : Type 0 where
-  lso : Lso
-  whole : WholeIn f lso x
-  deep : deepest (lso .body) ≤ limit.levels
-
--- a header that is whole, and a cut behind it
-cut-behind : {n : ℕ} {t v x m : List ℕ} {b : Body} → n < 256 ^ 4 → UTF-8 t v → x ≡ (version ++ (digits 4 n ++ (signature ++ (v ++ padding)))) ++ m
-    → CutBody b m → CutFile (record { stored = n; name = t; body = b }) x
-cut-behind {n} {t} {v} l u e b =
-    record {
-      lso = record { stored = n; name = t; body = b .body };
-      whole =
-          record {
-            stored = refl;
-            name = refl;
-            row = version ++ (digits 4 n ++ (signature ++ (v ++ (padding ++ b .row))));
-            part = b .part;
-            later = b .later;
-            file = File.file l u (b .elements);
-            next = b .next;
-            elements = b .parts;
-            same =
-                longer-front (version ++ (digits 4 n ++ (signature ++ (v ++ padding)))) (b .row) (b .part) e (b .same) (header-more (digits 4 n) v (b .row));
-          };
-      deep = b .deep;
-    }
-
--- a proper beginning of a file is cut behind its header
+-- a proper beginning of a file is cut behind its header: what is whole in it is a file within the levels
 cut-file : {f : Lso} {w : List ℕ} → File f w → (x r : List ℕ) (p : ℕ) → w ≡ x ++ r → 1 ≤ length r → deepest (f .body) ≤ limit.levels
-    → endOf (headerAt w) ≡ ends p → p ≤ length x → CutFile f x
-cut-file (File.file {stored} {z} l (short t c u) els) x r p e i d h j =
+    → Ends (headerAt w) p → p ≤ length x → (g : Lso) × WholeIn f g x × (deepest (g .body) ≤ limit.levels)
+cut-file (File.file {stored} {name} {z} l (short t c u) els) x r p e i d h j =
     let v : List ℕ = digits 2 (length t) ++ t in
     let head : List ℕ = version ++ (digits 4 stored ++ (signature ++ (v ++ padding))) in
     let w : List ℕ = version ++ (digits 4 stored ++ (signature ++ (v ++ (padding ++ z)))) in
-    let ended : ends p ≡ ends (18 + length t + 4) = sym h ∙ ap endOf (header-reads stored t z w [] l c u (record { same = sym (append-nil w) })) in
-    let size : p ≡ 18 + length t + 4 = cc in
+    let size : p ≡ 18 + length t + 4 = rw (header-reads stored t z w [] l c u (record { same = sym (append-nil w) })) at h in
     let m = split head z x r (header-more (digits 4 stored) v z ∙ e) (omega (arith, length-append t padding)) in
-    cut-behind l (short t c u) (m .first) (cut-body els (m .more) r (m .second) i d)
+    let b = cut-body els (m .more) r (m .second) i d in (
+      record { stored = stored; name = t; body = b .body },
+      record {
+        stored = refl;
+        name = refl;
+        row = version ++ (digits 4 stored ++ (signature ++ (v ++ (padding ++ b .row))));
+        part = b .part;
+        later = b .later;
+        file = File.file l (short t c u) (b .elements);
+        next = b .next;
+        elements = b .parts;
+        same = longer-front head (b .row) (b .part) (m .first) (b .same) (header-more (digits 4 stored) v (b .row));
+      },
+      b .deep,
+    )
 
 -- ---- a proper beginning of an element
 
--- a reading further on is refused where it is
-stops-shifted : (d : Due) (n a p : ℕ) → Stops d a p → Stops (shifted n d) a (n + p)
-stops-shifted (end m) n a p h = absurd h
-stops-shifted (stop b q) n a p h = (h .0, ap (λ m. n + m) (h .1))
-stops-shifted (due r q d) n a p h = stops-shifted d n a p h
+-- a field at the end of an input that refuses an element there
+refused-at : {w y r : List ℕ} {f : Field} (x : List ℕ) → LeadsElement r y f → w ≡ y ++ r → Refuses f r 2 → (p : ℕ) × RefusedElement (x ++ w) (length x) 2 p
+refused-at {w} {y} {r} {f} x l e s =
+    (length x + length y, record { before = y; rest = r; field = f; stands = drop-append-seam x w ∙ e; here = refl; leads = l; refuses = s })
 
--- a field of an element at the end of an input that is not whole
-cut-short : {w y r : List ℕ} {f : Field} (x : List ℕ) → LeadsElement r y f → w ≡ y ++ r → length r < width f
-    → (p : ℕ) × RefusedElement (x ++ w) (length x) 2 p
-cut-short {w} {y} {r} {f} x l e s = (
-  length x + length y,
-  record { before = y; rest = r; field = f; stands = drop-append-seam x w ∙ e; here = refl; leads = l; refuses = Refuses.short s },
-)
-
-module _ (x w : List ℕ) (bs : Bytes (x ++ w)) where
-  -- the value is cut short
-  value-short : {k : List ℕ} {t : Tree Sort.value} (y v m : List ℕ) → UTF-8 k y → Encodes Sort.value t (v ++ m) → 1 ≤ length m
-      → depth t ≤ limit.levels → w ≡ y ++ v → (p : ℕ) × RefusedElement (x ++ w) (length x) 2 p
-  value-short {t} y v m u e l d same =
-      let b = beginning-refused limit.levels t v m e l d in
-      let q : ℕ = length x + length y in
-      let n : ℕ = length (x ++ y) in
-      let p : ℕ = n + b .0 in
-      let o : q ≡ n + 0 = omega (arith, length-append x y) in
-      let i : q ≤ length (x ++ w) = omega (arith, length-append x w, ap length same, length-append y v) in
-      let r : x ++ w ≡ (x ++ y) ++ v = ap (λ z. x ++ z) same ∙ sym (append-assoc x y v) in
-      let s : Stops (topValue (x ++ w) q) 2 p =
-      rw (r, o, shift limit.levels (x ++ y) v 0) (stops-shifted (topValue v 0) n 2 (b .0) (value-refused limit.levels v 0 2 (b .0) (bytes-left v m (encoding e)) (omega arith) .1 (b .1))) in
-      let g = value-refused limit.levels (x ++ w) q 2 p bs i .0 s in
-      let h : Here (x ++ w) (length x) y v = record { same = drop-append-seam x w ∙ same } in
-      let j : Here (x ++ w) (length x) (y ++ g .before) (g .rest) = join {y = g .before} {z = g .rest} h refl (record { same = g .stands }) in (
-        p,
-        record {
-          before = y ++ g .before;
-          rest = g .rest;
-          field = g .field;
-          stands = j .same;
-          here = omega (arith, g .here, length-append y (g .before));
-          leads = LeadsElement.value u (g .leads);
-          refuses = g .refuses;
-        },
-      )
-
-  -- a proper beginning of an element is refused with 2
-  part-refused : PartOfElement w → (p : ℕ) × RefusedElement (x ++ w) (length x) 2 p
-  part-refused e = go (e .utf-8) (e .same)
-    where
-      go : {k y : List ℕ} → UTF-8 k y → w ++ e .missing ≡ y ++ (e .row ++ (0 ∷ [])) → (p : ℕ) × RefusedElement (x ++ w) (length x) 2 p
-      go (short k b u) same =
-          let d : List ℕ = digits 2 (length k) in
-          let z : List ℕ = e .row ++ (0 ∷ []) in
-          either 2 (length w)
-          (λ i. either (length (d ++ k)) (length w)
-          (λ j.
-          let m = split (d ++ k) z w (e .missing) (sym same) j in
-          either (length (e .row)) (length (m .more))
-          (λ g.
-          let n = split (e .row) (0 ∷ []) (m .more) (e .missing) (m .second) g in
-          cut-short x (LeadsElement.zero (short k b u) (e .encodes) (e .deep))
-          (m .first ∙ (ap (λ v. (d ++ k) ++ v) (n .first) ∙ sym (append-assoc (d ++ k) (e .row) (n .more))))
-          (omega (arith, ap length (n .second), length-append (n .more) (e .missing), e .some)))
-          (λ g.
-          let n = split (m .more) (e .missing) (e .row) (0 ∷ []) (sym (m .second)) (omega arith) in
-          value-short (d ++ k) (m .more) (n .more) (short k b u) (rw (n .first) at (e .encodes))
-          (omega (arith, long (m .more) (e .missing) (e .row) (0 ∷ []) n)) (e .deep) (m .first)))
-          (λ j.
-          let m = split d (k ++ z) w (e .missing) (sym same) i in
-          cut-short x (LeadsElement.key (InText.letters b)) (m .first) (omega (arith, long d (k ++ z) w (e .missing) m))))
-          (λ i. cut-short x (LeadsElement.key InText.size) refl i)
+-- a proper beginning of an element is refused with 2
+part-refused : (x w : List ℕ) → PartOfElement w → (p : ℕ) × RefusedElement (x ++ w) (length x) 2 p
+part-refused x w e = go (e .utf-8) (e .same)
+  where
+    go : {k y : List ℕ} → UTF-8 k y → w ++ e .missing ≡ y ++ (e .row ++ (0 ∷ [])) → (p : ℕ) × RefusedElement (x ++ w) (length x) 2 p
+    go (short k b u) same =
+        let d : List ℕ = digits 2 (length k) in
+        let z : List ℕ = e .row ++ (0 ∷ []) in
+        either 2 (length w)
+        (λ i. either (length (d ++ k)) (length w)
+        (λ j.
+        let m = split (d ++ k) z w (e .missing) (sym same) j in
+        either (length (e .row)) (length (m .more))
+        (λ g.
+        let n = split (e .row) (0 ∷ []) (m .more) (e .missing) (m .second) g in
+        refused-at x (LeadsElement.zero (short k b u) (e .encodes) (e .deep))
+        (m .first ∙ (ap (λ v. (d ++ k) ++ v) (n .first) ∙ sym (append-assoc (d ++ k) (e .row) (n .more))))
+        (Refuses.short (omega (arith, ap length (n .second), length-append (n .more) (e .missing), e .some))))
+        (λ g.
+        let n = split (m .more) (e .missing) (e .row) (0 ∷ []) (sym (m .second)) (omega arith) in
+        let c = beginning-refused limit.levels (e .tree) (m .more) (n .more) (rw (n .first) at (e .encodes)) (omega (arith, n .size)) (e .deep) .1 in
+        refused-at x (LeadsElement.value (short k b u) (c .leads))
+        (m .first ∙ (ap (λ v. (d ++ k) ++ v) (c .stands) ∙ sym (append-assoc (d ++ k) (c .before) (c .rest)))) (c .refuses)))
+        (λ j.
+        let m = split d (k ++ z) w (e .missing) (sym same) i in
+        refused-at x (LeadsElement.key (InText.letters b)) (m .first) (Refuses.short (omega (arith, m .size)))))
+        (λ i. refused-at x (LeadsElement.key InText.size) refl (Refuses.short i))
 
 -- a part of an element is a row of bytes
 part-bytes : {w : List ℕ} (e : PartOfElement w) → Bytes w
@@ -295,7 +233,7 @@ pub beginning-element : (f : Lso) (x w : List ℕ) (room : ℕ) → File f x →
     → length (x ++ w) ≤ limit.bytes → 3 * length (x ++ w) ≤ room → Accepts (x ++ w) f (length x) (incompleteOf (x ++ w) room)
 beginning-element f x w room c d e h i =
     let bs : Bytes (x ++ w) = both x w (file-bytes c) (part-bytes e) in
-    complete-incomplete f x w room bs c d h i (Halts.short (part-refused x w bs e .1))
+    complete-incomplete f x w room bs c d h i (Halts.short (part-refused x w e .1))
 
 -- A proper beginning of a file that has its header whole is accepted by the incomplete reading, where the room is three times the input, with the elements
 -- that are whole in it.
@@ -304,7 +242,7 @@ pub beginning-file : (f : Lso) (x r : List ℕ) (p room : ℕ) → File f (x ++ 
     → (g : Lso) × (w : WholeIn f g x) × Accepts x g (length (w .row)) (incompleteOf x room)
 beginning-file f x r p room c l d h j i k =
     let g = cut-file c x r p refl l d (heads-end h) j in
-    (g .lso, g .whole, go (g .lso) (g .whole) (g .deep))
+    (g .0, g .1, go (g .0) (g .1) (g .2))
   where
     go : (g : Lso) (w : WholeIn f g x) → deepest (g .body) ≤ limit.levels → Accepts x g (length (w .row)) (incompleteOf x room)
     go g w d =

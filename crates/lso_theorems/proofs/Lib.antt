@@ -1,19 +1,15 @@
 -- `Theorems` has what is proved of the readings, `Reasons` why they are refused, `Beginning` what the beginnings of a file come to, `WriteTheorems` what is
 -- proved of the writing and of the round trip, and `Room` the round trip in every room. The files below each are what it is proved by.
 pub mod Theorems
-pub mod Records
 pub mod Complete
 pub mod Sound
-pub mod Unique
-pub mod FileBytes
+pub mod Files
 pub mod Stopping
 pub mod Reasons
-pub mod Fields
 pub mod Refusals
 pub mod Beginning
 pub mod WriteTheorems
 pub mod Puts
-pub mod Shortest
 pub mod WriteOutcome
 pub mod Seen
 pub mod WriteSound

@@ -1,6 +1,6 @@
 -- The image of a file is put out as what the file is written as.
-use Rattle.wire.proofs.Kit.{ℕ, zero, suc, _+_, _≤_, _<_, _≡_, refl, sym, ap, _∙_, List, [], _∷_, _++_, append-assoc, append-nil, true, arith, length, le-leb}
-use Rattle.wire.specs.Number.{digits}
+use Rattle.wire.proofs.Kit.{ℕ, zero, suc, _+_, _≤_, _<_, _≡_, refl, sym, ap, _∙_, List, [], _∷_, _++_, append-assoc, append-nil, true, arith, length, take, drop, le-leb}
+use Rattle.wire.specs.Number.{digits, number}
 use Rattle.wire.specs.Utf8.{ends}
 use Rattle.wire.specs.Field.{bytesAt}
 use Rattle.wire.specs.Limit as limit
@@ -10,7 +10,7 @@ use Rattle.image.specs.declared.record.Record.{Record}
 use Rattle.image.specs.declared.record.Record.the-variants as R
 use Rattle.image.specs.declared.record.Field.{Field}
 use Rattle.image.specs.Record.{_bytes_, none, fieldBytes, size}
-use Rattle.image.specs.Out.{Out, end, _>>=_, row, bytes as putOut, namedOf, sized}
+use Rattle.image.specs.Out.{Out, end, _>>=_, rowOf, row, bytes as putOut, namedOf, sized}
 use Rattle.image.proofs.Laws.{size-some}
 use Rattle.amf0.specs.Standard.{Sort, Tree, depth}
 use Rattle.amf0.specs.Shown.{laid, Stands, Right}
@@ -19,7 +19,7 @@ use Rattle.amf0.specs.Written.Lead.{keyed}
 use Rattle.amf0_theorems.proofs.Puts.{Puts, then, first, others, puts, laid-append, laid-length, laid-size, right-left, right-right}
 use Rattle.amf0_theorems.proofs.WriteOutcome.{puts-bytes, puts-settled}
 use Rattle.lso.specs.File.{Body, Lso, version, signature, padding, deepest}
-use Rattle.lso.specs.Writing.{rowOf, element, body, file, lengthOf, writeOf}
+use Rattle.lso.specs.Writing.{zero-byte, element, body, file, lengthOf, writeOf}
 use Rattle.lso.specs.Written.{short, writeBody, write, Spells, Images, Writable}
 
 -- ---- rows
@@ -48,12 +48,12 @@ module _ (s : List ℕ) where
         let r : Record = R.Key p n in
         let q : ℕ = at + size r in
         let j : Here image q (laid rs ++ laid qs) z = rw (laid-append rs qs) at (others s image r (rs ++ qs) z h) in
-        let same : length k ≡ n = rw e at (length-bytes n s p (g .1 .inside)) in
+        let same : length k ≡ n = rw e at (length-bytes n s p (g .1 .0 .inside)) in
         let x = puts s image c (right-left s rs qs (g .2)) (laid qs ++ z) q (q + length (laid rs)) limit.levels (length (laid rs))
         (cut (laid rs) (laid qs) j) refl d (omega arith) in
         rw (first s image r (rs ++ qs) z h (g .0), same, sym e)
-        (row-puts at none (2 bytes n) none (g .1)
-        (then (λ m. row s (rowOf (1 bytes 0) none none 0 0) at (end m)) x (row-puts at (1 bytes 0) none none empty Puts.done)))
+        (row-puts at none (2 bytes n) none (g .1 .0)
+        (then (λ m. row s zero-byte at (end m)) x (row-puts at (1 bytes 0) none none empty Puts.done)))
 
     body-puts : {D : Type 0} {b : Body} {rs : List Record} → Spells s b rs → Right s rs → (fuel at : ℕ) → Here image at (laid rs) []
         → length image ≡ at + length (laid rs) → length (laid rs) ≤ fuel → (limit.levels < deepest b → D) → Puts D (body image s fuel at) (writeBody b) (length image)
@@ -103,9 +103,9 @@ module _ (s : List ℕ) where
           let z : ℕ = length (f .name) in
           rw (first s image lead (m .records) [] h (m .fits))
           (rw (m .names) at
-          (row-puts 0 (2 bytes 0x00BF) (4 bytes lengthOf z (length (putOut behind))) none empty
-          (row-puts 0 (4 bytes 0x5443534F) (6 bytes 0x000400000000) (2 bytes z) (m .stands)
-          (row-puts 0 (4 bytes 0) none none empty (behind-puts d)))))
+          (row-puts 0 (2 bytes number version) (4 bytes lengthOf z (length (putOut behind))) none empty
+          (row-puts 0 (4 bytes number (take 4 signature)) (6 bytes number (drop 4 signature)) (2 bytes z) (m .stands)
+          (row-puts 0 (4 bytes number padding) none none empty (behind-puts d)))))
 
       pub write-puts : deepest (f .body) ≤ limit.levels → Puts ⊥ (file lengthOf image s) (write f) (length image)
       write-puts d = rw (puts-bytes (behind-puts λ i. omega arith)) at (file-puts {D = ⊥} λ i. omega arith)

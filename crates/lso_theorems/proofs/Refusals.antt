@@ -1,31 +1,123 @@
--- A header and an element are refused exactly as the grammar of refusals says.
-use Rattle.wire.proofs.Kit.{ℕ, _+_, _≤_, _≡_, refl, ap, _∙_, _↔_, inl, inr, List, [], _∷_, _++_, arith, length, drop, replicate, length-append}
-use Rattle.wire.proofs.Kit.{length-replicate}
-use Rattle.wire.specs.Number.{digits, Bytes}
+-- A field, a header and an element are refused exactly as the grammar of refusals says, and are else read.
+use Rattle.wire.proofs.Kit.{ℕ, zero, suc, _+_, _≤_, _<_, _≡_, refl, sym, ap, _∙_, List, [], _∷_, arith, length, drop, length-drop, length-append, replicate}
+use Rattle.wire.proofs.Kit.{leb, lt-leb, le-leb, leb-true, leb-false, _↔_, inl, inr, _++_, length-replicate}
+use Rattle.wire.specs.declared.cursor.U32.the-variants as U32
+use Rattle.wire.specs.declared.cursor.Tag.{Tag}
+use Rattle.wire.specs.declared.cursor.Tag.the-variants as Tag
+use Rattle.wire.specs.Number.{Bytes, digits}
+use Rattle.wire.specs.Field.{to, bytesAt, u32At, equal, tagAt, got32, pastTag}
+use Rattle.wire.proofs.Laws.{picked, length-digits, equal-same, equal-means, false-true}
+use Rattle.wire.proofs.Stands.{Here, join, cut, skip, stood, Stood, number-stood, tag-at, go32, after, inside, u32-at, text-at}
+use Rattle.lso.specs.Reading.{zerosAt, headerAt, closing, elementAt}
+use Rattle.amf0_theorems.specs.Refusal.{Refuses, Field, InText, RefusedValue}
+use Rattle.amf0_theorems.specs.Refusal.Field.{some, fixed}
 use Rattle.wire.specs.Limit as limit
-use Rattle.wire.proofs.Laws.{length-digits}
-use Rattle.wire.proofs.Stands.{Here, after, join, cut, skip, inside, u32-at, text-at, tag-at}
 use Rattle.image.specs.Due.{Due, end, stop, Stops}
+use Rattle.image.proofs.Settle.{stops-behind}
 use Rattle.amf0.specs.Reading.{topValue}
 use Rattle.amf0.specs.Standard.{Sort, UTF-8}
 use Rattle.amf0.specs.Standard.UTF-8.{short}
-use Rattle.amf0_theorems.specs.Refusal.{Field, InText, Refuses, RefusedValue}
-use Rattle.amf0_theorems.specs.Refusal.Field.{fixed}
 use Rattle.amf0_theorems.proofs.Complete.{past}
 use Rattle.amf0_theorems.proofs.Telling.{reads}
 use Rattle.amf0_theorems.proofs.Sound as amf0
 use Rattle.amf0_theorems.proofs.Sound.{keyed}
-use Rattle.amf0_theorems.proofs.Refused.{Told, told-map, told-bind, told-stops, stops-first, stops-behind, refuse, onward, reworded, text-case, text-stops}
+use Rattle.amf0_theorems.proofs.Refused.{Told, told-map, told-bind, told-stops, stops-first, refuse, onward, reworded, text-case, text-stops}
 use Rattle.amf0_theorems.proofs.Stopped.{value-told}
 use Rattle.amf0_theorems.proofs.Refusals.{value-refused}
 use Rattle.lso.specs.File.{version, signature}
-use Rattle.lso.specs.Reading.{endOf, headerAt, elementAt}
-use Rattle.lso.specs.Reading.End.{stops}
 use Rattle.lso.proofs.Stands.{Either}
-use Rattle.lso.proofs.Laws.{closing, element-cut, element-key}
+use Rattle.lso.proofs.Laws.{element-cut, element-key}
+use Rattle.lso_theorems.proofs.Complete.{header-past}
 use Rattle.lso_theorems.specs.Refusal.{LeadsHeader, LeadsElement, RefusedHeader, RefusedElement, Halts}
-use Rattle.lso_theorems.proofs.Fields.{tag-stops, caseTag, u32-stops, case32, zeros-stop, caseZeros}
-use Rattle.lso_theorems.proofs.Stopping.{stops-end, end-stops}
+
+-- ---- fixed bytes
+
+module _ (s : List ℕ) (at : ℕ) (x : List ℕ) (some-byte : 1 ≤ length x) where
+  -- they stand there, or the grammar refuses them
+  pub caseTag : {A : Type 0} (P : A → Type 0) (halt : ℕ → ℕ → A) (k : ℕ → A)
+      → (Here s at x (drop (at + length x) s) → at + length x ≤ length s → P (k (at + length x)))
+      → ((a : ℕ) → Refuses (fixed x) (drop at s) a → P (halt a at)) → P (pastTag halt (tagAt x s at) k)
+  unfolding tagAt
+  caseTag P halt k is halts =
+      let Q : Tag → Type 0 = λ t. P (pastTag halt t k) in
+      let l = length-drop at s in
+      picked Q (leb (at + length x) (length s)) _ _
+      (λ h.
+      let m = leb-true (at + length x) (length s) h in
+      picked Q (equal (bytesAt (length x) s at) x) _ _ (λ u. is (rw (equal-means (bytesAt (length x) s at) x u) at (stood (length x) s at)) m)
+      (λ u. halts 3 (Refuses.other-bytes {x = x} {r = drop at s} (omega arith) λ same. false-true (sym u ∙ (ap (λ y. equal y x) same ∙ equal-same x)))))
+      (λ h. halts 2 (Refuses.short {f = fixed x} {r = drop at s} (omega (arith, leb-false (at + length x) (length s) h))))
+
+  -- and what the grammar refuses is refused
+  pub tag-stops : {a : ℕ} → Refuses (fixed x) (drop at s) a → tagAt x s at ≡ Tag.Stop a at
+  unfolding tagAt
+  tag-stops (Refuses.short l) = rw (lt-leb (at + length x) (length s) (omega (arith, length-drop at s)))
+  tag-stops (Refuses.other-bytes l ne) =
+      rw (le-leb (at + length x) (length s) (omega (arith, length-drop at s)))
+      (picked (λ (t : Tag). t ≡ Tag.Stop 3 at) (equal (bytesAt (length x) s at) x) _ _ (λ u. absurd (ne (equal-means _ _ u))) (λ u. refl))
+
+-- ---- a number of four bytes
+
+module _ (s : List ℕ) (at : ℕ) where
+  -- a number that the grammar refuses is refused
+  pub u32-stops : {a : ℕ} → Refuses (some 4) (drop at s) a → u32At s at ≡ U32.Stop a at
+  unfolding u32At
+  u32-stops (Refuses.short l) = rw (lt-leb (at + 4) (length s) (omega (arith, length-drop at s)))
+
+  -- it stands there, or the grammar refuses it
+  pub case32 : {A : Type 0} (P : A → Type 0) (halt : ℕ → ℕ → A) (k : ℕ → ℕ → A) → Bytes s
+      → ((n : ℕ) → Stood 4 s at n → at + 4 ≤ length s → P (k n (at + 4))) → ((a : ℕ) → Refuses (some 4) (drop at s) a → P (halt a at))
+      → P (got32 halt (u32At s at) k)
+  case32 P halt k bs is halts =
+      go32 P halt s at k (λ h. is _ (number-stood s bs at 4 h) h)
+      (λ h. halts 2 (Refuses.short {f = some 4} {r = drop at s} (omega (arith, length-drop at s))))
+
+-- ---- a row of zeros
+
+-- the refusal of one of n zeros
+pub record Broken (s : List ℕ) (at n a p : ℕ) : Type 0 where
+  pub before : ℕ
+  pub fewer : before < n
+  pub here : Here s at (replicate before 0) (drop p s)
+  pub place : p ≡ at + before
+  pub refuses : Refuses (fixed (0 ∷ [])) (drop p s) a
+
+-- zeros of which the grammar refuses one are refused
+pub zeros-stop : {s r : List ℕ} {a : ℕ} (n at k p : ℕ) → k < n → p ≡ at + k → Here s at (replicate k 0) r → Refuses (fixed (0 ∷ [])) r a
+    → zerosAt n s at ≡ Tag.Stop a p
+unfolding zerosAt
+zeros-stop zero at k p h e g f = absurd (omega arith)
+zeros-stop {s} {r} {a} (suc n) at zero p h e g f =
+    let same : p ≡ at = omega arith in
+    rw (tag-stops s at (0 ∷ []) (omega arith) {a = a} (rw (g .same) f), same)
+zeros-stop {s} {r} (suc n) at (suc k) p h e g f =
+    let z = cut (0 ∷ []) (replicate k 0) g in
+    rw (tag-at (0 ∷ []) z (omega arith)) (zeros-stop n (at + 1) k p (omega arith) (omega arith) (skip (0 ∷ []) (replicate k 0) g) f)
+
+module _ (Q : Tag → Type 0) (s : List ℕ) where
+  zeros-case : (n at : ℕ) → at ≤ length s → ((q : ℕ) → q ≡ at + n → Here s at (replicate n 0) (drop q s) → q ≤ length s → Q (Tag.Past (to q)))
+      → ((a p : ℕ) → Broken s at n a p → Q (Tag.Stop a p)) → Q (zerosAt n s at)
+  unfolding zerosAt
+  zeros-case zero at l is halts = is at (omega arith) (record { same = refl }) l
+  zeros-case (suc n) at l is halts =
+      caseTag s at (0 ∷ []) (omega arith) Q Tag.Stop (λ p. zerosAt n s p)
+      (λ h i. zeros-case n (at + 1) i (λ q e g j. is q (omega arith) (join h refl g) j)
+      (λ a p b.
+      halts a p
+      (record {
+        before = suc (b .before);
+        fewer = omega (arith, b .fewer);
+        here = join h refl (b .here);
+        place = omega (arith, b .place);
+        refuses = b .refuses;
+      })))
+      (λ a f. halts a at (record { before = 0; fewer = omega arith; here = record { same = refl }; place = omega arith; refuses = f }))
+
+-- they stand there, or the grammar refuses one of them
+pub caseZeros : {A : Type 0} (P : A → Type 0) (halt : ℕ → ℕ → A) (s : List ℕ) (n at : ℕ) (k : ℕ → A) → at ≤ length s
+    → ((q : ℕ) → q ≡ at + n → Here s at (replicate n 0) (drop q s) → q ≤ length s → P (k q))
+    → ((a p : ℕ) → Broken s at n a p → P (halt a p)) → P (pastTag halt (zerosAt n s at) k)
+caseZeros P halt s n at k = zeros-case (λ t. P (pastTag halt t k)) s n at
 
 -- what is left behind a row
 left : {s x r : List ℕ} {f : Field} {at w a : ℕ} → Here s at x r → length x ≡ w → Refuses f r a → Refuses f (drop (at + w) s) a
@@ -65,26 +157,16 @@ header-stops {s} (LeadsHeader.signature {n} b) h e f =
       tag-stops s 6 signature (omega arith) (left g refl f),
     ) (refl, e)
 header-stops {s} (LeadsHeader.name {n} {x} b t) h e f =
-    let g₁ = skip version (digits 4 n ++ (signature ++ x)) h in
-    let g₂ = skip (digits 4 n) (signature ++ x) g₁ in
-    rw (
-      tag-at version (cut version (digits 4 n ++ (signature ++ x)) h) (omega arith),
-      u32-at n (cut (digits 4 n) (signature ++ x) g₁) b,
-      tag-at signature (cut signature x g₂) (omega arith),
-      text-stops (omega arith) t f (skip signature x g₂),
-    ) (refl, omega arith)
+    let k = header-past n x b h in
+    rw (k .0, text-stops (omega arith) t f (k .1)) (refl, omega arith)
 header-stops {s} {p} (LeadsHeader.zero {n} {k} b (short t l u) c) h e f =
     let x : List ℕ = digits 2 (length t) ++ t in
     let z : List ℕ = replicate k 0 in
-    let g₁ = skip version (digits 4 n ++ (signature ++ (x ++ z))) h in
-    let g₂ = skip (digits 4 n) (signature ++ (x ++ z)) g₁ in
-    let g₃ = skip signature (x ++ z) g₂ in
+    let g = header-past n (x ++ z) b h in
     rw (
-      tag-at version (cut version (digits 4 n ++ (signature ++ (x ++ z))) h) (omega arith),
-      u32-at n (cut (digits 4 n) (signature ++ (x ++ z)) g₁) b,
-      tag-at signature (cut signature (x ++ z) g₂) (omega arith),
-      text-at 2 t (cut x z g₃) l u (omega arith),
-      zeros-stop 4 (18 + length t) k p c (omega (arith, length-append t z, length-replicate {A = ℕ} k 0)) (past t z g₃) f,
+      g .0,
+      text-at 2 t (cut x z (g .1)) l u (omega arith),
+      zeros-stop 4 (18 + length t) k p c (omega (arith, length-append t z, length-replicate {A = ℕ} k 0)) (past t z (g .1)) f,
     ) (refl, refl)
 
 -- The header is refused exactly as its fields say.
@@ -159,18 +241,11 @@ module _ (s : List ℕ) (bs : Bytes s) (at a p : ℕ) where
 -- ---- an element behind which the body ends
 
 module _ (s : List ℕ) (bs : Bytes s) (n : ℕ) where
-  -- the same with no word of the place
-  pub refused-end : {a p : ℕ} → RefusedElement s n a p → endOf (elementAt s n) ≡ stops a
-  refused-end {a} {p} r = stops-end (elementAt s n) a p (element-refused s bs n a p .1 r)
-
-  pub end-refused : {a : ℕ} → endOf (elementAt s n) ≡ stops a → (p : ℕ) × RefusedElement s n a p
-  end-refused {a} e = let r = end-stops (elementAt s n) e in (r .0, element-refused s bs n a (r .0) .0 (r .1))
-
   -- no further element can be read where the definition stops with 2 or 3
-  pub halts-end : Halts s n → (a : ℕ) × Either a × (endOf (elementAt s n) ≡ stops a)
-  halts-end (Halts.short r) = (2, inl refl, refused-end r)
-  halts-end (Halts.wrong r) = (3, inr refl, refused-end r)
+  pub halts-end : Halts s n → (a : ℕ) × (q : ℕ) × Either a × Stops (elementAt s n) a q
+  halts-end (Halts.short {place} r) = (2, place, inl refl, element-refused s bs n 2 place .1 r)
+  halts-end (Halts.wrong {place} r) = (3, place, inr refl, element-refused s bs n 3 place .1 r)
 
-  pub end-halts : (a : ℕ) → Either a → endOf (elementAt s n) ≡ stops a → Halts s n
-  end-halts a (inl x) e = Halts.short (end-refused (e ∙ ap stops x) .1)
-  end-halts a (inr x) e = Halts.wrong (end-refused (e ∙ ap stops x) .1)
+  pub end-halts : (a q : ℕ) → Either a → Stops (elementAt s n) a q → Halts s n
+  end-halts a q (inl x) e = Halts.short (rw x at (element-refused s bs n a q .0 e))
+  end-halts a q (inr x) e = Halts.wrong (rw x at (element-refused s bs n a q .0 e))

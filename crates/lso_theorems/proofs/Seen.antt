@@ -3,46 +3,19 @@ use Rattle.wire.proofs.Kit.{ℕ, _≡_, refl, sym, _∙_, List, drop}
 use Rattle.amf0.specs.Shown.{Stands}
 use Rattle.wire.specs.Number.{Bytes}
 use Rattle.wire.proofs.Laws.{picked, false-true}
+use Rattle.image.specs.declared.record.Layout.{Layout}
 use Rattle.image.specs.declared.record.Record.{Record}
 use Rattle.image.specs.declared.record.Record.the-variants as R
+use Rattle.image.specs.Kind as kind
 use Rattle.image.specs.Record.{_bytes_, none}
-use Rattle.image.specs.Taking.{recordAt}
 use Rattle.image.specs.Out.{Out, stop, put, row, rowBytes, namedOf}
-use Rattle.amf0.specs.Writing.{taken}
+use Rattle.image.proofs.Kinded.{is}
+use Rattle.amf0.specs.Writing.{asked}
 use Rattle.amf0_theorems.specs.Unwritten.{Fronts}
-use Rattle.amf0_theorems.proofs.Seen.{Took, named-stands, clash, Taking, taking}
-use Rattle.lso.specs.declared.write.Part.{Part}
-use Rattle.lso.specs.declared.write.Part.the-variants as P
-use Rattle.lso.specs.Writing.{partOf, keyed, filed, rowOf, header}
+use Rattle.amf0_theorems.proofs.Seen.{Took, named-stands, Asking, asking}
+use Rattle.lso.specs.Writing.{opening, naming, keying, header}
 use Rattle.lso_theorems.specs.Unwritten.{NoFile, NoKey}
 use Rattle.lso_theorems.proofs.Puts.{empty, named}
-
--- a part tells its record
-abbrev Is : Record → Part → Type 0
-Is r (P.File p n) = (stored : ℕ) × (r ≡ R.Lso stored p n)
-Is r (P.Key p n) = r ≡ R.Key p n
-Is r P.Other = Unit {0}
-
-part-is : (r : Record) → Is r (partOf r)
-part-is (R.Number n) = tt
-part-is (R.Boolean b) = tt
-part-is (R.Text p n) = tt
-part-is R.Object = tt
-part-is R.Null = tt
-part-is R.Undefined = tt
-part-is (R.Reference n) = tt
-part-is (R.EcmaArray n) = tt
-part-is R.ObjectEnd = tt
-part-is (R.StrictArray n) = tt
-part-is (R.Date n z t) = tt
-part-is R.Unsupported = tt
-part-is (R.Xml p n) = tt
-part-is (R.TypedObject p n) = tt
-part-is (R.Key p n) = refl
-part-is (R.Packet h m) = tt
-part-is (R.Header p n f) = tt
-part-is (R.Message p n q m) = tt
-part-is (R.Lso stored p n) = (stored, refl)
 
 module _ (s image : List ℕ) (bs : Bytes image) (at : ℕ) where
   -- ---- a key's
@@ -52,27 +25,28 @@ module _ (s image : List ℕ) (bs : Bytes image) (at : ℕ) where
     seen : {p n q : ℕ} {b : List ℕ} → Took s image bs at (R.Key p n) q → Stands s p n → SeenKey k (put b (k q))
     unseen : NoKey s (drop at image) → SeenKey k (stop 6 at)
 
-  pub see-key : (k : ℕ → Out) → SeenKey k (taken at (recordAt image at) λ r q. keyed at (partOf r) λ p n. row s (rowOf none (2 bytes n) none p n) at (k q))
+  -- the key's record that is taken
+  abbrev keyed : (ℕ → Out) → Layout → ℕ → Out
+  keyed k l q = row s (keying (l .a .number) (l .b .number)) at (k q)
+
+  pub see-key : (k : ℕ → Out) → SeenKey k (asked image kind.key at (keyed k))
   unfolding row
-  see-key k = go (taking s image bs at (λ r q. keyed at (partOf r) λ p n. row s (rowOf none (2 bytes n) none p n) at (k q)))
+  see-key k = go (asking s image bs at kind.key (keyed k))
     where
-      by : {r : Record} {q : ℕ} → Took s image bs at r q → ((t : Record) → Fronts s t (drop at image) → t ≡ r) → (h : Part) → partOf r ≡ h → Is r h
-          → SeenKey k (keyed at h λ p n. row s (rowOf none (2 bytes n) none p n) at (k q))
-      by t one (P.File p n) e i = SeenKey.unseen (record { none = λ u m f. let g = one (R.Key u m) f in clash (cc) })
-      by {q} t one (P.Key p n) e i =
-          picked (SeenKey k) (namedOf s (rowOf none (2 bytes n) none p n)) _ (stop 6 at) (λ h. SeenKey.seen (rw i at t) (named-stands s none 2 p n h))
+      by : {p n q : ℕ} → Took s image bs at (R.Key p n) q → ((t : Record) → Fronts s t (drop at image) → t ≡ R.Key p n) → SeenKey k (row s (keying p n) at (k q))
+      by {p} {n} t one =
+          picked (SeenKey k) (namedOf s (keying p n)) _ (stop 6 at) (λ h. SeenKey.seen t (named-stands s none 2 p n h))
           (λ h. SeenKey.unseen (record {
             none = λ u m f.
                 let g = one (R.Key u m) f in
                 let a : u ≡ p = cc in
                 let b : m ≡ n = cc in
-                false-true (sym h ∙ named s none (2 bytes n) none (rw (a, b) at (f .named)));
+                false-true (sym h ∙ named s none (2 bytes n) none (rw (a, b) at (f .named .0)));
           }))
-      by t one P.Other e i = SeenKey.unseen (record { none = λ u m f. let g = one (R.Key u m) f in clash (cc) })
 
-      go : {d : Out} → Taking s image bs at (λ r q. keyed at (partOf r) λ p n. row s (rowOf none (2 bytes n) none p n) at (k q)) d → SeenKey k d
-      go (Taking.takes {r} t one) = by t one (partOf r) refl (part-is r)
-      go (Taking.bad n) = SeenKey.unseen (record { none = λ u m f. n (R.Key u m) f })
+      go : {d : Out} → Asking s image bs at kind.key (keyed k) d → SeenKey k d
+      go (Asking.asks {r} t e one) = let i = is r kind.key e in rw (i .2) (by (rw (i .2) at t) (λ x f. one x f ∙ i .2))
+      go (Asking.other n) = SeenKey.unseen (record { none = λ u m f. n (R.Key u m) f refl })
 
 -- ---- the file's own
 
@@ -84,31 +58,27 @@ module _ (s image : List ℕ) (bs : Bytes image) where
     unnamed : {b : List ℕ} → NoFile s image → SeenFile k (put b (stop 6 0))
 
   -- the file's record that is taken, with the length that its header says
-  abbrev filing : (ℕ → ℕ → ℕ) → (ℕ → Out) → Record → ℕ → Out
-  filing stored k r q = filed 0 (partOf r) λ p n. header (stored n q) s p n (k q)
+  abbrev filing : (ℕ → ℕ → ℕ) → (ℕ → Out) → Layout → ℕ → Out
+  filing stored k l q = header (stored (l .c .number) q) s (l .b .number) (l .c .number) (k q)
 
-  pub see-file : (stored : ℕ → ℕ → ℕ) (k : ℕ → Out) → SeenFile k (taken 0 (recordAt image 0) λ r q. filed 0 (partOf r) λ p n. header (stored n q) s p n (k q))
+  pub see-file : (stored : ℕ → ℕ → ℕ) (k : ℕ → Out) → SeenFile k (asked image kind.lso 0 (filing stored k))
   unfolding row
-  see-file stored k = go (taking s image bs 0 (filing stored k))
+  see-file stored k = go (asking s image bs 0 kind.lso (filing stored k))
     where
-      by : {r : Record} {q : ℕ} → Took s image bs 0 r q → ((t : Record) → Fronts s t image → t ≡ r) → (h : Part) → partOf r ≡ h → Is r h
-          → SeenFile k (filed 0 h λ p n. header (stored n q) s p n (k q))
-      by {q} t one (P.File p n) e i =
-          let front : List ℕ = rowBytes s (rowOf (2 bytes 0x00BF) (4 bytes stored n q) none 0 0) in
+      by : {l p n q : ℕ} → Took s image bs 0 (R.Lso l p n) q → ((t : Record) → Fronts s t image → t ≡ R.Lso l p n) → SeenFile k (header (stored n q) s p n (k q))
+      by {p = p} {n} {q} t one =
+          let front : List ℕ = rowBytes s (opening (stored n q)) in
           rw (named s (4 bytes 0) none none (empty s))
-          (picked (λ (x : Out). SeenFile k (put front x)) (namedOf s (rowOf (4 bytes 0x5443534F) (6 bytes 0x000400000000) (2 bytes n) p n)) _ (stop 6 0)
-          (λ h. SeenFile.seen (rw (i .1) at t) (named-stands s none 0 p n h))
+          (picked (λ (x : Out). SeenFile k (put front x)) (namedOf s (naming p n)) _ (stop 6 0)
+          (λ h. SeenFile.seen t (named-stands s none 0 p n h))
           (λ h. SeenFile.unnamed (record {
-            none = λ l u m f w.
-                let g = one (R.Lso l u m) f in
-                let j = i .1 in
+            none = λ j u m f.
+                let g = one (R.Lso j u m) f in
                 let a : u ≡ p = cc in
                 let b : m ≡ n = cc in
-                false-true (sym h ∙ named s none (2 bytes n) none (rw (a, b) at w));
+                false-true (sym h ∙ named s none (2 bytes n) none (rw (a, b) at (f .named .0)));
           })))
-      by t one (P.Key p n) e i = SeenFile.unseen (record { none = λ l u m f w. let g = one (R.Lso l u m) f in clash (cc) })
-      by t one P.Other e i = SeenFile.unseen (record { none = λ l u m f w. let g = one (R.Lso l u m) f in clash (cc) })
 
-      go : {d : Out} → Taking s image bs 0 (filing stored k) d → SeenFile k d
-      go (Taking.takes {r} t one) = by t one (partOf r) refl (part-is r)
-      go (Taking.bad n) = SeenFile.unseen (record { none = λ l u m f w. n (R.Lso l u m) f })
+      go : {d : Out} → Asking s image bs 0 kind.lso (filing stored k) d → SeenFile k d
+      go (Asking.asks {r} t e one) = let i = is r kind.lso e in rw (i .3) (by (rw (i .3) at t) (λ x f. one x f ∙ i .3))
+      go (Asking.other n) = SeenFile.unseen (record { none = λ l u m f. n (R.Lso l u m) f refl })

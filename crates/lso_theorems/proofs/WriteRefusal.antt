@@ -8,7 +8,7 @@ use Rattle.image.specs.Out.{Out, end, _>>=_, row, bytes as putOut}
 use Rattle.amf0.specs.Writing.{topValue}
 use Rattle.amf0_theorems.specs.Unwritten.{Stops}
 use Rattle.amf0_theorems.proofs.WriteRefusal.{bind-stops, Reached, no-record, past-record, past-records, past-tree, value-halt}
-use Rattle.lso.specs.Writing.{rowOf, element, body, file}
+use Rattle.lso.specs.Writing.{zero-byte, element, body, file}
 use Rattle.lso_theorems.specs.Unwritten.{Slot, Elements, Opens, NoFile, NoKey, Refuses, Refused}
 use Rattle.lso_theorems.proofs.Puts.{empty, named}
 use Rattle.lso_theorems.proofs.WriteSound.{element-sound}
@@ -26,7 +26,7 @@ module _ (s image : List ℕ) (bs : Bytes image) where
   halted {d} x b r = record { reached = x; slot = d; begins = b; refuses = r }
 
   -- the zero behind an element is not refused
-  zeroed-goes : (at n a p : ℕ) → Stops (row s (rowOf (1 bytes 0) none none 0 0) at (end n)) a p → ⊥
+  zeroed-goes : (at n a p : ℕ) → Stops (row s zero-byte at (end n)) a p → ⊥
   unfolding row
   zeroed-goes at n a p e = rw (named s (1 bytes 0) none none (empty s)) at e
 
@@ -38,13 +38,13 @@ module _ (s image : List ℕ) (bs : Bytes image) where
   -- an element, and then all of them
   element-halt : (at a p : ℕ) → at + 1 ≤ length image → Stops (element image s at) a p → Halted at a p
   unfolding element no-record past-record
-  element-halt at a p l e = by (see-key s image bs at (λ q. topValue image s q >>= λ n. row s (rowOf (1 bytes 0) none none 0 0) at (end n))) e
+  element-halt at a p l e = by (see-key s image bs at (λ q. topValue image s q >>= λ n. row s zero-byte at (end n))) e
     where
-      by : {d : Out} → SeenKey s image bs at (λ q. topValue image s q >>= λ n. row s (rowOf (1 bytes 0) none none 0 0) at (end n)) d
+      by : {d : Out} → SeenKey s image bs at (λ q. topValue image s q >>= λ n. row s zero-byte at (end n)) d
           → Stops d a p → Halted at a p
       by (SeenKey.seen {q} t h) e =
           bind-stops (topValue image s q) _ a p e
-          (λ f. let x = value-halt s image bs limit.levels q a p f in halted (past-record s image bs t h (x .reached)) (Elements.key (x .begins)) (Refuses.inside (x .refuses)))
+          (λ f. let x = value-halt s image bs limit.levels q a p f in halted (past-record s image bs t (h, tt) (x .reached)) (Elements.key (x .begins)) (Refuses.inside (x .refuses)))
           (λ n f g. absurd (zeroed-goes at n a p g))
       by (SeenKey.unseen n) e =
           halted (no-record s image bs (e .1)) Elements.due (rw (e .0) (no-key (drop at image) (omega (arith, length-drop at image)) n))
@@ -60,7 +60,7 @@ module _ (s image : List ℕ) (bs : Bytes image) where
       (element-halt at a p (omega (arith, leb-false (length image) at h)))
       (λ m f g. element-sound s image bs at m f λ u n q t k y.
       let x = body-halt fuel m a p g in
-      halted (past-record s image bs t k (past-tree s image bs y (x .reached))) (Elements.element (y .spells) (y .deep) (x .begins)) (x .refuses)))
+      halted (past-record s image bs t (k, tt) (past-tree s image bs y (x .reached))) (Elements.element (y .spells) (y .deep) (x .begins)) (x .refuses)))
 
   -- an image that is refused
   pub refused-by : (says : ℕ → ℕ → ℕ) (a p : ℕ) → Stops (file says image s) a p → Refused image s a p
@@ -74,7 +74,7 @@ module _ (s image : List ℕ) (bs : Bytes image) where
       by : {d : Out} → SeenFile s image bs (body image s (length image)) d → Stops d a p → Refused image s a p
       by (SeenFile.seen {q} t h) e =
           let x = body-halt (length image) q a p e in
-          let y = past-record s image bs t tt (x .reached) in
+          let y = past-record s image bs t (h, tt) (x .reached) in
           record {
             records = y .records;
             rest = y .rest;

@@ -9,7 +9,7 @@ use Rattle.image.specs.Record.{_bytes_, none, size}
 use Rattle.image.specs.Out.{Out, end, _>>=_, row, bytes as putOut}
 use Rattle.image.proofs.Laws.{size-some}
 use Rattle.amf0.specs.Shown.{laid, Right}
-use Rattle.amf0.specs.Writing.{value, topValue}
+use Rattle.amf0.specs.Writing.{topValue}
 use Rattle.amf0_theorems.specs.Unwritten.{Stops}
 use Rattle.amf0_theorems.proofs.Puts.{first, others, laid-append, laid-length, laid-size, right-right}
 use Rattle.amf0_theorems.proofs.Seen.{took-fronts}
@@ -28,7 +28,7 @@ module _ (s image : List ℕ) (bs : Bytes image) where
   key-slot at none = by (see-key s image bs at _)
     where
       by : {d : Out} {k : ℕ → Out} → SeenKey s image bs at k d → Stops d 6 at
-      by (SeenKey.seen {p} {n} t h) = absurd (none .none p n (took-fronts s image bs at t h))
+      by (SeenKey.seen {p} {n} t h) = absurd (none .none p n (took-fronts s image bs at t (h, tt)))
       by (SeenKey.unseen n) = (refl, refl)
 
   file-slot : (says : ℕ → ℕ → ℕ) → NoFile s image → Stops (file says image s) 6 0
@@ -36,7 +36,7 @@ module _ (s image : List ℕ) (bs : Bytes image) where
   file-slot says none = by (see-file s image bs (λ n q. says n (length (putOut (body image s (length image) q)))) (body image s (length image)))
     where
       by : {d : Out} {k : ℕ → Out} → SeenFile s image bs k d → Stops d 6 0
-      by (SeenFile.seen {stored} {p} {n} t h) = absurd (none .none stored p n (took-fronts s image bs 0 t tt) h)
+      by (SeenFile.seen {stored} {p} {n} t h) = absurd (none .none stored p n (took-fronts s image bs 0 t (h, tt)))
       by (SeenFile.unseen n) = (refl, refl)
       by (SeenFile.unnamed n) = (refl, refl)
 
@@ -52,7 +52,7 @@ module _ (s image : List ℕ) (bs : Bytes image) where
       → Stops (topValue image s (at + size (R.Key u n))) a p → Stops (element image s at) a p
   unfolding element row
   key-stops {at} u n rs z h g a p e =
-      rw (first s image (R.Key u n) rs z h (g .0), named s none (2 bytes n) none (g .1)) (stops-first (topValue image s (at + size (R.Key u n))) _ a p e)
+      rw (first s image (R.Key u n) rs z h (g .0), named s none (2 bytes n) none (g .1 .0)) (stops-first (topValue image s (at + size (R.Key u n))) _ a p e)
 
   -- elements that are begun are refused where their records end
   body-stops : {rs : List Record} {d : Slot} {z : List ℕ} {a : ℕ} → Elements s rs d → Right s rs → Refuses s d z a → (at p fuel : ℕ) → Here image at (laid rs) z

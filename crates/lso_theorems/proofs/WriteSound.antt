@@ -19,7 +19,7 @@ use Rattle.amf0_theorems.proofs.Seen.{nothing, Took}
 use Rattle.amf0_theorems.proofs.WriteSound.{Ends, bind-ends, row-ends, before, Stood, sound}
 use Rattle.lso_theorems.proofs.Seen.{SeenKey, see-key, SeenFile, see-file}
 use Rattle.lso.specs.File.{Body, Lso, deepest}
-use Rattle.lso.specs.Writing.{rowOf, element, body, file, lengthOf}
+use Rattle.lso.specs.Writing.{zero-byte, element, body, file, lengthOf}
 use Rattle.lso.specs.Written.{Spells, Images}
 
 module _ (s image : List ℕ) (bs : Bytes image) where
@@ -60,7 +60,7 @@ module _ (s image : List ℕ) (bs : Bytes image) where
         what = Body.element (bytesAt n s p) (x .tree) (y .what);
         records = R.Key p n ∷ (x .records ++ y .records);
         rest = y .rest;
-        right = (t .fits, h, right-both s (x .records) (y .records) (x .right) (y .right));
+        right = (t .fits, (h, tt), right-both s (x .records) (y .records) (x .right) (y .right));
         spells = Spells.element refl (x .spells) (y .spells);
         here = b .0;
         next = b .1;
@@ -74,12 +74,12 @@ module _ (s image : List ℕ) (bs : Bytes image) where
   element-sound at m {A} e go = by (see-key s image bs at (λ q. topValue image s q >>= zeroed)) e
     where
       zeroed : ℕ → Out
-      zeroed x = row s (rowOf (1 bytes 0) none none 0 0) at (end x)
+      zeroed x = row s zero-byte at (end x)
 
       by : {d : Out} → SeenKey s image bs at (λ q. topValue image s q >>= zeroed) d → Ends d m → A
       by (SeenKey.seen {p} {n} {q} t h) e =
           bind-ends (topValue image s q) zeroed m e λ x f g.
-          let z = row-ends s image bs (rowOf (1 bytes 0) none none 0 0) at m (end x) g .1 in
+          let z = row-ends s image bs zero-byte at m (end x) g .1 in
           go p n q t h (rw z (sound s image bs limit.levels q x f))
       by (SeenKey.unseen x) e = absurd e
 

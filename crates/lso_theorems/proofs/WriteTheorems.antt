@@ -4,27 +4,26 @@ use Rattle.wire.specs.Number.{Bytes}
 use Rattle.wire.specs.Limit as limit
 use Rattle.image.specs.Out.{Written, written, unwritten, sized}
 use Rattle.image.specs.Whole.{Whole}
-use Rattle.amf0.specs.Written.{unplaced}
+use Rattle.image.specs.Record.{unplaced}
 use Rattle.amf0_theorems.specs.Unwritten.{Stops}
 use Rattle.amf0_theorems.proofs.WriteOutcome.{sized-written, written-sized}
 use Rattle.amf0_theorems.proofs.WriteRefusal.{ends-or-stops}
-use Rattle.amf0_theorems.proofs.WriteReasons.{call-refusals, stops-once, holds}
+use Rattle.amf0_theorems.proofs.WriteReasons.{call-refusals, stops-once, call-answers, call-settled, accepted}
 use Rattle.lso.specs.File.{Lso, File, deepest}
 use Rattle.amf0_theorems.proofs.Settled.{Settled}
-use Rattle.amf0_theorems.proofs.Settled.Settled.{refused, put-out}
 use Rattle.lso.specs.Reading.{incompleteOf, wholeOf}
 use Rattle.lso.specs.Writing.{file, lengthOf, writeOf}
 use Rattle.lso.specs.Written.{writeBody, write, saying, SaysLength, Images, Writable, rewriteOf}
 use Rattle.lso_theorems.specs.Unwritten.{Refused, Outcome}
 use Rattle.lso_theorems.proofs.Puts.{file-written}
-use Rattle.lso_theorems.proofs.Shortest.{write-length, write-file, file-least}
 use Rattle.lso_theorems.proofs.WriteOutcome.{ReadImage, whole-image, WasRead, read-incomplete, read-whole}
 use Rattle.lso_theorems.proofs.WriteReasons as because
-use Rattle.lso_theorems.proofs.WriteReasons.{file-refuses, answered, reasons}
+use Rattle.lso_theorems.proofs.WriteReasons.{file-refuses, reasons}
 use Rattle.lso_theorems.proofs.WriteSound.{image-of}
 use Rattle.lso_theorems.proofs.WriteRefusal.{refused-by}
 use Rattle.lso_theorems.proofs.WriteRefusing.{refuses-by}
 use Rattle.lso_theorems.proofs.Theorems.{complete-whole}
+use Rattle.lso_theorems.proofs.Files.{write-length, write-file, file-least}
 
 -- ---- the writing and the file
 
@@ -103,7 +102,7 @@ module _ {s : List ℕ} {v : Whole} (m : WasRead s v) where
       rw (file-written out w ∙ sized-written (write (m .lso)) out l (omega (arith, fewer)))
       (record { lso = m .lso; before = m .file; after = write-file (w .images) (w .image-size) l; answer = refl; count = refl; fewer = fewer })
 
-  trips : (b : List ℕ) (out more : ℕ) → writeOf (v .bytes) s out ≡ written b → 3 * length b ≤ more → RoundTrip s b v (wholeOf b more)
+  pub trips : (b : List ℕ) (out more : ℕ) → writeOf (v .bytes) s out ≡ written b → 3 * length b ≤ more → RoundTrip s b v (wholeOf b more)
   trips b out more e h =
       let w = m .image .writable in
       let r = written-back (v .bytes) s b (m .lso) out more w e h in
@@ -118,6 +117,10 @@ module _ {s : List ℕ} {v : Whole} (m : WasRead s v) where
         image-too = r .image .writable .images;
         alike = m .image .alike ∙ sym (r .image .alike);
       }
+
+  pub repeats : (b : List ℕ) (out more once : ℕ) → writeOf (v .bytes) s out ≡ written b → 3 * length b ≤ more → length b ≤ once
+      → rewriteOf wholeOf b more once ≡ written b
+  repeats b out more once = written-again (v .bytes) s b (m .lso) out more once (m .image .writable)
 
 -- A file that was read whole is written, where the output has as much room as the bytes used: as the same file, but for the length that it says, in no
 -- more bytes.
@@ -144,25 +147,19 @@ round-trip-incomplete s b room out more bs e = trips (read-incomplete s room bs 
 -- To read that and write it once more changes nothing more.
 pub again : (s b : List ℕ) (room out more once : ℕ) → Bytes s → wholeOf s room .reading .answer ≡ 0 → rewriteOf wholeOf s room out ≡ written b
     → 3 * length b ≤ more → length b ≤ once → rewriteOf wholeOf b more once ≡ written b
-again s b room out more once bs e =
-    let m = read-whole s room bs e in
-    written-again (wholeOf s room .bytes) s b (m .lso) out more once (m .image .writable)
+again s b room out more once bs e = repeats (read-whole s room bs e) b out more once
 
 -- Nor does it after the incomplete reading.
 pub again-incomplete : (s b : List ℕ) (room out more once : ℕ) → Bytes s → incompleteOf s room .reading .answer ≡ 0
     → rewriteOf incompleteOf s room out ≡ written b → 3 * length b ≤ more → length b ≤ once → rewriteOf wholeOf b more once ≡ written b
-again-incomplete s b room out more once bs e =
-    let m = read-incomplete s room bs e in
-    written-again (incompleteOf s room .bytes) s b (m .lso) out more once (m .image .writable)
+again-incomplete s b room out more once bs e = repeats (read-incomplete s room bs e) b out more once
 
 -- ---- the answers
 
 -- The answer is one of 0, 1, 4, 5 and 6.
 pub write-answers : (image text : List ℕ) (room : ℕ)
     → let a = writeOf image text room .writing .answer in (a ≡ 0) ⊎ ((a ≡ 1) ⊎ ((a ≡ 4) ⊎ ((a ≡ 5) ⊎ (a ≡ 6))))
-write-answers image text room =
-    answered image text room (λ w. let a = w .writing .answer in (a ≡ 0) ⊎ ((a ≡ 1) ⊎ ((a ≡ 4) ⊎ ((a ≡ 5) ⊎ (a ≡ 6)))))
-    (inr (inl refl)) (inr (inr (inl refl))) (inr (inr (inr (inl refl)))) (inr (inr (inr (inr refl)))) (λ b h. inl refl)
+write-answers image text room = call-answers image text room (file lengthOf image text) (file-refuses text image lengthOf)
 
 -- The writing is refused with an answer at a place exactly where the records before it begin a file, and what stands there is not what is due and gives
 -- that answer.
@@ -199,10 +196,7 @@ write-refusals image text room a bs h i o =
 -- A write is accepted exactly where the image is that of a file whose bytes are within the limit and the room.
 pub write-accepted : (image text : List ℕ) (room : ℕ) → Bytes image → writeOf image text room .writing .answer ≡ 0
     ↔ (f : Lso) × Writable image text f × (length (write f) ≤ limit.bytes) × (length (write f) ≤ room)
-write-accepted image text room bs = (
-  holds (writeOf image text room) (reasons image text room bs),
-  λ x. ap (λ (w : Written). w .writing .answer) (file-written room (x .1) ∙ sized-written (write (x .0)) room (x .2) (x .3)),
-)
+write-accepted image text room bs = accepted (writeOf image text room) (reasons image text room bs) λ f. file-written room
 
 -- In whatever is written, the four bytes behind the first two are 16 plus the name's length plus the body's: as many bytes as stand behind them.
 pub written-length : (image text : List ℕ) (room : ℕ) → Bytes image → writeOf image text room .writing .answer ≡ 0
@@ -215,5 +209,4 @@ written-length image text room bs e =
 
 -- A refused write counts 0 and has no byte of an output; an accepted one counts the bytes that it has of it, and they have room.
 pub write-settled : (image text : List ℕ) (room : ℕ) → Settled room (writeOf image text room)
-write-settled image text room =
-    answered image text room (Settled room) (refused 1 λ e. omega arith) (refused 4 λ e. omega arith) (refused 5 λ e. omega arith) (refused 6 λ e. omega arith) put-out
+write-settled image text room = call-settled image text room (file lengthOf image text) (file-refuses text image lengthOf)

@@ -11,7 +11,6 @@ use Rattle.amf0.specs.Written as amf0
 use Rattle.amf0.specs.Written.Lead.{keyed}
 use Rattle.amf0_theorems.specs.Unwritten as value
 use Rattle.amf0_theorems.specs.Unwritten.{Fronts}
-use Rattle.lso.specs.File.{Lso}
 use Rattle.lso.specs.Written.{write, Writable}
 
 -- ---- what is due
@@ -44,7 +43,7 @@ pub data Opens (s : List ℕ) : List Record → Slot → Type 0 where
 
 -- bytes that begin with no record of a file, whole and right, with its name inside the text and UTF-8
 pub record NoFile (s x : List ℕ) : Type 0 where
-  pub none : (stored p n : ℕ) → Fronts s (R.Lso stored p n) x → Stands s p n → ⊥
+  pub none : (stored p n : ℕ) → Fronts s (R.Lso stored p n) x → ⊥
 
 -- bytes that begin with no such record of a key
 pub record NoKey (s x : List ℕ) : Type 0 where

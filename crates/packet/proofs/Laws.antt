@@ -1,8 +1,9 @@
 -- The laws of heads, of the cut and of an entry's reading.
-use Rattle.wire.proofs.Kit.{ℕ, zero, suc, _+_, _-_, _≤_, _<_, _≡_, refl, ap, _∙_, List, [], _∷_, _++_, append-assoc, append-nil, Bool, true, false, _≢_, _⊎_}
-use Rattle.wire.proofs.Kit.{inl, inr, ⊎-elim, add-one, sub-one, arith, length, getD, take, drop, set, replicate, length-append, length-take, length-drop, sets}
-use Rattle.wire.proofs.Kit.{length-take-le, leb, ltb, eqb, leb-true, leb-false, le-leb, lt-leb, ltb-true, ltb-false, ne-eqb}
-use lib.Seq.{take-suc-set}
+use Rattle.wire.proofs.Kit.{ℕ, zero, suc, _+_, _-_, _≤_, _<_, _≡_, refl, sym, ap, subst, _∙_, List, [], _∷_, _++_, append-assoc, append-nil, Bool, true, false}
+use Rattle.wire.proofs.Kit.{_≢_, _⊎_, inl, inr, ⊎-elim, add-one, arith, length, getD, take, drop, set, replicate, drop-cons, drop-drop, drop-of-length-le}
+use Rattle.wire.proofs.Kit.{length-append, length-take, length-drop, sets, length-take-le, leb, ltb, eqb, leb-true, leb-false, le-leb, lt-leb, ltb-true}
+use Rattle.wire.proofs.Kit.{ltb-false, lt-ltb, ne-eqb}
+use lib.Seq.{drop-nil, take-suc-set}
 use Rattle.wire.specs.Choice.{pick}
 use Rattle.wire.specs.declared.cursor.Cursor.{Cursor}
 use Rattle.wire.specs.declared.cursor.U16.{U16}
@@ -12,7 +13,7 @@ use Rattle.wire.specs.declared.cursor.Tag.the-variants as Tag
 use Rattle.wire.specs.Limit as limit
 use Rattle.wire.specs.Text.{insideOf}
 use Rattle.wire.specs.Number.{number}
-use Rattle.wire.specs.Field.{to, bytesAt, u8At, u16At, tagAt, got8, got16, pastTag}
+use Rattle.wire.specs.Field.{to, u8At, u16At, tagAt, got8, got16, pastTag}
 use Rattle.wire.proofs.Laws.{picked, tag-next, tag-stop}
 use Rattle.wire.proofs.Stands.{go8, go16, go32, goText}
 use Rattle.image.specs.declared.reading.Step.{Step}
@@ -22,7 +23,7 @@ use Rattle.image.specs.Due.{Due, end, stop, due, based, Ran, ran, run}
 use Rattle.image.specs.Whole.{refused, finished}
 use Rattle.image.proofs.Laws.{clear-more}
 use Rattle.image.proofs.Settle.{finished-ran}
-use Rattle.amf0.specs.Reading.{value, topValue, valueIn}
+use Rattle.amf0.specs.Reading.{valueIn}
 use Rattle.amf0.proofs.Laws.{part-read}
 use Rattle.amf0.proofs.Reasons.{Kept, kept}
 use Rattle.packet.specs.declared.head.Entry.{Entry}
@@ -33,9 +34,10 @@ use Rattle.packet.specs.declared.entry.Found.{Found}
 use Rattle.packet.specs.declared.entry.Found.the-variants as Found
 use Rattle.packet.specs.declared.walk.Walk.{Walk}
 use Rattle.packet.specs.declared.walk.Walk.the-variants as W
-use Rattle.packet.specs.Head.{versionAt, headerAt, messageAt, headAt, gotHead}
-use Rattle.packet.specs.Entry.{Cut, found, stops, gotCut, entryAt, walk, cutOf, noEntry, Listed, uncut, listed, filled, spanOf, judge, valueOf, readSpan, entryIn, foundIn}
-use Rattle.packet.specs.Code.{ended, behind, restOf, goesOn, goesBelow, ahead, aheads, without, endOf, firstIn, refusedCut, countedIn, judgedOf}
+use Rattle.packet.specs.Head.{versionAt, frontOf, headerAt, messageAt, headAt, gotHead}
+use Rattle.packet.specs.Entry.{Ending, done, halt, reach, Trail, stopped, puts, _thence_, entryAt, walk, endAt, messagesFrom, Cut, found, stops, strict, cutOf, noEntry, Listed, uncut, listed, filled, valueOf, readSpan, entryIn, foundIn}
+use Rattle.packet.specs.Code.{behind, restOf, goesOn, goesBelow, past, refusedCut, countedIn, judgedOf, Out}
+use Rattle.amf0.specs.Span.{Span, held, judge, inSpan, answerOf, oneValue}
 
 -- ---- heads
 
@@ -50,11 +52,17 @@ two = record { low = omega arith; high = omega arith }
 pub three : Field 3
 three = record { low = omega arith; high = omega arith }
 
--- a head at a place was read: its value begins at v, inside the input
+-- n bytes from p on lie from a place up to another
+pub record Between (at next p n : ℕ) : Type 0 where
+  pub bounds : (i : ℕ) → p ≤ i → i < p + n → (at ≤ i) × (i < next)
+
+-- a head at a place was read: its value begins at v, inside the input, and its texts stand before that
 pub record Begun (s : List ℕ) (at : ℕ) (e : Entry) (v : ℕ) : Type 0 where
   pub place : e .place ≡ v
   pub from : at + 7 ≤ v
   pub within : v ≤ length s
+  pub first : Between at v (e .place1) (e .length1)
+  pub second : Between at v (e .place2) (e .length2)
 
 abbrev pub Headed : List ℕ → ℕ → Head → Type 0
 Headed s at (Head.Got e c) = Begun s at e (c .at)
@@ -65,7 +73,16 @@ module _ (s : List ℕ) (at : ℕ) where
   unfolding headerAt
   header-told = goText (Headed s at) Head.Stop s at 2 _
       (λ n e i u. go8 (Headed s at) Head.Stop s (at + 2 + n) _
-      (λ j. go32 (Headed s at) Head.Stop s (at + 2 + n + 1) _ (λ k. record { place = refl; from = omega arith; within = k }) (λ k. two))
+      (λ j. go32 (Headed s at) Head.Stop s (at + 2 + n + 1) _
+      (λ k.
+      record {
+        place = refl;
+        from = omega arith;
+        within = k;
+        first = record { bounds = λ x y z. (omega arith, omega arith) };
+        second = record { bounds = λ x y z. absurd (omega arith) };
+      })
+      (λ k. two))
       (λ j. two))
       (λ i. two) (λ n e i j. two) (λ n e i u. three)
 
@@ -73,7 +90,16 @@ module _ (s : List ℕ) (at : ℕ) where
   unfolding messageAt
   message-told = goText (Headed s at) Head.Stop s at 2 _
       (λ n e i u. goText (Headed s at) Head.Stop s (at + 2 + n) 2 _
-      (λ m f j v. go32 (Headed s at) Head.Stop s (at + 2 + n + 2 + m) _ (λ k. record { place = refl; from = omega arith; within = k }) (λ k. two))
+      (λ m f j v. go32 (Headed s at) Head.Stop s (at + 2 + n + 2 + m) _
+      (λ k.
+      record {
+        place = refl;
+        from = omega arith;
+        within = k;
+        first = record { bounds = λ x y z. (omega arith, omega arith) };
+        second = record { bounds = λ x y z. (omega arith, omega arith) };
+      })
+      (λ k. two))
       (λ j. two) (λ m f j k. two) (λ m f j v. three))
       (λ i. two) (λ n e i j. two) (λ n e i u. three)
 
@@ -87,8 +113,8 @@ module _ (s : List ℕ) (at : ℕ) where
 
 -- an entry at a place: its value is inside the input and ends at z
 pub record Spanned (s : List ℕ) (at : ℕ) (e : Entry) (z : ℕ) : Type 0 where
+  pub begun : Begun s at e (e .place)
   pub ends : e .place + e .length ≡ z
-  pub from : at + 7 ≤ z
   pub within : z ≤ length s
 
 abbrev pub Placed : List ℕ → ℕ → Head → Type 0
@@ -102,7 +128,7 @@ entry-told kind s at = go (headAt kind s at) (head-told s at kind)
     go : (x : Head) → Headed s at x
         → Placed s at (gotHead Head.Stop x λ e v. pick (leb (v + e .length) (length s)) (Head.Got e (to (v + e .length))) (Head.Stop 2 (v - 4)))
     go (Head.Got e c) h = picked (Placed s at) (leb (c .at + e .length) (length s)) _ _
-        (λ t. record { ends = rw (h .place); from = omega arith; within = leb-true _ _ t }) (λ t. two)
+        (λ t. record { begun = subst (Begun s at e) (sym (h .place)) h; ends = rw (h .place); within = leb-true _ _ t }) (λ t. two)
     go (Head.Stop a p) h = h
 
 module _ (kind : ℕ) (s : List ℕ) (at : ℕ) where
@@ -137,70 +163,59 @@ inside-at s [] i d h f = absurd (omega arith)
 inside-at s (e ∷ es) zero d h f = f .0
 inside-at s (e ∷ es) (suc i) d h f = inside-at s es i d (omega arith) (f .1)
 
--- n entries were walked
-pub record Went (s : List ℕ) (n : ℕ) (es : List Entry) (z : ℕ) : Type 0 where
-  pub count : length es ≡ n
-  pub inside : Inside s es
-  pub within : z ≤ length s
+-- how a trail ends: inside the input, or by a field's refusal
+abbrev pub Ended : List ℕ → Ending → Type 0
+Ended s (done z) = z ≤ length s
+Ended s (halt a p) = Field a
 
-abbrev pub Goes : List ℕ → ℕ → Cut → Type 0
-Goes s n (found es z) = Went s n es z
-Goes s n (stops a p) = Field a
+pub record Went (s : List ℕ) (t : Trail) : Type 0 where
+  pub inside : Inside s (t .entries)
+  pub ended : Ended s (t .ending)
 
-goes-on : (s : List ℕ) (n : ℕ) (e : Entry) (x : Cut) → e .place + e .length ≤ length s → Goes s n x → Goes s (suc n) (gotCut x λ es z. found (e ∷ es) z)
-goes-on s n e (found es z) h g = record { count = ap suc (g .count); inside = (h, g .inside); within = g .within }
-goes-on s n e (stops a p) h g = g
+went-stopped : (s : List ℕ) {a : ℕ} (p : ℕ) → Field a → Went s (stopped a p)
+went-stopped s p f = record { inside = tt; ended = f }
 
-goes-from : (s : List ℕ) (n at : ℕ) (k : ℕ → Cut) (x : Head) → Placed s at x → ((q : ℕ) → q ≤ length s → Goes s n (k q))
-    → Goes s (suc n) (gotHead stops x λ e q. gotCut (k q) λ es z. found (e ∷ es) z)
-goes-from s n at k (Head.Got e c) p g = goes-on s n e (k (c .at)) (omega (arith, p .ends, p .within)) (g (c .at) (p .within))
-goes-from s n at k (Head.Stop a p) h g = h
+went-puts : (s : List ℕ) (es : List Entry) (t : Trail) → Inside s es → Went s t → Went s (puts es t)
+went-puts s es t i w = record { inside = inside-both s es (t .entries) i (w .inside); ended = w .ended }
 
-pub walk-told : (kind : ℕ) (s : List ℕ) (n at : ℕ) → at ≤ length s → Goes s n (walk kind s n at)
+went-thence : (s : List ℕ) (t : Trail) (k : ℕ → Trail) → Went s t → ((z : ℕ) → z ≤ length s → Went s (k z)) → Went s (t thence k)
+went-thence s t k w g = went-puts s (t .entries) (reach stopped (t .ending) k) (w .inside) (go (t .ending) (w .ended))
+  where
+    go : (x : Ending) → Ended s x → Went s (reach stopped x k)
+    go (done z) h = g z h
+    go (halt a p) h = went-stopped s p h
+
+walk-told : (kind : ℕ) (s : List ℕ) (n at : ℕ) → at ≤ length s → Went s (walk kind s n at)
 unfolding walk
-walk-told kind s zero at h = record { count = refl; inside = tt; within = h }
-walk-told kind s (suc n) at h = goes-from s n at (walk kind s n) (entryAt kind s at) (entry-told kind s at) (walk-told kind s n)
+walk-told kind s zero at h = record { inside = tt; ended = h }
+walk-told kind s (suc n) at h = go (walk-told kind s n) (entryAt kind s at) (entry-told kind s at)
+  where
+    go : ((q : ℕ) → q ≤ length s → Went s (walk kind s n q)) → (x : Head) → Placed s at x → Went s (gotHead stopped x λ e q. puts (e ∷ []) (walk kind s n q))
+    go g (Head.Got e c) p = went-puts s (e ∷ []) (walk kind s n (c .at)) (omega (arith, p .ends, p .within), tt) (g (c .at) (p .within))
+    go g (Head.Stop a p) f = went-stopped s p f
 
 -- ---- the walk's steps
 
-ahead-ended : (s : List ℕ) (e : Entry) (es : List Entry) (z : ℕ) → ended s (e ∷ es) z ≡ ahead e (ended s es z)
-ahead-ended s e es z = go (leb (length s) z)
-  where
-    go : (t : Bool) → pick t (found (e ∷ es) z) (stops 3 z) ≡ ahead e (pick t (found es z) (stops 3 z))
-    go true = refl
-    go false = refl
-
-ahead-messages : (s : List ℕ) (e : Entry) (es : List Entry) (x : Cut)
-    → gotCut x (λ ms y. ended s (e ∷ es ++ ms) y) ≡ ahead e (gotCut x λ ms y. ended s (es ++ ms) y)
-ahead-messages s e es (found ms y) = ahead-ended s e (es ++ ms) y
-ahead-messages s e es (stops a p) = refl
-
--- what comes behind the entries of a kind comes behind one more of them
-ahead-behind : (kind : ℕ) (s : List ℕ) (e : Entry) (es : List Entry) (z : ℕ) → behind kind s (e ∷ es) z ≡ ahead e (behind kind s es z)
-ahead-behind kind s e es z = go (eqb kind 0x31) (u16At s z)
-  where
-    go : (t : Bool) (x : U16)
-        → pick t (got16 stops x λ m f. gotCut (walk 0x32 s m f) λ ms y. ended s (e ∷ es ++ ms) y) (ended s (e ∷ es) z)
-        ≡ ahead e (pick t (got16 stops x λ m f. gotCut (walk 0x32 s m f) λ ms y. ended s (es ++ ms) y) (ended s es z))
-    go true (U16.Got m c) = ahead-messages s e es (walk 0x32 s m (c .at))
-    go true (U16.Stop a p) = refl
-    go false x = ahead-ended s e es z
-
-ahead-walk : (kind : ℕ) (s : List ℕ) (e : Entry) (x : Cut)
-    → gotCut (gotCut x λ es z. found (e ∷ es) z) (behind kind s) ≡ ahead e (gotCut x (behind kind s))
-ahead-walk kind s e (found es z) = ahead-behind kind s e es z
-ahead-walk kind s e (stops a p) = refl
-
 module _ (s : List ℕ) (kind more : ℕ) (c : Cursor) where
   -- an entry that is refused, or is there
-  pub rest-stop : {a p : ℕ} → entryAt kind s (c .at) ≡ Head.Stop a p → restOf s (W.At kind more c) ≡ stops a p
+  pub rest-stop : {a p : ℕ} → entryAt kind s (c .at) ≡ Head.Stop a p → restOf s (W.At kind more c) ≡ stopped a p
   unfolding walk
   rest-stop e = rw e
 
   pub rest-more : {e : Entry} {d : Cursor} → entryAt kind s (c .at) ≡ Head.Got e d
-      → restOf s (W.At kind more c) ≡ ahead e (gotCut (walk kind s more (d .at)) (behind kind s))
+      → restOf s (W.At kind more c) ≡ puts (e ∷ []) (walk kind s more (d .at) thence behind kind s)
   unfolding walk
-  rest-more {e} {d} h = rw h (ahead-walk kind s e (walk kind s more (d .at)))
+  rest-more h = rw h
+
+-- an entry that a walk has come to is found, or stops it
+pub rest-some : (s : List ℕ) (w : Walk) {z : ℕ} → goesOn w ≡ true → restOf s w .ending ≡ done z → 0 < length (restOf s w .entries)
+rest-some s (W.At kind more c) g h = go (entryAt kind s (c .at)) refl
+  where
+    go : (x : Head) → entryAt kind s (c .at) ≡ x → 0 < length (restOf s (W.At kind more c) .entries)
+    go (Head.Stop a p) e = let f = sym (ap (λ t. t .ending) (rest-stop s kind more c e)) ∙ h in let z : _≡_ {A = ℕ} 0 1 = cc in absurd (omega arith)
+    go (Head.Got e d) f = omega (arith, ap (λ t. length (t .entries)) (rest-more s kind more c f))
+rest-some s (W.End z) g h = let z : _≡_ {A = ℕ} 0 1 = cc in absurd (omega arith)
+rest-some s (W.Stop a p) g h = let z : _≡_ {A = ℕ} 0 1 = cc in absurd (omega arith)
 
 pub not-going : (w : Walk) → goesOn w ≡ false → goesOn w ≡ true → ⊥
 not-going w h g = let z : _≡_ {A = ℕ} 0 1 = cc in omega arith
@@ -223,108 +238,58 @@ pub one-more : (n : ℕ) → 0 < n → suc (n - 1) ≡ n
 one-more n h = omega arith
 
 -- no entries of a kind are left
-pub walk-none : (kind : ℕ) (s : List ℕ) (n at : ℕ) → n ≤ 0 → gotCut (walk kind s n at) (behind kind s) ≡ behind kind s [] at
+pub walk-none : (kind : ℕ) (s : List ℕ) (n at : ℕ) → n ≤ 0 → walk kind s n at thence behind kind s ≡ behind kind s at
 unfolding walk
 walk-none kind s zero at h = refl
 walk-none kind s (suc n) at h = absurd (omega arith)
 
 -- an ended walk
-pub rest-ended : (s : List ℕ) (w : Walk) → goesOn w ≡ false → endOf (restOf s w) ≡ w
+pub rest-ended : (s : List ℕ) (w : Walk) → goesOn w ≡ false → Out (restOf s w .ending) w × (restOf s w .entries ≡ [])
 rest-ended s (W.At kind more c) h = let z : _≡_ {A = ℕ} 0 1 = cc in absurd (omega arith)
-rest-ended s (W.End z) h = refl
-rest-ended s (W.Stop a p) h = refl
+rest-ended s (W.End z) h = (refl, refl)
+rest-ended s (W.Stop a p) h = (refl, refl)
 
-pub without-ended : (s : List ℕ) (n : ℕ) (w : Walk) → goesOn w ≡ false → without n (restOf s w) ≡ restOf s w
-without-ended s n (W.At kind more c) h = let z : _≡_ {A = ℕ} 0 1 = cc in absurd (omega arith)
-without-ended s zero (W.End z) h = refl
-without-ended s (suc n) (W.End z) h = refl
-without-ended s n (W.Stop a p) h = refl
-
-pub without-none : (x : Cut) → without 0 x ≡ x
-without-none (found es z) = refl
-without-none (stops a p) = refl
-
-pub without-done : (s : List ℕ) (n k : ℕ) (w : Walk) → goesBelow w k n ≡ false → without (n - k) (restOf s w) ≡ restOf s w
-without-done s n k w h =
-    ⊎-elim (λ e. let m : n - k ≡ 0 = omega arith in rw m (without-none (restOf s w))) (λ e. without-ended s (n - k) w e) (below-false w k n h)
-
--- one entry more is left out
-pub without-more : (n : ℕ) (e : Entry) (x : Cut) → 0 < n → without n (ahead e x) ≡ without (n - 1) x
-without-more zero e x h = absurd (omega arith)
-without-more (suc n) e (found es z) h = rw (sub-one (suc n))
-without-more (suc n) e (stops a p) h = refl
-
-pub end-ahead : (e : Entry) (x : Cut) → endOf (ahead e x) ≡ endOf x
-end-ahead e (found es z) = refl
-end-ahead e (stops a p) = refl
-
--- ---- the entry with a number
-
-first-some : (es : List Entry) (z number : ℕ) → number < length es → firstIn (found (drop number es) z) ≡ Found.Is (getD es number noEntry)
-first-some [] z number h = absurd (omega arith)
-first-some (e ∷ es) z zero h = refl
-first-some (e ∷ es) z (suc number) h = first-some es z number (omega arith)
-
-first-none : (es : List Entry) (z number : ℕ) → length es ≤ number → firstIn (found (drop number es) z) ≡ Found.Stop 8 0
-first-none [] z zero h = refl
-first-none [] z (suc number) h = refl
-first-none (e ∷ es) z zero h = absurd (omega arith)
-first-none (e ∷ es) z (suc number) h = first-none es z number (omega arith)
-
-pub first-found : (x : Cut) (number : ℕ) → firstIn (without number x) ≡ foundIn x number
-first-found (found es z) number = picked (λ (f : Found). firstIn (found (drop number es) z) ≡ f) (ltb number (length es)) _ _
-    (λ t. first-some es z number (ltb-true _ _ t)) (λ t. first-none es z number (ltb-false _ _ t))
-first-found (stops a p) number = refl
-
--- what the end of the rest behind an entry says of that entry
-pub first-ahead : (e : Entry) (x : Cut) {z : ℕ} → endOf x ≡ W.End z → firstIn (ahead e x) ≡ Found.Is e
-first-ahead e (found es z) h = refl
-first-ahead e (stops a p) h = let z : _≡_ {A = ℕ} 0 1 = cc in absurd (omega arith)
-
-pub first-stop : (e : Entry) (x : Cut) {a p : ℕ} → endOf x ≡ W.Stop a p → firstIn (ahead e x) ≡ Found.Stop a p
-first-stop e (found es z) h = let z : _≡_ {A = ℕ} 0 1 = cc in absurd (omega arith)
-first-stop e (stops a p) h = cc
-
--- a walk to the end has ended
-pub end-never : (x : Cut) {kind more : ℕ} {c : Cursor} → endOf x ≡ W.At kind more c → ⊥
-end-never (found es z) h = let z : _≡_ {A = ℕ} 0 1 = cc in omega arith
-end-never (stops a p) h = let z : _≡_ {A = ℕ} 0 1 = cc in omega arith
-
--- ---- the count of entries
-
-pub counted-stop : (x : Cut) (n : ℕ) {a p : ℕ} → endOf x ≡ W.Stop a p → countedIn x n ≡ refusedCut a
-counted-stop (found es z) n h = let z : _≡_ {A = ℕ} 0 1 = cc in absurd (omega arith)
-counted-stop (stops b q) n {a} {p} h = let f : b ≡ a = cc in rw f
-
-counted-ahead : (e : Entry) (x : Cut) (n : ℕ) {z : ℕ} → endOf (ahead e x) ≡ W.End z → countedIn (ahead e x) n ≡ refusedCut 4
-counted-ahead e (found es z) n h = refl
-counted-ahead e (stops a p) n h = let z : _≡_ {A = ℕ} 0 1 = cc in absurd (omega arith)
-
--- an entry is left
-pub counted-over : (s : List ℕ) (w : Walk) (n : ℕ) {z : ℕ} → goesOn w ≡ true → endOf (restOf s w) ≡ W.End z → countedIn (restOf s w) n ≡ refusedCut 4
-counted-over s (W.At kind more c) n {z} g h = go (entryAt kind s (c .at)) refl
+-- no entry more is to be left out, or there is none
+pub past-done : (s : List ℕ) (n k : ℕ) (w : Walk) → goesBelow w k n ≡ false → past (n - k) (restOf s w) ≡ restOf s w
+past-done s n k w h = go (below-false w k n h)
   where
-    go : (x : Head) → entryAt kind s (c .at) ≡ x → countedIn (restOf s (W.At kind more c)) n ≡ refusedCut 4
-    go (Head.Stop a p) e = let f = rw (rest-stop s kind more c e) at h in let z : _≡_ {A = ℕ} 0 1 = cc in absurd (omega arith)
-    go (Head.Got e d) f =
-        let r = rest-more s kind more c f in
-        rw r (counted-ahead e (gotCut (walk kind s more (d .at)) (behind kind s)) n (rw r at h))
-counted-over s (W.End z) n g h = let z : _≡_ {A = ℕ} 0 1 = cc in absurd (omega arith)
-counted-over s (W.Stop a p) n g h = let z : _≡_ {A = ℕ} 0 1 = cc in absurd (omega arith)
+    go : (n ≤ k) ⊎ (goesOn w ≡ false) → past (n - k) (restOf s w) ≡ restOf s w
+    go (inl e) = let m : n - k ≡ 0 = omega arith in rw m
+    go (inr e) =
+        let f : drop (n - k) (restOf s w .entries) ≡ restOf s w .entries = rw (rest-ended s w e .1) (drop-nil (n - k)) in
+        ap (λ (es : List Entry). record { entries = es; ending = restOf s w .ending }) f
+
+pub past-more : (n : ℕ) (t : Trail) → 0 < n → past n t ≡ past (n - 1) (past 1 t)
+past-more n t h = let m : 1 + (n - 1) ≡ n = omega arith in rw (drop-drop (n - 1) 1 (t .entries), m)
+
+-- the entry with a number is the first behind so many
+pub first-past : (t : Trail) (n : ℕ) → foundIn (strict (past n t)) 0 ≡ foundIn (strict t) n
+first-past t n = go (t .ending)
+  where
+    es : List Entry
+    es = t .entries
+
+    go : (x : Ending) → foundIn (reach stops x (found (drop n es))) 0 ≡ foundIn (reach stops x (found es)) n
+    go (halt a p) = refl
+    go (done z) = picked (λ (f : Found). foundIn (found (drop n es) z) 0 ≡ f) (ltb n (length es)) _ _
+        (λ h. rw (drop-cons es n noEntry (ltb-true n (length es) h), lt-ltb 0 (length (getD es n noEntry ∷ drop (suc n) es)) (omega arith))) (λ h. rw (drop-of-length-le es {i = n} (ltb-false n (length es) h)))
 
 -- ---- the list
 
-pub aheads-none : (l : List Entry) (x : Cut) → aheads (take 0 l) x ≡ x
-aheads-none l (found es z) = refl
-aheads-none l (stops a p) = refl
+-- the first entry of a trail is taken off it, and is in the list
+pub strict-last : (b : List Entry) (t : Trail) → ((z : ℕ) → t .ending ≡ done z → 0 < length (t .entries))
+    → strict (puts b t) ≡ strict (puts (b ++ getD (t .entries) 0 noEntry ∷ []) (past 1 t))
+strict-last b t = go (t .entries) (t .ending)
+  where
+    go : (es : List Entry) (x : Ending) → ((z : ℕ) → x ≡ done z → 0 < length es)
+        → reach stops x (found (b ++ es)) ≡ reach stops x (found (b ++ getD es 0 noEntry ∷ [] ++ drop 1 es))
+    go es (halt a p) h = refl
+    go [] (done z) h = absurd (omega (arith, h z refl))
+    go (e ∷ es) (done z) h = rw (append-assoc b (e ∷ []) es)
 
--- one entry more is taken off the cut, and is in the list
-pub aheads-last : (b : List Entry) (e : Entry) (x : Cut) → aheads b (ahead e x) ≡ aheads (b ++ e ∷ []) x
-aheads-last b e (found es z) = rw (append-assoc b (e ∷ []) es)
-aheads-last b e (stops a p) = refl
-
-pub aheads-more : (l : List Entry) (n : ℕ) (e : Entry) (x : Cut) → n < length l → aheads (take n l) (ahead e x) ≡ aheads (take (n + 1) (set l n e)) x
-aheads-more l n e x h = rw (add-one, take-suc-set l n e h) (aheads-last (take n l) e x)
+pub strict-more : (l : List Entry) (n : ℕ) (t : Trail) → ((z : ℕ) → t .ending ≡ done z → 0 < length (t .entries)) → n < length l
+    → strict (puts (take n l) t) ≡ strict (puts (take (n + 1) (set l n (getD (t .entries) 0 noEntry))) (past 1 t))
+strict-more l n t s h = rw (add-one, take-suc-set l n (getD (t .entries) 0 noEntry) h) (strict-last (take n l) t s)
 
 -- one zero entry more is in it
 pub zeros-more : (l : List Entry) (i n : ℕ) (e : Entry) → e ≡ noEntry → i < length l → i < n
@@ -332,40 +297,38 @@ pub zeros-more : (l : List Entry) (i n : ℕ) (e : Entry) → e ≡ noEntry → 
 zeros-more l i n e z h g = rw z (clear-more noEntry l i n h g)
 
 -- an entry is left only where the list is full
-pub rest-short : (s : List ℕ) (w : Walk) (n m : ℕ) {e : Entry} {es : List Entry} {z : ℕ} → goesBelow w n m ≡ false → restOf s w ≡ found (e ∷ es) z → m ≤ n
-rest-short s w n m {e} {es} {z} b r = ⊎-elim (λ h. h) (λ h. absurd (go w h r)) (below-false w n m b)
-  where
-    go : (w : Walk) → goesOn w ≡ false → restOf s w ≡ found (e ∷ es) z → ⊥
-    go (W.At kind more c) h r = let z : _≡_ {A = ℕ} 0 1 = cc in omega arith
-    go (W.End y) h r = let z : _≡_ {A = ℕ} 0 1 = cc in omega arith
-    go (W.Stop a p) h r = let z : _≡_ {A = ℕ} 0 1 = cc in omega arith
+pub rest-short : (s : List ℕ) (w : Walk) (n m : ℕ) → goesBelow w n m ≡ false → 0 < length (restOf s w .entries) → m ≤ n
+rest-short s w n m b h = ⊎-elim (λ e. e) (λ e. let f = rest-ended s w e .1 in absurd (omega (arith, ap length f))) (below-false w n m b)
 
 -- a cut of which all entries are in the list
 abbrev pub all : List Entry → ℕ → Listed
 all es z = record { cutting = record { answer = 0; used = z; count = length es }; entries = es }
 
--- Of a cut the entries b are taken off and x is left, and there is an entry in x only where the room is full: either b is all of it, or it is refused.
-pub counting : (P : Cutting → Listed → Type 0) (b : List Entry) (room : ℕ) (x : Cut) → length b ≤ room
-    → ((e : Entry) (es : List Entry) (z : ℕ) → x ≡ found (e ∷ es) z → room ≤ length b) → ((z : ℕ) → P (all b z .cutting) (all b z))
-    → ((a : ℕ) → P (refusedCut a) (uncut a)) → P (countedIn x (length b)) (listed (aheads b x) room)
-counting P b room (stops a p) h s y n = n a
-counting P b room (found [] z) h s y n = rw (append-nil b, le-leb (length b) room h) (y z)
-counting P b room (found (e ∷ es) z) h s y n =
-    let m = length-append b (e ∷ es) in
-    rw (lt-leb (length (b ++ e ∷ es)) room (omega (arith, s e es z refl, m))) (n 4)
+-- Of a trail the entries b are taken off and t is left, and there is an entry in t only where the room is full: either b is all of it, or it is refused.
+pub counting : (P : Cutting → Listed → Type 0) (b : List Entry) (room : ℕ) (t : Trail) → length b ≤ room → (0 < length (t .entries) → room ≤ length b)
+    → ((z : ℕ) → P (all b z .cutting) (all b z)) → ((a : ℕ) → P (refusedCut a) (uncut a)) → P (countedIn t (length b)) (listed (strict (puts b t)) room)
+counting P b room t h s y n = go (t .entries) (t .ending) s
+  where
+    go : (es : List Entry) (x : Ending) → (0 < length es → room ≤ length b)
+        → P (countedIn (record { entries = es; ending = x }) (length b)) (listed (reach stops x (found (b ++ es))) room)
+    go es (halt a p) s = n a
+    go [] (done z) s = rw (append-nil b, le-leb (length b) room h) (y z)
+    go (e ∷ es) (done z) s =
+        let m = length-append b (e ∷ es) in
+        rw (lt-leb (length (b ++ e ∷ es)) room (omega (arith, s (omega arith), m)), lt-ltb 0 (length (e ∷ es)) (omega arith)) (n 4)
 
 -- a cut that is counted, and a list that is cleared behind its entries, are what a cut comes to
 pub record Listing (l : List Entry) (k : Cutting) (w : Listed) : Type 0 where
   pub cutting : k ≡ w .cutting
   pub left : take (k .count) l ++ replicate (length l - k .count) noEntry ≡ filled (w .entries) (length l)
 
--- n entries are in the list, and x is left
-pub listing : (l : List Entry) (n : ℕ) (x : Cut) → n ≤ length l → ((e : Entry) (es : List Entry) (z : ℕ) → x ≡ found (e ∷ es) z → length l ≤ n)
-    → Listing l (countedIn x n) (listed (aheads (take n l) x) (length l))
-listing l n x h s =
+-- n entries are in the list, and t is left
+pub listing : (l : List Entry) (n : ℕ) (t : Trail) → n ≤ length l → (0 < length (t .entries) → length l ≤ n)
+    → Listing l (countedIn t n) (listed (strict (puts (take n l) t)) (length l))
+listing l n t h s =
     let m = length-take-le n l h in
     rw m at
-    (counting (Listing l) (take n l) (length l) x (omega arith) (λ e es z t. omega (arith, s e es z t)) (λ z. record { cutting = refl; left = rw m })
+    (counting (Listing l) (take n l) (length l) t (omega arith) (λ e. omega (arith, s e)) (λ z. record { cutting = refl; left = rw m })
     (λ a. record { cutting = refl; left = refl }))
 
 -- ---- the whole cut
@@ -422,26 +385,43 @@ abbrev pub Splits : List ℕ → Cut → Type 0
 Splits s (found es z) = Split s es
 Splits s (stops a p) = Refuses s a
 
-module _ (s : List ℕ) (l : length s ≤ limit.bytes) where
-  messages-split : (hs : List Entry) (m : ℕ) (x : Cut) → Inside s hs → Goes s m x
-      → Splits s (gotCut x λ ms z. pick (leb (length s) z) (found (hs ++ ms) z) (stops 3 z))
-  messages-split hs m (found ms z) i g = picked (Splits s) (leb (length s) z) _ _
-      (λ t. record { short = l; inside = inside-both s hs ms i (g .inside) }) (λ t. field-refuses s three)
-  messages-split hs m (stops a p) i g = field-refuses s g
+-- the front: within the limit, and four bytes
+abbrev pub Fronted : List ℕ → U16 → Type 0
+Fronted s (U16.Got h c) = (length s ≤ limit.bytes) × (c .at ≡ 4) × (4 ≤ length s)
+Fronted s (U16.Stop a p) = Refuses s a
 
-  headers-split : (n : ℕ) (x : Cut) → Goes s n x → Splits s (gotCut x (behind 0x31 s))
-  headers-split n (found hs z) g = go16 (Splits s) stops s z _
-      (λ i. messages-split hs _ (walk 0x32 s (number (bytesAt 2 s z)) (z + 2)) (g .inside) (walk-told 0x32 s _ (z + 2) i)) (λ i. field-refuses s two)
-  headers-split n (stops a p) g = field-refuses s g
+pub front-told : (s : List ℕ) → Fronted s (frontOf s)
+unfolding frontOf u16At
+front-told s =
+    picked (Fronted s) (leb (length s) limit.bytes) _ _
+    (λ t. go (leb-true _ _ t) (versionAt s) (version-told s)) (λ t. record { cuts = one; over = λ e. leb-false _ _ t })
+  where
+    go : length s ≤ limit.bytes → (x : Tag) → Versioned s x → Fronted s (pastTag U16.Stop x λ p. u16At s p)
+    go l (Tag.Past c) v = picked (Fronted s) (leb (c .at + 2) (length s)) _ _ (λ t. (l, omega arith, omega (arith, leb-true (c .at + 2) (length s) t))) (λ t. field-refuses s two)
+    go l (Tag.Stop a p) v = record { cuts = v .1; over = λ e. absurd (omega (arith, v .0)) }
 
-  version-split : (x : Tag) → Versioned s x → Splits s (pastTag stops x λ p. got16 stops (u16At s p) λ h q. gotCut (walk 0x31 s h q) (behind 0x31 s))
-  version-split (Tag.Past c) v = go16 (Splits s) stops s (c .at) _
-      (λ i. headers-split _ (walk 0x31 s (number (bytesAt 2 s (c .at))) (c .at + 2)) (walk-told 0x31 s _ (c .at + 2) i)) (λ i. field-refuses s two)
-  version-split (Tag.Stop a p) v = record { cuts = v .1; over = λ e. absurd (omega (arith, v .0)) }
+-- what follows the front
+rest-told : (s : List ℕ) (h q : ℕ) → q ≤ length s → Went s (walk 0x31 s h q thence messagesFrom s)
+rest-told s h q i = went-thence s (walk 0x31 s h q) (messagesFrom s) (walk-told 0x31 s h q i) λ e j.
+    go16 (Went s) stopped s e _
+    (λ k. went-thence s _ (endAt s) (walk-told 0x32 s _ (e + 2) k) λ z l.
+    picked (Went s) (leb (length s) z) _ _ (λ t. record { inside = tt; ended = l }) (λ t. went-stopped s z three))
+    (λ k. went-stopped s e two)
 
 pub cut-told : (s : List ℕ) → Splits s (cutOf s)
 unfolding cutOf
-cut-told s = picked (Splits s) (leb (length s) limit.bytes) _ _ (λ t. version-split s (leb-true _ _ t) (versionAt s) (version-told s)) (λ t. record { cuts = one; over = λ e. leb-false _ _ t })
+cut-told s = front (frontOf s) (front-told s)
+  where
+    rest : length s ≤ limit.bytes → (t : Trail) → Went s t → Splits s (strict t)
+    rest l t w = go (t .ending) (w .ended)
+      where
+        go : (x : Ending) → Ended s x → Splits s (reach stops x (found (t .entries)))
+        go (done z) h = record { short = l; inside = w .inside }
+        go (halt a p) h = field-refuses s h
+
+    front : (x : U16) → Fronted s x → Splits s (got16 stops x λ h q. strict (walk 0x31 s h q thence messagesFrom s))
+    front (U16.Got h c) f = rest (f .0) (walk 0x31 s h (c .at) thence messagesFrom s) (rest-told s h (c .at) (omega (arith, f .1, f .2)))
+    front (U16.Stop a p) f = f
 
 -- ---- one entry
 
@@ -512,24 +492,23 @@ judge-finished base n i (Stop a p) h = rw (ne-eqb a 0 λ e. omega arith) (go (eq
     go false true = refl
     go false false = refl
 
--- the step of the value reader in an entry's span, judged
-pub entry-read : (s image i : List ℕ) (e : Entry) (x : Step) → length s ≤ limit.bytes → e .place + e .length ≤ length s
-    → ran x i ≡ run (valueIn (e .place) (spanOf s e) 0) 0 image
-    → finished (judgedOf x (e .place) (length (spanOf s e))) i ≡ valueOf s e (length image)
-entry-read s image i e x l h r =
-    let n : length (spanOf s e) ≡ e .length = simp (length-take, length-drop) (omega arith) in
-    let v = topValue (spanOf s e) 0 in
-    let d = based (e .place) v in
-    let q = r ∙ ap (λ (d : Due). run d 0 image) (part-read (e .place) (spanOf s e) 0 (omega arith) (omega arith)) in
-    let w = kept-answers (e .place) (spanOf s e) 0 v (kept limit.levels (spanOf s e) 0 (omega arith)) in
+-- the step of the value reader in a span, judged
+pub span-answer : (s image i : List ℕ) (p : Span) (x : Step) → length s ≤ limit.bytes → p .place + p .length ≤ length s
+    → ran x i ≡ run (valueIn (p .place) (held s p) 0) 0 image → finished (judgedOf x (p .place) (length (held s p))) i ≡ answerOf oneValue s p (length image)
+span-answer s image i p x l h r =
+    let n : length (held s p) ≡ p .length = simp (length-take, length-drop) (omega arith) in
+    let v = oneValue (held s p) in
+    let d = inSpan oneValue s p in
+    let q = r ∙ ap (λ (d : Due). run d 0 image) (part-read (p .place) (held s p) 0 (omega arith) (omega arith)) in
+    let w = kept-answers (p .place) (held s p) 0 v (kept limit.levels (held s p) 0 (omega arith)) in
     let a : Halts x = rw (ap (λ (y : Ran). y .step) q) (run-halts d 0 image w) in
-    rw (n, judge-finished (e .place) (e .length) i x a, finished-ran d image q)
+    rw (n, judge-finished (p .place) (p .length) i x a, finished-ran d image q)
 
--- the part of a packet that is an entry's value
-pub span-read : (s : List ℕ) (e : Entry) (room : ℕ) → length s ≤ limit.bytes → e .place + e .length ≤ length s
-    → readSpan s (e .place) (e .length) room ≡ valueOf s e room
+-- a part of a packet that is inside it
+pub span-read : (s : List ℕ) (p : Span) (room : ℕ) → length s ≤ limit.bytes → p .place + p .length ≤ length s
+    → readSpan s (p .place) (p .length) room ≡ answerOf oneValue s p room
 unfolding readSpan
-span-read s e room l h = rw (le-leb _ _ l, le-leb _ _ h)
+span-read s p room l h = rw (le-leb _ _ l, le-leb _ _ h)
 
 pub span-over : (s : List ℕ) (place n room : ℕ) → limit.bytes < length s → readSpan s place n room ≡ refused 1
 unfolding readSpan

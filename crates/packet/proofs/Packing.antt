@@ -7,8 +7,9 @@ use Rattle.wire.specs.Number.{digits}
 use Rattle.wire.specs.declared.cursor.Cursor.{Cursor}
 use Rattle.wire.specs.declared.cursor.U16.{U16}
 use Rattle.wire.specs.declared.cursor.U16.the-variants as U16
+use Rattle.wire.specs.declared.cursor.Tag.{Tag}
 use Rattle.wire.specs.declared.cursor.Tag.the-variants as Tag
-use Rattle.wire.specs.Field.{u16At, got16}
+use Rattle.wire.specs.Field.{u16At, got16, pastTag}
 use Rattle.wire.proofs.Laws.{picked, set-sets}
 use Rattle.image.specs.declared.record.Record.the-variants.{Packet}
 use Rattle.image.specs.declared.reading.Step.{Step}
@@ -22,8 +23,8 @@ use Rattle.amf0.specs.Reading.{value, topValue, valueIn}
 use Rattle.amf0.proofs.Laws.{part-read}
 use Rattle.packet.specs.declared.head.Entry.{Entry}
 use Rattle.packet.specs.declared.head.Head.the-variants as Head
-use Rattle.packet.specs.Head.{versionAt, headAt}
-use Rattle.packet.specs.Reading.{recordOf, entriesAt, countAfter, packetAt, incompleteOf, wholeOf}
+use Rattle.packet.specs.Head.{versionAt, frontOf, headAt}
+use Rattle.packet.specs.Reading.{recordOf, entriesAt, countAfter, bodyAt, packetAt, incompleteOf, wholeOf}
 use Rattle.packet.specs.Code.{packetIn, runMessages, Packed}
 use Rattle.packet.proofs.Laws.{Answers, Halts, run-halts}
 use Rattle.packet.proofs.Reasons.{packet-kept, answered}
@@ -138,18 +139,36 @@ packet-counted h n d image = go (leb 5 (length image))
     go true = rw (packet-bytes image h n, run-counted d 5 (sets image 0 (bytesOf (Packet h 0))) (digits 2 n) (omega arith)) (record { step = refl; laid = λ c m e. refl })
     go false = record { step = refl; laid = λ c m e. let z : _≡_ {A = ℕ} 0 1 = cc in absurd (omega arith) }
 
-module _ (s image : List ℕ) {h : ℕ} {c d : Cursor} (l : length s ≤ limit.bytes) (v : versionAt s ≡ Tag.Past c) (u : u16At s (c .at) ≡ U16.Got h d) where
-  packet-read : packetIn s ≡ due (Packet h (countAfter s (entriesAt 0x31 s h (d .at)))) 0 (entriesAt 0x31 s h (d .at) >>= messagesAt s)
-  unfolding packetAt
-  packet-read = rw (le-leb (length s) limit.bytes l, v, u)
+-- the packet, from its front on
+front-packet : (s : List ℕ) → packetIn s ≡ got16 stop (frontOf s) (bodyAt s)
+unfolding packetAt frontOf
+front-packet s = go (leb (length s) limit.bytes) (versionAt s) (bodyAt s)
+  where
+    go : (t : Bool) (x : Tag) (k : ℕ → ℕ → Due)
+        → pick t (pastTag stop x λ p. got16 stop (u16At s p) k) (stop 1 0) ≡ got16 stop (pick t (pastTag U16.Stop x λ p. u16At s p) (U16.Stop 1 0)) k
+    go true (Tag.Past c) k = refl
+    go true (Tag.Stop a p) k = refl
+    go false x k = refl
 
+-- a packet whose front is refused
+pub packed-none : (s image : List ℕ) {a p : ℕ} → frontOf s ≡ U16.Stop a p → Packed (Stop a p) image s image
+packed-none s image {a} {p} g =
+    let e : packetIn s ≡ stop a p = front-packet s ∙ rw g in
+    record {
+      step = ap (λ (y : Ran). y .step) (sym (run-stop 0 image a p)) ∙ ap (λ (d : Due). run d 0 image .step) (sym e);
+      kept = refl;
+      laid = λ c m g. let z : _≡_ {A = ℕ} 0 1 = cc in absurd (omega arith);
+    }
+
+module _ (s image : List ℕ) {h : ℕ} {d : Cursor} (g : frontOf s ≡ U16.Got h d) where
   packed : (x : Step) (after : List ℕ) → x ≡ run (uncounted s h (d .at)) 0 image .step → length after ≡ length image
       → ((c : Cursor) (m : ℕ) → x ≡ Next c m
       → after ≡ sets (run (uncounted s h (d .at)) 0 image .image) 3 (digits 2 (countAfter s (entriesAt 0x31 s h (d .at)))))
       → Packed x after s image
   packed x after e n f =
       let k = packet-counted h (countAfter s (entriesAt 0x31 s h (d .at))) (entriesAt 0x31 s h (d .at) >>= messagesAt s) image in
-      let q = sym packet-read in
+      let p : packetIn s ≡ bodyAt s h (d .at) = front-packet s ∙ rw g in
+      let q = sym p in
       record {
         step = e ∙ sym (k .step) ∙ ap (λ (y : Due). run y 0 image .step) q;
         kept = n;
@@ -183,15 +202,6 @@ module _ (s image : List ℕ) {h : ℕ} {c d : Cursor} (l : length s ≤ limit.b
           (λ c i g. rw m f)
 
 -- ---- what the packet comes to
-
--- a packet that stops before its record
-pub packed-none : (s image : List ℕ) {a p : ℕ} → packetIn s ≡ stop a p → Packed (Stop a p) image s image
-packed-none s image {a} {p} e =
-    record {
-      step = ap (λ (y : Ran). y .step) (sym (run-stop 0 image a p)) ∙ ap (λ (d : Due). run d 0 image .step) (sym e);
-      kept = refl;
-      laid = λ c m g. let z : _≡_ {A = ℕ} 0 1 = cc in absurd (omega arith);
-    }
 
 incomplete-read : (s : List ℕ) (room : ℕ) → settled (packetIn s) room ≡ incompleteOf s room
 unfolding incompleteOf

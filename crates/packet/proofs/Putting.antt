@@ -1,26 +1,24 @@
 -- The laws of writing a packet, step by step, and of a length that is set once its value is measured: that the functions' proofs cite.
 use Rattle.wire.proofs.Kit.{ℕ, zero, suc, _+_, _-_, _≤_, _<_, _≡_, refl, sym, ap, _∙_, List, [], _∷_, Bool, true, false, sub-one, arith, length, set, sets}
-use Rattle.wire.proofs.Kit.{set-set, set-comm, length-sets, leb, leb-true, leb-false}
+use Rattle.wire.proofs.Kit.{set-set, set-comm, length-sets, leb, eqb, leb-true, leb-false}
 use Rattle.wire.specs.Choice.{pick}
 use Rattle.wire.specs.Number.{digits}
 use Rattle.wire.specs.Bytes.{laid}
 use Rattle.wire.specs.Limit as limit
 use Rattle.wire.specs.declared.cursor.Cursor.{Cursor}
 use Rattle.wire.proofs.Laws.{pick-yes, pick-no, picked, laid-room, laid-none, length-laid, set-sets}
-use Rattle.image.specs.declared.record.Record.{Record}
+use Rattle.image.specs.declared.record.Layout.{Layout}
 use Rattle.image.specs.declared.reading.Step.{Step}
 use Rattle.image.specs.declared.reading.Step.the-variants.{Next, Stop}
-use Rattle.image.specs.declared.taking.Taken.the-variants.{Found, Bad}
 use Rattle.image.specs.declared.writing.Row.{Row}
+use Rattle.image.specs.Kind as kind
 use Rattle.image.specs.Record.{_bytes_, none}
-use Rattle.image.specs.Taking.{recordAt}
-use Rattle.image.specs.Out.{Out, end, stop, put, _>>=_, rowBytes, textOf, namedOf, row, Poured, poured, pour, bytes as bytesOut, settled, written, unwritten}
+use Rattle.image.specs.Out.{Out, end, stop, put, _>>=_, rowOf, rowBytes, textOf, namedOf, row, Poured, poured, pour, bytes as bytesOut, settled, written, unwritten}
 use Rattle.image.proofs.Pouring.{length-row, pour-stop}
-use Rattle.amf0.specs.Writing.{value, topValue, whole}
+use Rattle.amf0.specs.Writing.{texted, topValue, asked, whole}
 use Rattle.amf0.proofs.Putting.{whole-halt, whole-past, whole-over, whole-full, whole-fits, whole-size}
-use Rattle.packet.specs.declared.write.Part.{Part}
 use Rattle.packet.specs.Carried.{Carried}
-use Rattle.packet.specs.Writing.{partOf, rowOf, labelled, label, declared, entry, entries, packed, packet, writeOf}
+use Rattle.packet.specs.Writing.{labelled, label, declared, entry, entries, packet, writeOf}
 
 -- ---- stores at places apart, and in the same place
 
@@ -120,10 +118,10 @@ carried-from p w =
 
 -- a length's row, and a text's
 abbrev pub sizing : ℕ → Row
-sizing n = rowOf (4 bytes n) none 0 0
+sizing n = rowOf (4 bytes n) none none 0 0
 
 abbrev pub naming : ℕ → ℕ → Row
-naming p n = rowOf none (2 bytes n) p n
+naming p n = texted none 2 p n
 
 row-digits : (text : List ℕ) (n : ℕ) → rowBytes text (sizing n) ≡ digits 4 n
 row-digits text n =
@@ -171,21 +169,25 @@ module _ (text : List ℕ) (d : Out) (at m n k : ℕ) (out : List ℕ) where
 
 -- ---- an entry
 
-module _ (kind : ℕ) (image text : List ℕ) (at : ℕ) where
-  pub label-bad : recordAt image at ≡ Bad → label kind image text at ≡ stop 6 at
-  unfolding label
-  label-bad e = rw e
+module _ (due : ℕ) (image text : List ℕ) (at : ℕ) where
+  -- what follows an entry's name or target: a header's flag, or a message's response
+  abbrev pub behind : Layout → ℕ → Out
+  behind l z =
+      pick (eqb due kind.header) (row text (rowOf (1 bytes l .c .number) none none 0 0) at (end z)) (row text (naming (l .c .number) (l .d .number)) at (end z))
 
-  pub label-parted : {r : Record} {c : Cursor} {x : Part} → recordAt image at ≡ Found r c → partOf r ≡ x
-      → label kind image text at ≡ labelled text kind at x (end (c .at))
+  -- an entry's label from its record on, and the place behind it
+  abbrev pub labelling : Layout → ℕ → Out
+  labelling l q = labelled text due at l (end q)
+
+  pub label-asked : label due image text at ≡ asked image due at labelling
   unfolding label
-  label-parted e f = rw (e, f)
+  label-asked = refl
 
   -- what follows a label
   abbrev pub following : Bool → ℕ → Out
   following exact q = row text (sizing (declared exact (length (bytesOut (topValue image text q))))) at (topValue image text q)
 
-  pub entry-labelled : (exact : Bool) → entry kind exact image text at ≡ label kind image text at >>= following exact
+  pub entry-labelled : (exact : Bool) → entry due exact image text at ≡ label due image text at >>= following exact
   unfolding entry
   entry-labelled exact = refl
 
@@ -206,10 +208,10 @@ module _ (kind : ℕ) (exact : Bool) (image text : List ℕ) where
 
 -- a zero, the version and the count of headers; the count of messages
 abbrev pub heading : ℕ → Row
-heading h = rowOf (2 bytes 0) (2 bytes h) 0 0
+heading h = rowOf (2 bytes 0) (2 bytes h) none 0 0
 
 abbrev pub counting : ℕ → Row
-counting m = rowOf none (2 bytes m) 0 0
+counting m = rowOf none (2 bytes m) none 0 0
 
 module _ (exact : Bool) (image text : List ℕ) where
   -- the messages behind the headers
@@ -220,16 +222,12 @@ module _ (exact : Bool) (image text : List ℕ) where
   abbrev pub contents : ℕ → ℕ → ℕ → Out
   contents h m q = entries 0x31 exact image text h q >>= messages m
 
-  abbrev pub packing : Part → ℕ → Out
-  packing x q = packed x λ h m. row text (heading h) 0 (contents h m q)
+  abbrev pub packing : Layout → ℕ → Out
+  packing l q = row text (heading (l .a .number)) 0 (contents (l .a .number) (l .b .number) q)
 
-  pub packet-bad : recordAt image 0 ≡ Bad → packet exact image text ≡ stop 6 0
+  pub packet-asked : packet exact image text ≡ asked image kind.packet 0 packing
   unfolding packet
-  packet-bad e = rw e
-
-  pub packet-parted : {r : Record} {c : Cursor} {x : Part} → recordAt image 0 ≡ Found r c → partOf r ≡ x → packet exact image text ≡ packing x (c .at)
-  unfolding packet
-  packet-parted e f = rw (e, f)
+  packet-asked = refl
 
 -- ---- the call
 

@@ -12,7 +12,7 @@ use Rattle.image.specs.declared.record.Record.the-variants.{Packet}
 use Rattle.image.specs.Record.{bytesOf, moved}
 use Rattle.image.specs.Due.{Due, end, stop, due, _>>=_, based, Ends, Stops}
 use Rattle.image.specs.Whole.{bytes}
-use Rattle.image.proofs.Laws.{based-zero, size-bytes, size-moved}
+use Rattle.image.proofs.Laws.{based-zero, size-bytes, size-placed}
 use Rattle.amf0.specs.Reading.{topValue}
 use Rattle.amf0.proofs.Reasons as values
 use Rattle.packet.specs.declared.head.Entry.{Entry}
@@ -56,7 +56,7 @@ pub value-kept : (b : ℕ) (s : List ℕ) (c : ℕ) (d : Due) → values.Kept s 
 value-kept b s c (end n) k = k
 value-kept b s c (stop a p) k = (k .0, value-tells (k .1))
 value-kept b s c (due r p d) k =
-    let e : length (bytesOf (moved b r)) ≡ length (bytesOf r) = size-bytes (moved b r) ∙ size-moved b r ∙ sym (size-bytes r) in
+    let e : length (bytesOf (moved b r)) ≡ length (bytesOf r) = size-bytes (moved b r) ∙ size-placed (λ p. b + p) r ∙ sym (size-bytes r) in
     fewer s (c + length (bytesOf (moved b r))) (c + length (bytesOf r)) (based b d) (omega arith) (value-kept b s (c + length (bytesOf r)) d k)
 
 -- ---- a packet

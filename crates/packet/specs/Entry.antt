@@ -1,30 +1,50 @@
 -- The cut of a packet by its declared lengths, and the reading of one entry: the rule "Reading by entry" (docs/DEMANDS.md).
-use Rattle.wire.specs.Kit.{ℕ, zero, suc, _+_, _-_, List, [], _∷_, _++_, length, getD, replicate, leb, ltb, eqb}
+use Rattle.wire.specs.Kit.{ℕ, zero, suc, _+_, _-_, List, [], _∷_, _++_, length, getD, replicate, leb, ltb}
 use Rattle.wire.specs.Choice.{pick}
 use Rattle.wire.specs.Limit as limit
 use Rattle.wire.specs.Text.{insideOf}
-use Rattle.wire.specs.Field.{to, bytesAt, u16At, got16, pastTag}
-use Rattle.image.specs.Due.{based}
-use Rattle.image.specs.Whole.{Whole, settled, refused}
-use Rattle.amf0.specs.Reading.{value, topValue}
+use Rattle.wire.specs.Field.{to, u16At, got16}
+use Rattle.image.specs.Whole.{Whole, refused}
 use Rattle.packet.specs.declared.head.Entry.{Entry}
 use Rattle.packet.specs.declared.entry.Cutting.{Cutting}
 use Rattle.packet.specs.declared.entry.Found.{Found}
 use Rattle.packet.specs.declared.entry.Found.the-variants as Found
 use Rattle.packet.specs.declared.head.Head.{Head}
 use Rattle.packet.specs.declared.head.Head.the-variants as Head
-use Rattle.packet.specs.Head.{versionAt, headAt, gotHead, entry}
+use Rattle.packet.specs.Head.{frontOf, headAt, gotHead, entry}
+use Rattle.amf0.specs.Span.{Span, spanAt, held, answerOf, oneValue}
+use Rattle.image.specs.Kind as kind
 
 -- ---- the cut
 
--- what a walk by declared lengths finds: entries, and where it ends; or a refusal
-pub data Cut : Type 0 where
-  found : (entries : List Entry) (next : ℕ) → Cut
-  stops : (answer place : ℕ) → Cut
+-- how a walk by declared lengths ends: at a place, or stopped
+pub data Ending : Type 0 where
+  done : (next : ℕ) → Ending
+  halt : (answer place : ℕ) → Ending
 
-abbrev pub gotCut : Cut → (List Entry → ℕ → Cut) → Cut
-gotCut (found es n) k = k es n
-gotCut (stops a p) k = stops a p
+abbrev pub reach : {A : Type 0} → (ℕ → ℕ → A) → Ending → (ℕ → A) → A
+reach stop (done n) k = k n
+reach stop (halt a p) k = stop a p
+
+-- what it comes to: the entries found, and how it ends
+pub record Trail : Type 0 where
+  pub entries : List Entry
+  pub ending : Ending
+
+abbrev pub reached : List Entry → ℕ → Trail
+reached es n = record { entries = es; ending = done n }
+
+abbrev pub stopped : ℕ → ℕ → Trail
+stopped a p = record { entries = []; ending = halt a p }
+
+-- entries before a trail
+abbrev pub puts : List Entry → Trail → Trail
+puts es t = record { entries = es ++ t .entries; ending = t .ending }
+
+-- a trail, and then what goes on from where it ends
+infixl 20 _thence_
+abbrev pub _thence_ : Trail → (ℕ → Trail) → Trail
+t thence k = puts (t .entries) (reach stopped (t .ending) k)
 
 -- an entry and the place behind its value; a length that exceeds the bytes left is refused, at the length field
 unfoldable pub entryAt : ℕ → List ℕ → ℕ → Head
@@ -32,21 +52,30 @@ entryAt kind s at =
     gotHead Head.Stop (headAt kind s at) λ e v. pick (leb (v + e .length) (length s)) (Head.Got e (to (v + e .length))) (Head.Stop 2 (v - 4))
 
 -- n entries of a kind
-unfoldable pub walk : ℕ → List ℕ → ℕ → ℕ → Cut
-walk kind s zero at = found [] at
-walk kind s (suc n) at = gotHead stops (entryAt kind s at) λ e q. gotCut (walk kind s n q) λ es z. found (e ∷ es) z
+unfoldable pub walk : ℕ → List ℕ → ℕ → ℕ → Trail
+walk kind s zero at = reached [] at
+walk kind s (suc n) at = gotHead stopped (entryAt kind s at) λ e q. puts (e ∷ []) (walk kind s n q)
 
--- the whole packet: headers, then messages, up to its last byte
+-- behind the last message the packet must end
+abbrev pub endAt : List ℕ → ℕ → Trail
+endAt s z = pick (leb (length s) z) (reached [] z) (stopped 3 z)
+
+-- behind the headers: the messages, up to its last byte
+abbrev pub messagesFrom : List ℕ → ℕ → Trail
+messagesFrom s e = got16 stopped (u16At s e) λ m f. walk kind.message s m f thence endAt s
+
+-- a cut: the entries of a packet and the place behind it, or a refusal
+pub data Cut : Type 0 where
+  found : (entries : List Entry) (next : ℕ) → Cut
+  stops : (answer place : ℕ) → Cut
+
+-- the strict view of a trail: what stopped it refuses the cut
+abbrev pub strict : Trail → Cut
+strict t = reach stops (t .ending) (found (t .entries))
+
+-- the whole packet: a bad front is refused, then come headers and messages
 unfoldable pub cutOf : List ℕ → Cut
-cutOf s =
-    pick (leb (length s) limit.bytes)
-    (pastTag stops (versionAt s) λ p.
-    got16 stops (u16At s p) λ h q.
-    gotCut (walk 0x31 s h q) λ hs e.
-    got16 stops (u16At s e) λ m f.
-    gotCut (walk 0x32 s m f) λ ms z.
-    pick (leb (length s) z) (found (hs ++ ms) z) (stops 3 z))
-    (stops 1 0)
+cutOf s = got16 stops (frontOf s) λ h q. strict (walk kind.header s h q thence messagesFrom s)
 
 abbrev pub noEntry : Entry
 noEntry = entry 0 0 0 0 0 0 0 0
@@ -82,25 +111,21 @@ abbrev pub foundIn : Cut → ℕ → Found
 foundIn (found es z) number = pick (ltb number (length es)) (Found.Is (getD es number noEntry)) (Found.Stop 8 0)
 foundIn (stops a p) number = Found.Stop a p
 
--- the bytes of an entry's value
-abbrev pub spanOf : List ℕ → Entry → List ℕ
-spanOf s e = bytesAt (e .length) s (e .place)
+-- the span of an entry's value, and its bytes
+abbrev pub span : Entry → Span
+span e = spanAt (e .place) (e .length)
 
--- 2, 3 and unused bytes are damage; 4 and 5 stand
-abbrev pub judge : ℕ → Whole → Whole
-judge n w =
-    pick (eqb (w .reading .answer) 0)
-    (pick (leb n (w .reading .used)) w (refused 9))
-    (pick (eqb (w .reading .answer) 2) (refused 9) (pick (eqb (w .reading .answer) 3) (refused 9) w))
+abbrev pub spanOf : List ℕ → Entry → List ℕ
+spanOf s e = held s (span e)
 
 -- the value reader on an entry's bytes alone, its places counted from the packet's start
 abbrev pub valueOf : List ℕ → Entry → ℕ → Whole
-valueOf s e room = judge (e .length) (settled (based (e .place) (topValue (spanOf s e) 0)) room)
+valueOf s e room = answerOf oneValue s (span e) room
 
 -- the value in a part of a packet: 1 where the packet is over the limit, and 8 where the part is not inside it
 unfoldable pub readSpan : List ℕ → ℕ → ℕ → ℕ → Whole
 readSpan s place n room =
-    pick (leb (length s) limit.bytes) (pick (insideOf s place n) (valueOf s (entry 0 0 0 0 0 0 place n) room) (refused 8)) (refused 1)
+    pick (leb (length s) limit.bytes) (pick (insideOf s place n) (answerOf oneValue s (spanAt place n) room) (refused 8)) (refused 1)
 
 abbrev pub entryIn : List ℕ → Cut → ℕ → ℕ → Whole
 entryIn s (stops a p) number room = refused a

@@ -8,7 +8,7 @@ use Rattle.amf0.specs.Marker.{markerOf}
 use Rattle.amf0.specs.Fields.{fieldsAt}
 use Rattle.amf0.specs.Reading.{items, pair, pairs, follow, value}
 use Rattle.packet.specs.declared.entry.Cutting.{Cutting}
-use Rattle.packet.specs.Head.{versionAt, headerAt, messageAt}
+use Rattle.packet.specs.Head.{versionAt, frontOf, headerAt, messageAt}
 use Rattle.packet.specs.Reading.{entriesAt, packetAt, incompleteOf, wholeOf}
 use Rattle.packet.specs.Entry.{entryAt, walk, cutOf, listOf, readSpan, readEntry}
 
@@ -71,7 +71,7 @@ abbrev found : List ℕ → Example
 found s = s whole wholeOf s 24 part incompleteOf s 24 cut listOf s 1 .cutting entry readEntry s 0 24
 
 pub examples : map (λ e. found (e .input)) table ≡ table
-unfolding wholeOf incompleteOf packetAt entriesAt versionAt headerAt messageAt cutOf listOf walk entryAt readEntry bytes ended settled bytesOf value items pair pairs
+unfolding wholeOf incompleteOf packetAt entriesAt versionAt headerAt messageAt frontOf cutOf listOf walk entryAt readEntry bytes ended settled bytesOf value items pair pairs
     follow fieldsAt markerOf u8At u16At u32At u64At textAt strAt tagAt ends
 examples = refl
 

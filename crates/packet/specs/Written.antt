@@ -4,6 +4,7 @@ use Rattle.wire.specs.Number.{digits}
 use Rattle.wire.specs.Field.{bytesAt}
 use Rattle.wire.specs.Limit as limit
 use Rattle.image.specs.declared.record.Record.{Record}
+use Rattle.image.specs.Kind.{header, message}
 use Rattle.image.specs.Record.{bitOf}
 use Rattle.image.specs.Taking.{Fits}
 use Rattle.image.specs.Whole.{Whole}
@@ -91,14 +92,14 @@ pub record Holds (s t : List ℕ) (p n : ℕ) : Type 0 where
 
 -- an entry that a cut found has the kind, the flag and the texts of a label
 pub record Headed (s name : List ℕ) (flag : Bool) (e : Entry) : Type 0 where
-  pub kind : e .kind ≡ 0x31
+  pub kind : e .kind ≡ header
   pub bit : e .flag ≡ bitOf flag
   pub first : Holds s name (e .place1) (e .length1)
   pub no-place : e .place2 ≡ 0
   pub no-length : e .length2 ≡ 0
 
 pub record Sent (s target response : List ℕ) (e : Entry) : Type 0 where
-  pub kind : e .kind ≡ 0x32
+  pub kind : e .kind ≡ message
   pub bit : e .flag ≡ 0
   pub first : Holds s target (e .place1) (e .length1)
   pub second : Holds s response (e .place2) (e .length2)

@@ -9,7 +9,6 @@ use crate::walk::run_out;
 use crate::walk::skip;
 use crate::walk::step;
 use crate::walk::walk_in;
-use amf0::read::Setting;
 use amf0::read::parse_value;
 use image::reading::Reading;
 use image::reading::Step;
@@ -30,8 +29,8 @@ ghost use Prim.Native.Nat.{_+_, _-_, _≤_};
 ghost use lib.ListN.{length, take, replicate};
 ghost use Rattle.wire.specs.Limit.{bytes};
 ghost use Rattle.image.specs.Whole.{padded};
-ghost use Rattle.packet.specs.Entry.{cutOf, noEntry, listOf, filled, readSpan, readEntry, foundIn};
-ghost use Rattle.packet.specs.Code.{restOf, firstIn, refusedCut, countedIn, judgedOf};
+ghost use Rattle.packet.specs.Entry.{strict, cutOf, noEntry, listOf, filled, readSpan, readEntry, foundIn};
+ghost use Rattle.packet.specs.Code.{restOf, refusedCut, countedIn, judgedOf};
 
 // What a cut returns: the bytes of the packet, and the number of its entries.
 pub struct Cutting {
@@ -48,7 +47,7 @@ pub enum Found {
 
 // The entry that a walk has come to, in a packet that is cut to its end.
 fn first(packet: &[u8], w: Walk) -> Found
-    ensures { λ r. ⌜ r ≡ firstIn (restOf (now (packet .entry)) w) ⌝ }
+    ensures { λ r. ⌜ r ≡ foundIn (strict (restOf (now (packet .entry)) w)) 0 ⌝ }
 {
     match w {
         Walk::Stop(a, p) => Found::Stop(a, p),
@@ -178,7 +177,7 @@ pub fn parse_span(packet: &[u8], place: usize, size: usize, image: &mut [u8]) ->
     if inside(packet, place, size) {
         let to = place + size;
         let part = &packet[place..to];
-        let x = parse_value(image, part, Setting { base: place }, Cursor { at: 0 }, 0);
+        let x = parse_value(image, part, place, Cursor { at: 0 }, 0);
         finish(image, judged(x, place, part.len()))
     } else {
         finish(image, Step::Stop(NO_ENTRY, 0))

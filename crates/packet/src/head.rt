@@ -1,17 +1,21 @@
 // The fields of a packet round its values, which the whole reading and the cut both read.
+use image::kind;
 use wire::answer::NOT_RIGHT;
 use wire::answer::OTHER_VERSION;
+use wire::answer::OVER_LIMIT;
 use wire::cursor::Cursor;
 use wire::cursor::Tag;
 use wire::cursor::Text;
 use wire::cursor::U8;
+use wire::cursor::U16;
 use wire::cursor::U32;
+use wire::limit;
 ghost use mathlib.Core.Path.{_≡_};
-ghost use Rattle.packet.specs.Head.{versionAt, headAt, headerAt, messageAt, bitOf};
+ghost use Rattle.packet.specs.Head.{versionAt, frontOf, headAt, headerAt, messageAt, bitOf};
 
-pub const HEADER: u8 = 0x31;
+pub const HEADER: u8 = kind::HEADER;
 
-pub const MESSAGE: u8 = 0x32;
+pub const MESSAGE: u8 = kind::MESSAGE;
 
 // One entry: a header, with its name and flag, or a message, with its target and response; and the value that it holds, by the length that it declares.
 pub struct Entry {
@@ -33,7 +37,7 @@ pub enum Head {
 }
 
 // A zero, and the version.
-pub(crate) fn version(s: &[u8]) -> Tag
+fn version(s: &[u8]) -> Tag
     ensures { λ r. ⌜ r ≡ versionAt (now (s .entry)) ⌝ }
 {
     let c = Cursor { at: 0 };
@@ -47,6 +51,19 @@ pub(crate) fn version(s: &[u8]) -> Tag
                 _ => Tag::Stop(NOT_RIGHT, d.at),
             },
         },
+    }
+}
+
+// The front of a packet: the count of headers, and the cursor behind it. What is refused here has no entries.
+pub(crate) fn front(s: &[u8]) -> U16
+    ensures { λ r. ⌜ r ≡ frontOf (now (s .entry)) ⌝ }
+{
+    if limit::BYTES < s.len() {
+        return U16::Stop(OVER_LIMIT, 0);
+    }
+    match version(s) {
+        Tag::Stop(a, p) => U16::Stop(a, p),
+        Tag::Past(c) => c.be_u16(s),
     }
 }
 

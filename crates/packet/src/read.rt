@@ -3,9 +3,8 @@ use crate::head::Entry;
 use crate::head::HEADER;
 use crate::head::Head;
 use crate::head::MESSAGE;
+use crate::head::front;
 use crate::head::head_at;
-use crate::head::version;
-use amf0::read::Setting;
 use amf0::read::parse_value;
 use image::reading::Reading;
 use image::reading::Step;
@@ -13,11 +12,8 @@ use image::reading::finish;
 use image::reading::put;
 use image::record::Record;
 use wire::answer::NOT_RIGHT;
-use wire::answer::OVER_LIMIT;
 use wire::cursor::Cursor;
-use wire::cursor::Tag;
 use wire::cursor::U16;
-use wire::limit;
 use wire::number::write_number;
 ghost use mathlib.Core.Path.{_≡_};
 ghost use Prim.Native.Nat.{_≤_};
@@ -57,7 +53,7 @@ fn parse_entries(image: &mut [u8], s: &[u8], kind: u8, start: Cursor, done: usiz
                 Step::Stop(a, p) => {
                     return Step::Stop(a, p);
                 }
-                Step::Next(v, laid) => match parse_value(image, s, Setting { base: 0 }, v, laid) {
+                Step::Next(v, laid) => match parse_value(image, s, 0, v, laid) {
                     Step::Stop(a, p) => {
                         return Step::Stop(a, p);
                     }
@@ -92,19 +88,13 @@ fn parse_packet(image: &mut [u8], s: &[u8]) -> Step
     ensures { λ r. ⌜ Packed r (now (image .exit)) (now (s .entry)) (now (image .entry)) ⌝ }
     ensures { λ r. ⌜ Within r 0 (length (now (s .entry))) (length (now (image .entry))) ⌝ }
 {
-    if limit::BYTES < s.len() {
-        return Step::Stop(OVER_LIMIT, 0);
-    }
-    match version(s) {
-        Tag::Stop(a, p) => Step::Stop(a, p),
-        Tag::Past(c) => match c.be_u16(s) {
-            U16::Stop(a, p) => Step::Stop(a, p),
-            U16::Got(h, d) => match put(image, 0, Record::Packet(h, 0), 0, d) {
+    match front(s) {
+        U16::Stop(a, p) => Step::Stop(a, p),
+        U16::Got(h, d) => match put(image, 0, Record::Packet(h, 0), 0, d) {
+            Step::Stop(a, p) => Step::Stop(a, p),
+            Step::Next(e, made) => match parse_entries(image, s, HEADER, e, made, h) {
                 Step::Stop(a, p) => Step::Stop(a, p),
-                Step::Next(e, made) => match parse_entries(image, s, HEADER, e, made, h) {
-                    Step::Stop(a, p) => Step::Stop(a, p),
-                    Step::Next(f, total) => parse_messages(image, s, f, total),
-                },
+                Step::Next(f, total) => parse_messages(image, s, f, total),
             },
         },
     }

@@ -3,22 +3,18 @@ use crate::head::Entry;
 use crate::head::HEADER;
 use crate::head::Head;
 use crate::head::MESSAGE;
+use crate::head::front;
 use crate::head::head_at;
-use crate::head::version;
 use wire::answer::NOT_RIGHT;
 use wire::answer::NOT_WHOLE;
-use wire::answer::OVER_LIMIT;
 use wire::cursor::Cursor;
-use wire::cursor::Tag;
 use wire::cursor::U16;
-use wire::limit;
 ghost use mathlib.Core.Path.{_≡_};
 ghost use mathlib.Core.Bool.{true};
-ghost use mathlib.Core.List.{[]};
 ghost use Prim.Native.Nat.{suc, _-_, _≤_, _<_};
-ghost use lib.ListN.{length};
-ghost use Rattle.packet.specs.Entry.{gotCut, walk, entryAt, cutOf, noEntry};
-ghost use Rattle.packet.specs.Code.{goesOn, goesBelow, restOf, ended, behind, leftOf, ahead, without, endOf};
+ghost use lib.ListN.{length, getD};
+ghost use Rattle.packet.specs.Entry.{_thence_, walk, entryAt, endAt, messagesFrom, strict, cutOf, noEntry};
+ghost use Rattle.packet.specs.Code.{behind, goesOn, goesBelow, restOf, leftOf, past, Out};
 
 // How far a walk has come: to an entry of a kind at a cursor, with so many more of that kind behind it; to the packet's end; or it is refused.
 pub enum Walk {
@@ -69,7 +65,7 @@ fn entry_at(s: &[u8], kind: u8, c: Cursor) -> Head
 
 // Behind the last message the packet must end.
 fn end(s: &[u8], c: Cursor) -> Walk
-    ensures { λ r. ⌜ restOf (now (s .entry)) r ≡ ended (now (s .entry)) [] (c .at) ⌝ }
+    ensures { λ r. ⌜ restOf (now (s .entry)) r ≡ endAt (now (s .entry)) (c .at) ⌝ }
     ensures { λ r. ⌜ leftOf (now (s .entry)) r ≤ suc (length (now (s .entry)) - c .at) ⌝ }
 {
     if c.at < s.len() {
@@ -80,7 +76,7 @@ fn end(s: &[u8], c: Cursor) -> Walk
 
 // Behind the last header stands the count of messages.
 fn messages(s: &[u8], c: Cursor) -> Walk
-    ensures { λ r. ⌜ restOf (now (s .entry)) r ≡ behind 0x31 (now (s .entry)) [] (c .at) ⌝ }
+    ensures { λ r. ⌜ restOf (now (s .entry)) r ≡ messagesFrom (now (s .entry)) (c .at) ⌝ }
     ensures { λ r. ⌜ leftOf (now (s .entry)) r ≤ suc (length (now (s .entry)) - c .at) ⌝ }
 {
     match c.be_u16(s) {
@@ -96,7 +92,7 @@ fn messages(s: &[u8], c: Cursor) -> Walk
 
 // A walk with n entries of a kind left to it.
 fn onward(s: &[u8], kind: u8, n: u16, c: Cursor) -> Walk
-    ensures { λ r. ⌜ restOf (now (s .entry)) r ≡ gotCut (walk kind (now (s .entry)) n (c .at)) (behind kind (now (s .entry))) ⌝ }
+    ensures { λ r. ⌜ restOf (now (s .entry)) r ≡ walk kind (now (s .entry)) n (c .at) thence behind kind (now (s .entry)) ⌝ }
     ensures { λ r. ⌜ leftOf (now (s .entry)) r ≤ suc (length (now (s .entry)) - c .at) ⌝ }
 {
     if 0 < n {
@@ -110,17 +106,11 @@ fn onward(s: &[u8], kind: u8, n: u16, c: Cursor) -> Walk
 
 // A walk at the first entry.
 pub(crate) fn begin(packet: &[u8]) -> Walk
-    ensures { λ r. ⌜ restOf (now (packet .entry)) r ≡ cutOf (now (packet .entry)) ⌝ }
+    ensures { λ r. ⌜ strict (restOf (now (packet .entry)) r) ≡ cutOf (now (packet .entry)) ⌝ }
 {
-    if limit::BYTES < packet.len() {
-        return Walk::Stop(OVER_LIMIT, 0);
-    }
-    match version(packet) {
-        Tag::Stop(a, p) => Walk::Stop(a, p),
-        Tag::Past(c) => match c.be_u16(packet) {
-            U16::Stop(a, p) => Walk::Stop(a, p),
-            U16::Got(h, d) => onward(packet, HEADER, h, d),
-        },
+    match front(packet) {
+        U16::Stop(a, p) => Walk::Stop(a, p),
+        U16::Got(h, d) => onward(packet, HEADER, h, d),
     }
 }
 
@@ -144,9 +134,10 @@ pub(crate) fn below(w: Walk, number: usize, n: usize) -> bool
     false
 }
 
-// The entry that a walk has come to, and the walk behind it. Where there is none, the walk stays.
+// The entry that a walk has come to, and the walk behind it. Where there is none, the entry is zeros, and the walk stays or is stopped.
 pub(crate) fn step(s: &[u8], w: Walk) -> Passed
-    ensures { λ r. ⌜ (goesOn w ≡ true → restOf (now (s .entry)) w ≡ ahead (r .entry) (restOf (now (s .entry)) (r .walk))) ⌝ }
+    ensures { λ r. ⌜ r .entry ≡ getD (restOf (now (s .entry)) w .entries) 0 noEntry ⌝ }
+    ensures { λ r. ⌜ restOf (now (s .entry)) (r .walk) ≡ past 1 (restOf (now (s .entry)) w) ⌝ }
     ensures { λ r. ⌜ (goesOn w ≡ true → leftOf (now (s .entry)) (r .walk) < leftOf (now (s .entry)) w) ⌝ }
 {
     match w {
@@ -185,7 +176,7 @@ pub(crate) fn walk_in(x: Passed) -> Walk
 
 // Walks past the first n entries, or as many as there are.
 pub(crate) fn skip(s: &[u8], start: Walk, n: usize) -> Walk
-    ensures { λ r. ⌜ restOf (now (s .entry)) r ≡ without n (restOf (now (s .entry)) start) ⌝ }
+    ensures { λ r. ⌜ restOf (now (s .entry)) r ≡ past n (restOf (now (s .entry)) start) ⌝ }
 {
     let mut w = start;
     let mut k: usize = 0;
@@ -199,7 +190,7 @@ pub(crate) fn skip(s: &[u8], start: Walk, n: usize) -> Walk
 
 // Walks to the end.
 pub(crate) fn run_out(s: &[u8], start: Walk) -> Walk
-    ensures { λ r. ⌜ r ≡ endOf (restOf (now (s .entry)) start) ⌝ }
+    ensures { λ r. ⌜ Out (restOf (now (s .entry)) start .ending) r ⌝ }
 {
     let mut w = start;
     while going(w) {

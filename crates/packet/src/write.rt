@@ -2,14 +2,15 @@
 use crate::head::HEADER;
 use crate::head::MESSAGE;
 use amf0::write::pour_value;
+use image::kind;
 use image::reading::Step;
-use image::record::Field;
-use image::record::Record;
+use image::record::layout_of;
 use image::taking::Taken;
 use image::taking::record_at;
-use image::writing::Row;
 use image::writing::Writing;
-use image::writing::emit;
+use image::writing::emit_numbers;
+use image::writing::emit_text;
+use image::writing::refused;
 use wire::answer::ACCEPTED;
 use wire::answer::NO_ROOM;
 use wire::answer::NO_TREE;
@@ -21,98 +22,12 @@ ghost use mathlib.Core.Path.{_≡_};
 ghost use Prim.Native.Nat.{_+_, _*_, _≤_};
 ghost use lib.ListN.{length};
 ghost use Rattle.wire.specs.Limit.{bytes as most-bytes, «image» as most-image};
-ghost use Rattle.image.specs.Record.{_bytes_, bitOf};
-ghost use Rattle.image.specs.Out.{pour, poured, «end», row as rowOut, onto, Grown};
+ghost use Rattle.image.specs.Out.{pour, poured, onto};
 ghost use Rattle.amf0.specs.Code.{Ahead, longest, growth};
 ghost use Rattle.packet.specs.Carried.{Carried};
-ghost use Rattle.packet.specs.Writing.{partOf, rowOf, texted, label, entry, entries, packet, writeOf};
+ghost use Rattle.packet.specs.Writing.{label, entry, entries, packet, writeOf};
 
-// What a record is to a writing of packets.
-pub enum Part {
-    Packet(u16, u16),
-    Header(usize, usize, bool),
-    Message(usize, usize, usize, usize),
-    Other,
-}
-
-fn part_of(r: Record) -> Part
-    ensures { λ x. ⌜ x ≡ partOf r ⌝ }
-{
-    match r {
-        Record::Number(_) => Part::Other,
-        Record::Boolean(_) => Part::Other,
-        Record::Text(_, _) => Part::Other,
-        Record::Object => Part::Other,
-        Record::Null => Part::Other,
-        Record::Undefined => Part::Other,
-        Record::Reference(_) => Part::Other,
-        Record::EcmaArray(_) => Part::Other,
-        Record::ObjectEnd => Part::Other,
-        Record::StrictArray(_) => Part::Other,
-        Record::Date(_, _, _) => Part::Other,
-        Record::Unsupported => Part::Other,
-        Record::Xml(_, _) => Part::Other,
-        Record::TypedObject(_, _) => Part::Other,
-        Record::Key(_, _) => Part::Other,
-        Record::Packet(h, m) => Part::Packet(h, m),
-        Record::Header(p, n, flag) => Part::Header(p, n, flag),
-        Record::Message(p, n, q, m) => Part::Message(p, n, q, m),
-        Record::Lso(_, _, _) => Part::Other,
-    }
-}
-
-fn row(v: usize, m: u64, w: usize, n: u64, place: usize, length: usize) -> Row
-    ensures { λ r. ⌜ r ≡ rowOf (v bytes m) (w bytes n) place length ⌝ }
-{
-    let mark = Field {
-        width: v,
-        number: m,
-    };
-    let a = Field {
-        width: w,
-        number: n,
-    };
-    let b = Field {
-        width: 0,
-        number: 0,
-    };
-    Row {
-        mark: mark,
-        a: a,
-        b: b,
-        place: place,
-        length: length,
-    }
-}
-
-fn bit(b: bool) -> u64
-    ensures { λ r. ⌜ r ≡ bitOf b ⌝ }
-{
-    if b { 1 } else { 0 }
-}
-
-// A text behind its length, and then a number.
-fn write_head(
-    out: &mut [u8],
-    text: &[u8],
-    count: usize,
-    p: usize,
-    n: usize,
-    tail: Row,
-    at: usize,
-    next: Cursor,
-) -> Step
-    requires { ⌜ (length (now text) ≤ most-bytes) × (count ≤ longest + growth * most-image) × (tail .mark .width ≤ 8) × (tail .a .width ≤ 8) × (tail .b .width ≤ 8) ⌝ }
-    ensures { λ r. ⌜ poured r (now (out .exit)) ≡ pour (texted (now (text .entry)) p n at (rowOut (now (text .entry)) tail at (end (next .at)))) count (now (out .entry)) ⌝ }
-    ensures { λ r. ⌜ Grown r (next .at) (count + 48 + 2 * length (now (text .entry))) ⌝ }
-{
-    match emit(out, text, count, row(0, 0, 2, n as u64, p, n), at, next) {
-        Step::Stop(a, w) => Step::Stop(a, w),
-        Step::Next(c, k) => emit(out, text, k, tail, at, c),
-    }
-}
-
-// An entry's fields up to its length.
+// An entry's fields up to its length: its name or target, and then a header's flag or a message's response.
 fn write_label(out: &mut [u8], image: &[u8], text: &[u8], kind: u8, c: Cursor, count: usize) -> Step
     requires { ⌜ (length (now text) ≤ most-bytes) × (length (now image) ≤ most-image) × (c .at ≤ length (now image)) × (count ≤ longest + growth * c .at) ⌝ }
     ensures { λ r. ⌜ poured r (now (out .exit)) ≡ pour (label kind (now (image .entry)) (now (text .entry)) (c .at)) count (now (out .entry)) ⌝ }
@@ -122,22 +37,43 @@ fn write_label(out: &mut [u8], image: &[u8], text: &[u8], kind: u8, c: Cursor, c
     match record_at(image, c) {
         Taken::Bad => Step::Stop(NO_TREE, at),
         Taken::Found(r, d) => {
-            let part = part_of(r);
-            match part {
-                Part::Packet(_, _) => Step::Stop(NO_TREE, at),
-                Part::Other => Step::Stop(NO_TREE, at),
-                Part::Header(p, n, flag) => {
+            let l = layout_of(r);
+            if l.kind != kind as u64 {
+                return Step::Stop(NO_TREE, at);
+            }
+            let p = l.a;
+            let n = l.b;
+            let q = l.c;
+            let m = l.d;
+            match emit_text(
+                out,
+                text,
+                count,
+                0,
+                0,
+                2,
+                p.number as usize,
+                n.number as usize,
+                at,
+                d,
+            ) {
+                Step::Stop(a, w) => Step::Stop(a, w),
+                Step::Next(e, k) => {
                     if kind == HEADER {
-                        write_head(out, text, count, p, n, row(1, bit(flag), 0, 0, 0, 0), at, d)
+                        emit_numbers(out, k, 1, q.number, 0, 0, 0, 0, e)
                     } else {
-                        Step::Stop(NO_TREE, at)
-                    }
-                }
-                Part::Message(p, n, q, m) => {
-                    if kind == MESSAGE {
-                        write_head(out, text, count, p, n, row(0, 0, 2, m as u64, q, m), at, d)
-                    } else {
-                        Step::Stop(NO_TREE, at)
+                        emit_text(
+                            out,
+                            text,
+                            k,
+                            0,
+                            0,
+                            2,
+                            q.number as usize,
+                            m.number as usize,
+                            at,
+                            e,
+                        )
                     }
                 }
             }
@@ -161,7 +97,7 @@ fn write_entry(
 {
     match write_label(out, image, text, kind, c, count) {
         Step::Stop(a, w) => Step::Stop(a, w),
-        Step::Next(d, k) => match emit(out, text, k, row(4, 0xFFFF_FFFF, 0, 0, 0, 0), c.at, d) {
+        Step::Next(d, k) => match emit_numbers(out, k, 4, 0xFFFF_FFFF, 0, 0, 0, 0, d) {
             Step::Stop(a, w) => Step::Stop(a, w),
             Step::Next(e, m) => match pour_value(out, image, text, e, m) {
                 Step::Stop(a, w) => Step::Stop(a, w),
@@ -185,7 +121,7 @@ fn write_entries(
     exact: bool,
     start: Cursor,
     done: usize,
-    n: u16,
+    n: u64,
 ) -> Step
     requires { ⌜ (length (now text) ≤ most-bytes) × (length (now image) ≤ most-image) × (start .at ≤ length (now image)) × (done ≤ longest + growth * start .at) ⌝ }
     ensures { λ r. ⌜ Carried (entries kind exact (now (image .entry)) (now (text .entry)) n (start .at)) done (now (out .entry)) r (now (out .exit)) ⌝ }
@@ -218,57 +154,41 @@ fn write_packet(out: &mut [u8], image: &[u8], text: &[u8], exact: bool) -> Step
     match record_at(image, c) {
         Taken::Bad => Step::Stop(NO_TREE, 0),
         Taken::Found(r, d) => {
-            let part = part_of(r);
-            match part {
-                Part::Header(_, _, _) => Step::Stop(NO_TREE, 0),
-                Part::Message(_, _, _, _) => Step::Stop(NO_TREE, 0),
-                Part::Other => Step::Stop(NO_TREE, 0),
-                Part::Packet(h, m) => match emit(out, text, 0, row(2, 0, 2, h as u64, 0, 0), 0, d) {
+            let l = layout_of(r);
+            if l.kind != kind::PACKET as u64 {
+                return Step::Stop(NO_TREE, 0);
+            }
+            let h = l.a;
+            let m = l.b;
+            match emit_numbers(out, 0, 2, 0, 2, h.number, 0, 0, d) {
+                Step::Stop(a, w) => Step::Stop(a, w),
+                Step::Next(e, k) => match write_entries(
+                    out,
+                    image,
+                    text,
+                    HEADER,
+                    exact,
+                    e,
+                    k,
+                    h.number,
+                ) {
                     Step::Stop(a, w) => Step::Stop(a, w),
-                    Step::Next(e, k) => match write_entries(
-                        out,
-                        image,
-                        text,
-                        HEADER,
-                        exact,
-                        e,
-                        k,
-                        h,
-                    ) {
+                    Step::Next(f, n) => match emit_numbers(out, n, 0, 0, 2, m.number, 0, 0, f) {
                         Step::Stop(a, w) => Step::Stop(a, w),
-                        Step::Next(f, n) => match emit(
+                        Step::Next(g, t) => write_entries(
                             out,
+                            image,
                             text,
-                            n,
-                            row(0, 0, 2, m as u64, 0, 0),
-                            0,
-                            f,
-                        ) {
-                            Step::Stop(a, w) => Step::Stop(a, w),
-                            Step::Next(g, l) => write_entries(
-                                out,
-                                image,
-                                text,
-                                MESSAGE,
-                                exact,
-                                g,
-                                l,
-                                m,
-                            ),
-                        },
+                            MESSAGE,
+                            exact,
+                            g,
+                            t,
+                            m.number,
+                        ),
                     },
                 },
             }
         }
-    }
-}
-
-fn refused(a: u8) -> Writing
-    ensures { λ r. ⌜ r ≡ record { answer = a; count = 0 } ⌝ }
-{
-    Writing {
-        answer: a,
-        count: 0,
     }
 }
 

@@ -1,87 +1,31 @@
 -- The whole reading of a packet whose declared lengths are those of its values, against its reading by entry.
-use Rattle.wire.proofs.Kit.{ℕ, zero, suc, _+_, _*_, _≤_, _<_, _≡_, refl, sym, ap, _∙_, List, [], _∷_, _++_, append-assoc, append-nil, arith, le-refl, add-zero}
-use Rattle.wire.proofs.Kit.{zero-add, suc-add, length, getD, take, drop, length-append, take-append-drop, length-take-le, drop-append-seam, le-leb, lt-ltb}
+use Rattle.wire.proofs.Kit.{ℕ, zero, suc, _+_, _*_, _≤_, _<_, _≡_, refl, sym, ap, _∙_, List, [], _∷_, _++_, append-assoc, arith, le-refl, add-zero, zero-add, append-nil}
+use Rattle.wire.proofs.Kit.{suc-add, length, getD, length-append, le-leb, lt-ltb}
 use native.Mathlib.Nat.{add-suc}
 use Rattle.wire.specs.Number.{Bytes}
 use Rattle.wire.specs.Limit as limit
-use Rattle.wire.specs.Field.{bytesAt, u16At, got16}
+use Rattle.wire.specs.Field.{u16At, got16}
 use Rattle.wire.specs.declared.cursor.Cursor.{Cursor}
 use Rattle.wire.specs.declared.cursor.U16.the-variants as U16
 use Rattle.wire.specs.declared.cursor.Tag.the-variants as Tag
-use Rattle.wire.proofs.Stands.{Here, bytes-here, length-bytes}
 use Rattle.image.specs.declared.record.Record.the-variants.{Packet}
 use Rattle.image.specs.Record.{bytesOf}
-use Rattle.image.specs.Due.{Due, end, stop, due, _>>=_, based, Ends}
+use Rattle.image.specs.Due.{Due, end, stop, due, based, Ends}
 use Rattle.image.specs.Whole.{Whole, bytes, accepted}
-use Rattle.amf0.specs.Reading.{value, topValue}
+use Rattle.image.proofs.Settle.{bytes-bind}
+use Rattle.amf0.specs.Reading.{topValue}
 use Rattle.amf0.proofs.Reasons.{kept, forward}
-use Rattle.amf0.proofs.Outcome.{ended-at}
-use Rattle.amf0_theorems.proofs.Theorems as amf0
-use Rattle.amf0_theorems.proofs.Sound.{bind-ends}
 use Rattle.packet.specs.declared.head.Entry.{Entry}
 use Rattle.packet.specs.declared.head.Head.{Head}
 use Rattle.packet.specs.declared.head.Head.the-variants as Head
-use Rattle.packet.specs.Head.{versionAt, headAt}
+use Rattle.packet.specs.Head.{versionAt, frontOf, headAt}
 use Rattle.packet.specs.Reading.{recordOf, entriesAt, countAfter, packetAt, wholeOf}
-use Rattle.packet.specs.Entry.{found, entryAt, walk, cutOf, noEntry, spanOf, valueOf, readEntry}
+use Rattle.packet.specs.Entry.{reached, entryAt, walk, found, cutOf, noEntry, spanOf, readEntry, span}
 use Rattle.packet.specs.Change.{imagesFrom, Agrees}
-use Rattle.packet_theorems.proofs.Same.{Headed, head-read}
+use Rattle.packet.proofs.Laws.{Begun, head-begun}
 use Rattle.packet_theorems.proofs.Taken.{whole-taken}
-use Rattle.packet_theorems.proofs.Judge.{length-based, settled-based}
-
--- ---- readings that end
-
-pub bytes-bind : (d : Due) (k : ℕ → Due) (n : ℕ) → Ends d n → bytes (d >>= k) ≡ bytes d ++ bytes (k n)
-unfolding bytes
-bytes-bind (end m) k n e = rw e
-bytes-bind (stop a p) k n e = absurd e
-bytes-bind (due r p d) k n e = rw (bytes-bind d k n e) (sym (append-assoc (bytesOf r) (bytes d) (bytes (k n))))
-
-pub ends-bind : (d : Due) (k : ℕ → Due) (n z : ℕ) → Ends d n → Ends (k n) z → Ends (d >>= k) z
-ends-bind (end m) k n z e f = rw e at f
-ends-bind (stop a p) k n z e f = absurd e
-ends-bind (due r p d) k n z e f = ends-bind d k n z e f
-
-pub based-ends : (a : ℕ) (d : Due) (n : ℕ) → Ends (based a d) n → Ends d n
-based-ends a (end m) n e = e
-based-ends a (stop w p) n e = absurd e
-based-ends a (due r p d) n e = based-ends a d n e
-
--- ---- a value inside a packet, and its bytes alone
-
--- the value at a place of s takes the bytes x: alone they are read alike
-pub record Alone (s : List ℕ) (at l : ℕ) (x : List ℕ) : Type 0 where
-  pub ends : Ends (topValue x 0) l
-  pub same : bytes (topValue s at) ≡ bytes (based at (topValue x 0))
-
-alone-behind : (w x r : List ℕ) → Bytes (w ++ (x ++ r)) → Ends (topValue (w ++ (x ++ r)) (length w)) (length w + length x)
-    → Alone (w ++ (x ++ r)) (length w) (length x) x
-unfolding bytes
-alone-behind w x r bs e =
-    let there : topValue (w ++ (x ++ r)) (length w) ≡ based (length w) (topValue (x ++ r) 0) >>= λ n. end (length w + n) =
-    rw add-zero at (amf0.part limit.levels w (x ++ r) 0)
-    in
-    let here : Here (w ++ (x ++ r)) (length w) (x ++ r) [] = record { same = drop-append-seam w (x ++ r) ∙ sym (append-nil (x ++ r)) } in
-    bind-ends (based (length w) (topValue (x ++ r) 0)) (λ n. end (length w + n)) (length w + length x) (rw there at e) λ m f g.
-    let is : m ≡ length x = omega arith in
-    let ends : Ends (topValue (x ++ r) 0) (length x) = rw is at (based-ends (length w) (topValue (x ++ r) 0) m f) in
-    let near : topValue x 0 ≡ topValue (x ++ r) 0 =
-    rw append-nil at (amf0.local limit.levels x r [] 0 (length x) (bytes-here here bs) ends (le-refl (length x)))
-    in
-    record {
-      ends = rw near ends;
-      same =
-          rw (there, near)
-          (bytes-bind (based (length w) (topValue (x ++ r) 0)) (λ n. end (length w + n)) m f ∙ append-nil (bytes (based (length w) (topValue (x ++ r) 0))));
-    }
-
-pub alone : (s : List ℕ) (at l : ℕ) → Bytes s → at + l ≤ length s → Ends (topValue s at) (at + l) → Alone s at l (bytesAt l s at)
-alone s at l bs h e =
-    go (take at s) (bytesAt l s at) (drop l (drop at s)) s at l (sym (ap (λ y. take at s ++ y) (take-append-drop l (drop at s)) ∙ take-append-drop at s))
-    (sym (length-take-le at s (omega arith))) (sym (length-bytes l s at h)) bs e
-  where
-    go : (w x r s : List ℕ) (at l : ℕ) → s ≡ w ++ (x ++ r) → at ≡ length w → l ≡ length x → Bytes s → Ends (topValue s at) (at + l) → Alone s at l x
-    go w x r s at l p q o = rw (p, q, o) (alone-behind w x r)
+use Rattle.amf0.specs.Span.{oneValue}
+use Rattle.amf0_theorems.proofs.Spans.{ends-bind, alone, answer-all}
 
 -- ---- entries whose values end where their declared lengths say
 
@@ -102,7 +46,7 @@ Ended s (e ∷ es) = Ends (topValue (spanOf s e) 0) (e .length) × Ended s es
 
 -- both readings of such entries
 pub record Reads (kind : ℕ) (s : List ℕ) (es : List Entry) (at z : ℕ) : Type 0 where
-  pub walks : walk kind s (length es) at ≡ found es z
+  pub walks : walk kind s (length es) at ≡ reached es z
   pub ends : Ends (entriesAt kind s (length es) at) z
   pub image : bytes (entriesAt kind s (length es) at) ≡ alones s es
   pub values : Ended s es
@@ -110,17 +54,18 @@ pub record Reads (kind : ℕ) (s : List ℕ) (es : List Entry) (at z : ℕ) : Ty
 exactly-reads : (kind : ℕ) (s : List ℕ) (es : List Entry) (at z : ℕ) → Bytes s → Exactly kind s es at z → Reads kind s es at z
 unfolding walk entriesAt bytes entryAt
 exactly-reads kind s es at z bs Exactly.none = record { walks = refl; ends = refl; image = refl; values = tt }
-exactly-reads kind s es at z bs (Exactly.more {e} {c} {es = fs} h v x) = go (exactly-reads kind s fs (e .place + e .length) z bs x) (head-read kind s at e c h)
+exactly-reads kind s es at z bs (Exactly.more {e} {c} {es = fs} h v x) = go (exactly-reads kind s fs (e .place + e .length) z bs x) (head-begun s at kind h)
   where
-    go : Reads kind s fs (e .place + e .length) z → Headed (λ t. headAt kind t at) s at e c → Reads kind s (e ∷ fs) at z
+    go : Reads kind s fs (e .place + e .length) z → Begun s at e (c .at) → Reads kind s (e ∷ fs) at z
     go r d =
+        let next = sym (d .place) in
         let u = topValue s (e .place) in
-        let b = forward s (3 * e .place) (e .place + e .length) u (kept limit.levels s (e .place) (d .within)) v .1 in
+        let b = forward s (3 * e .place) (e .place + e .length) u (kept limit.levels s (e .place) (omega (arith, d .place, d .within))) v .1 in
         let a = alone s (e .place) (e .length) bs b v in
         record {
-          walks = rw (h, d .next, le-leb (e .place + e .length) (length s) b, r .walks);
-          ends = rw (h, d .next) (ends-bind u (entriesAt kind s (length fs)) (e .place + e .length) z v (r .ends));
-          image = rw (h, d .next, bytes-bind u (entriesAt kind s (length fs)) (e .place + e .length) v, a .same, r .image);
+          walks = rw (h, next, le-leb (e .place + e .length) (length s) b, r .walks);
+          ends = rw (h, next) (ends-bind u (entriesAt kind s (length fs)) (e .place + e .length) z v (r .ends));
+          image = rw (h, next, bytes-bind u (entriesAt kind s (length fs)) (e .place + e .length) v, a .same, r .image);
           values = (a .ends, r .values);
         }
 
@@ -131,18 +76,6 @@ pub record Good (s : List ℕ) (room : ℕ) (e : Entry) : Type 0 where
   pub ends : Ends (topValue (spanOf s e) 0) (e .length)
   pub fits : length (bytes (based (e .place) (topValue (spanOf s e) 0))) ≤ room
 
-good-value : (s : List ℕ) (room : ℕ) (e : Entry) → Good s room e
-    → valueOf s e room ≡ accepted (e .length) (bytes (based (e .place) (topValue (spanOf s e) 0)))
-good-value s room e g =
-    let d : Due = topValue (spanOf s e) 0 in
-    let f : length (bytes d) ≤ room = rw length-based at (g .fits) in
-    rw (
-      settled-based (e .place) d room,
-      le-leb (length (bytes d)) room f,
-      ended-at d (bytes (based (e .place) d)) (e .length) (g .ends),
-      le-leb (e .length) (e .length) (le-refl (e .length)),
-    )
-
 all-good : (s : List ℕ) (room : ℕ) (es : List Entry) (k : ℕ) → Ended s es → length (alones s es) ≤ room → k < length es → Good s room (getD es k noEntry)
 all-good s room [] k v f h = absurd (omega arith)
 all-good s room (e ∷ es) zero v f h = record { ends = v .0; fits = omega (arith, simp length-append at f) }
@@ -152,7 +85,7 @@ module _ (s : List ℕ) (room : ℕ) (es : List Entry) (n : ℕ) (cut : cutOf s 
   pub good-entry : (k : ℕ) (e : Entry) → k < length es → getD es k noEntry ≡ e → Good s room (getD es k noEntry)
       → readEntry s k room ≡ accepted (e .length) (bytes (based (e .place) (topValue (spanOf s e) 0)))
   unfolding readEntry
-  good-entry k e h is g = rw (cut, lt-ltb k (length es) h) (good-value s room (getD es k noEntry) g ∙ rw is)
+  good-entry k e h is g = rw (cut, lt-ltb k (length es) h) (answer-all oneValue s (span (getD es k noEntry)) room (g .ends) (g .fits) ∙ rw is)
 
   -- the last of the entries, from the number k on
   images-alone : ((k : ℕ) → k < length es → Good s room (getD es k noEntry)) → (k : ℕ) (fs : List Entry)
@@ -200,7 +133,7 @@ record Both (s : List ℕ) (hs ms : List Entry) : Type 0 where
   values : Ended s (hs ++ ms)
 
 both : (s : List ℕ) → Bytes s → (x : Exacts s) → Both s (x .headers) (x .messages)
-unfolding cutOf packetAt bytes
+unfolding cutOf frontOf packetAt bytes
 both s bs x =
     let hs = x .headers in
     let ms = x .messages in
@@ -208,7 +141,7 @@ both s bs x =
     let m = exactly-reads 0x32 s ms (x .f .at) (length s) bs (x .message-values) in
     let d : Due = entriesAt 0x31 s (length hs) (x .q .at) in
     record {
-      cut = λ l. rw (le-leb (length s) limit.bytes l, x .version, x .header-count, h .walks, x .message-count, m .walks, le-leb (length s) (length s) (le-refl (length s)));
+      cut = λ l. rw (le-leb (length s) limit.bytes l, x .version, x .header-count, h .walks, x .message-count, m .walks, le-leb (length s) (length s) (le-refl (length s)), append-nil ms);
       image =
           rw (
             x .version,

@@ -9,13 +9,14 @@ use Rattle.wire.proofs.Stands.{Here, there}
 use Rattle.image.specs.Record.{bitOf}
 use Rattle.packet.specs.declared.head.Entry.{Entry}
 use Rattle.packet.specs.Packet.{Label, Item, Packet, IsHeader, IsMessage, Items, Encoded}
-use Rattle.packet.specs.Entry.{found, entryAt, walk, cutOf}
+use Rattle.packet.specs.Entry.{Trail, reached, entryAt, walk, found, cutOf}
+use Rattle.packet.specs.Head.{frontOf}
 use Rattle.packet.specs.Written.{Holds, Labelled}
 use Rattle.packet_theorems.specs.Cuts.{Slice, Slices, Cuts, entryOf, behind, entriesFrom, endFrom, entriesOf, Each, CutInto, Valued, Exact}
 use Rattle.packet_theorems.specs.Refusal.{cut, Entries, IsPacket}
 use Rattle.packet_theorems.proofs.Heads.{Kinded, headers, messages}
 use Rattle.packet_theorems.proofs.Items.{ExactItems, First, first, front}
-use Rattle.packet_theorems.proofs.Same.{head-read}
+use Rattle.packet.proofs.Laws.{head-begun}
 use Rattle.packet_theorems.proofs.Frame.{cut-read}
 use Rattle.packet_theorems.proofs.Refusals.{cut-packet}
 use Rattle.packet_theorems.proofs.Whole.{rowOf, ExactPacket, Framed, framed}
@@ -32,7 +33,7 @@ each-append b (i ∷ is) js (e ∷ es) fs x y = (x .0, each-append b is js es fs
 -- a walk over slices that stand from one place of s to another finds them
 record Walks (kind : ℕ) (s : List ℕ) (is : List Slice) (at z : ℕ) : Type 0 where
   entries : List Entry
-  walks : walk kind s (length is) at ≡ found entries z
+  walks : walk kind s (length is) at ≡ reached entries z
   placed : entries ≡ entriesFrom at is
   ends : z ≡ endFrom at is
   each : Each s is entries
@@ -54,7 +55,7 @@ module _ {kind : ℕ} {Kind : Label → Type 0} (k : Kinded kind Kind) where
           let e : Entry = f .head .entry in
           let p : ℕ = e .place in
           let same : e .length ≡ length y = f .head .declared in
-          let h = head-read kind s at e (to p) (f .head .read) .within in
+          let h = head-begun s at kind (f .head .read) .within in
           let next : p + length y ≡ behind (entryOf at l (length y)) = ap (λ n. p + n) (sym same) ∙ ap behind (f .head .is) in
           let fits : p + length y ≤ length s = omega (arith, length-drop p s, ap length (f .value .same), length-append y (z ++ r)) in
           rw (f .long)
@@ -86,7 +87,7 @@ pub record Finds (s : List ℕ) (hs ms : List Slice) : Type 0 where
 
 -- Every packet that its declared lengths cut exactly, within the limit, is cut, whatever its values are: into its headers and its messages.
 pub cut-complete : (hs ms : List Slice) (s : List ℕ) → length s ≤ limit.bytes → Cuts hs ms s → Finds s hs ms
-unfolding cutOf
+unfolding cutOf frontOf
 cut-complete hs ms s l (Cuts.packet {x} {y} hl ml hi mi) =
     let w = frames s [] hl ml hi mi (record { same = sym (append-nil s) }) in
     let f = w .frame in
@@ -94,7 +95,7 @@ cut-complete hs ms s l (Cuts.packet {x} {y} hl ml hi mi) =
     let m = w .messages in
     let same : h .entries ++ m .entries ≡ entriesOf hs ms = ap₂ _++_ (h .placed) (m .placed ∙ ap (λ v. entriesFrom (v + 2) ms) (h .ends)) in
     let cut : cutOf s ≡ found (h .entries ++ m .entries) (length s) =
-    rw (le-leb (length s) limit.bytes l, f .version, f .header-count, h .walks, f .message-count, m .walks, ← f .long, le-leb (length s) (length s) (le-refl (length s)))
+    rw (le-leb (length s) limit.bytes l, f .version, f .header-count, h .walks, f .message-count, m .walks, ← f .long, le-leb (length s) (length s) (le-refl (length s)), append-nil (m .entries))
     in
     record { cut = cut ∙ ap (λ es. found es (length s)) same; each = rw same at (each-append s hs ms (h .entries) (m .entries) (h .each) (m .each)) }
 
@@ -194,8 +195,8 @@ each-one s (i ∷ is) (j ∷ js) (e ∷ es) a b =
 walks-one : {kind : ℕ} {s : List ℕ} {is js : List Slice} {at z w : ℕ} → length is ≡ length js → Walks kind s is at z → Walks kind s js at w → (is ≡ js) × (z ≡ w)
 walks-one {kind} {s} {is} {js} {at} n a b =
     let same = sym (a .walks) ∙ (ap (λ m. walk kind s m at) n ∙ b .walks) in
-    let es : a .entries ≡ b .entries = cc same in
-    (each-one s is js (b .entries) (rw es at (a .each)) (b .each), cc same)
+    let es : a .entries ≡ b .entries = ap (λ (t : Trail). t .entries) same in
+    (each-one s is js (b .entries) (rw es at (a .each)) (b .each), cc (ap (λ (t : Trail). t .ending) same))
 
 -- No row of bytes is cut exactly in two ways, and none that is begins another.
 pub cuts-unique : {hs ms hs′ ms′ : List Slice} {x y : List ℕ} (r t : List ℕ) → Cuts hs ms x → Cuts hs′ ms′ y → x ++ r ≡ y ++ t

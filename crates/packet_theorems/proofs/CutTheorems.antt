@@ -1,11 +1,11 @@
 -- The theorems on the cut into a list, over what it comes to.
-use Rattle.wire.proofs.Kit.{ℕ, zero, suc, _≤_, _<_, _≡_, refl, sym, ap, _≢_, _↔_, List, [], _∷_, _++_, arith, length, getD, leb, leb-true, le-leb, lt-ltb}
+use Rattle.wire.proofs.Kit.{ℕ, zero, suc, _≤_, _<_, _≡_, refl, sym, ap, _≢_, _↔_, List, [], _∷_, _++_, map, arith, length, getD, leb, leb-true, le-leb, lt-ltb}
 use Rattle.wire.proofs.Laws.{picked}
+use Rattle.amf0.specs.Span.{Changed}
 use Rattle.packet.specs.declared.head.Entry.{Entry}
 use Rattle.packet.specs.declared.entry.Found.{Found}
 use Rattle.packet.specs.declared.entry.Found.the-variants as Found
-use Rattle.packet.specs.Entry.{Cut, found, stops, cutOf, noEntry, Listed, uncut, listed, listOf, filled, readSpan, readEntry, foundIn}
-use Rattle.packet.specs.Change.{Changed}
+use Rattle.packet.specs.Entry.{Cut, found, stops, cutOf, noEntry, span, Listed, uncut, listed, listOf, filled, readSpan, readEntry, foundIn}
 use Rattle.packet.proofs.Laws.{Splits, cut-told}
 use Rattle.packet_theorems.proofs.Outcome.{ComesList, comes-list}
 use Rattle.packet_theorems.proofs.Theorems.{entry-span}
@@ -83,6 +83,6 @@ pub cut-span : (s : List ℕ) (list k room : ℕ) → k < listOf s list .cutting
 cut-span s list k room h = entry-span s k room (getD (filled (listOf s list .entries) list) k noEntry) (cut-nth s list k h)
 
 -- Demand 3, for the list: a packet that is cut, with other bytes inside its values and nothing else changed, is cut into the same list.
-pub same-list : (s t : List ℕ) (es : List Entry) (n room : ℕ) → cutOf s ≡ found es n → Changed es s t → listOf t room ≡ listOf s room
+pub same-list : (s t : List ℕ) (es : List Entry) (n room : ℕ) → cutOf s ≡ found es n → Changed (map span es) s t → listOf t room ≡ listOf s room
 unfolding listOf
 same-list s t es n room e c = rw (same-cut s t es n e c)

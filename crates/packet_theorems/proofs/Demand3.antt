@@ -1,47 +1,36 @@
 -- Demand 3, sentence by sentence, over what the public calls come to.
-use Rattle.wire.proofs.Kit.{ℕ, _+_, _≤_, _<_, _≡_, refl, sym, _∙_, _≢_, List, [], _∷_, append-nil, arith, le-refl, length, getD, lt-ltb, le-ltb}
+use Rattle.wire.proofs.Kit.{ℕ, _≤_, _<_, _≡_, refl, sym, _∙_, _≢_, List, [], _∷_, append-nil, arith, length, getD, length-take, length-drop, lt-ltb, le-ltb}
+use Rattle.wire.proofs.Kit.{map}
 use Rattle.wire.specs.Number.{Bytes}
 use Rattle.wire.specs.Field.{bytesAt}
-use Rattle.wire.proofs.Stands.{Here, length-bytes}
+use Rattle.wire.proofs.Stands.{Here}
 use Rattle.image.specs.Whole.{refused}
 use Rattle.amf0.specs.Reading.{readOf}
 use Rattle.packet.specs.declared.head.Entry.{Entry}
 use Rattle.packet.specs.Reading.{wholeOf}
-use Rattle.packet.specs.Entry.{found, cutOf, noEntry, spanOf, readEntry}
-use Rattle.packet.specs.Change.{Changed, Judged, Keeps, Agrees}
+use Rattle.packet.specs.Entry.{found, cutOf, noEntry, spanOf, readEntry, span}
+use Rattle.packet.specs.Change.{Keeps, Agrees}
 use Rattle.packet_theorems.specs.Cuts.{Exact}
-use Rattle.packet_theorems.proofs.Same.{Same, same-bytes}
-use Rattle.packet_theorems.proofs.Frame.{cut-read, lies-told, lies-apart, beside-at}
-use Rattle.packet_theorems.proofs.Judge.{judged}
+use Rattle.packet_theorems.proofs.Frame.{cut-read, Text}
 use Rattle.packet_theorems.proofs.Taken.{whole-taken}
 use Rattle.packet_theorems.proofs.Whole.{packet-told, packet-shallow}
 use Rattle.packet_theorems.proofs.Agree.{agree}
 use Rattle.packet_theorems.proofs.CutExactly.{exactly-declares}
-
--- where two packets are as long, and the same from p on for m bytes
-same-row : (s t : List ℕ) (p m : ℕ) → length t ≡ length s → ((i : ℕ) → p ≤ i → i < p + m → getD t i 0 ≡ getD s i 0) → bytesAt m t p ≡ bytesAt m s p
-same-row s t p m l h =
-    let same : Same s t p (p + m) = record { long = l; same = h } in
-    same-bytes same m p (le-refl p) (le-refl (p + m))
+use Rattle.amf0.specs.Span.{Changed, Judged}
+use Rattle.amf0_theorems.proofs.Spans.{value-judged, lies-within, own-same, one-changed, others-same}
 
 -- "Take a packet that its declared lengths cut exactly. Change bytes inside any of its values and nothing else."
-module _ (s t : List ℕ) (es : List Entry) (n : ℕ) (cut : cutOf s ≡ found es n) (change : Changed es s t) where
+module _ (s t : List ℕ) (es : List Entry) (n : ℕ) (cut : cutOf s ≡ found es n) (change : Changed (map span es) s t) where
   -- Every flag, every place and length of a text, and every span is as before: the changed packet is cut into the same entries.
   pub same-cut : cutOf t ≡ cutOf s
   same-cut = cut-read s es n cut .again t change ∙ sym cut
 
   -- Every name and address is as before: the texts of an entry, a header's name or a message's target and response, are the same bytes.
   pub same-first : (k : ℕ) → k < length es → let e = getD es k noEntry in bytesAt (e .length1) t (e .place1) ≡ bytesAt (e .length1) s (e .place1)
-  same-first k h =
-      let e = getD es k noEntry in
-      let r = lies-told 4 n es k (cut-read s es n cut .lies) h in
-      same-row s t (e .place1) (e .length1) (change .long) λ i j l. change .same i (r .first i j l .1)
+  same-first k h = own-same noEntry (cut-read s es n cut .lies) change k _ _ h λ i. Text.first
 
   pub same-second : (k : ℕ) → k < length es → let e = getD es k noEntry in bytesAt (e .length2) t (e .place2) ≡ bytesAt (e .length2) s (e .place2)
-  same-second k h =
-      let e = getD es k noEntry in
-      let r = lies-told 4 n es k (cut-read s es n cut .lies) h in
-      same-row s t (e .place2) (e .length2) (change .long) λ i j l. change .same i (r .second i j l .1)
+  same-second k h = own-same noEntry (cut-read s es n cut .lies) change k _ _ h λ i. Text.second
 
   -- Read by entry with the same room, every untouched value answers as before.
   pub untouched : (k room : ℕ) → spanOf t (getD es k noEntry) ≡ spanOf s (getD es k noEntry) → readEntry t k room ≡ readEntry s k room
@@ -53,11 +42,10 @@ module _ (s t : List ℕ) (es : List Entry) (n : ℕ) (cut : cutOf s ≡ found e
   pub changed : (k room : ℕ) → k < length es → let e = getD es k noEntry in Judged (e .place) (spanOf t e) (readOf (spanOf t e) room) (readEntry t k room)
   unfolding readEntry
   changed k room h =
-      let e : Entry = getD es k noEntry in
       let c = cut-read s es n cut in
-      let r = lies-told 4 n es k (c .lies) h in
-      let l : length (spanOf t e) ≡ e .length = length-bytes (e .length) t (e .place) (omega (arith, change .long)) in
-      rw (same-cut, cut, lt-ltb k (length es) h) (judged (e .place) (spanOf t e) (e .length) room l (omega (arith, change .long)))
+      let e = lies-within noEntry k (c .lies) h .1 in
+      rw (same-cut, cut, lt-ltb k (length es) h)
+      (value-judged t (span (getD es k noEntry)) room (omega (arith, c .small, change .long)) (omega (arith, c .all, change .long)))
 
   -- No entry has another number.
   pub past : (k room : ℕ) → length es ≤ k → readEntry t k room ≡ refused 8
@@ -65,13 +53,11 @@ module _ (s t : List ℕ) (es : List Entry) (n : ℕ) (cut : cutOf s ≡ found e
   past k room h = rw (same-cut, cut, le-ltb k (length es) h)
 
 -- Where bytes inside one value alone are changed, one marker or all of it, every other entry answers as before.
-pub neighbours : (s t : List ℕ) (es : List Entry) (n j : ℕ) → cutOf s ≡ found es n → j < length es → Changed (getD es j noEntry ∷ []) s t
+pub neighbours : (s t : List ℕ) (es : List Entry) (n j : ℕ) → cutOf s ≡ found es n → j < length es → Changed (span (getD es j noEntry) ∷ []) s t
     → (k room : ℕ) → k < length es → k ≢ j → readEntry t k room ≡ readEntry s k room
 neighbours s t es n j cut h change k room i other =
-    let e = getD es k noEntry in
     let lies = cut-read s es n cut .lies in
-    let all : Changed es s t = record { long = change .long; same = λ p b. change .same p (beside-at p es j b h) } in
-    untouched s t es n cut all k room (same-row s t (e .place) (e .length) (change .long) λ p a b. change .same p (lies-apart 4 n es j k p lies h i other a b))
+    untouched s t es n cut (one-changed noEntry lies j h change) k room (others-same noEntry lies j h change k i other)
 
 -- Where the whole-packet reader accepts a packet with exact lengths, entry reading in that room gives the same values.
 pub agreement : (s : List ℕ) (room : ℕ) → Bytes s → Exact s → wholeOf s room .reading .answer ≡ 0 → Agrees s room
@@ -84,7 +70,7 @@ agreement s room bs x e =
 -- Demand 3 as a whole.
 pub record Demand3 : Type 0 where
   -- Take a packet that its declared lengths cut exactly. Change bytes inside any of its values and nothing else.
-  pub kept : (s t : List ℕ) (es : List Entry) (n : ℕ) → cutOf s ≡ found es n → Changed es s t → Keeps s t es
+  pub kept : (s t : List ℕ) (es : List Entry) (n : ℕ) → cutOf s ≡ found es n → Changed (map span es) s t → Keeps s t es
   -- Where the whole-packet reader accepts a packet with exact lengths, entry reading in that room gives the same values.
   pub agreed : (s : List ℕ) (room : ℕ) → Bytes s → Exact s → wholeOf s room .reading .answer ≡ 0 → Agrees s room
 

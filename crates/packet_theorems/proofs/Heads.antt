@@ -1,6 +1,6 @@
 -- The head of an entry against the bytes that stand in the packet: what stands there is read, and what was read stood there.
-use Rattle.wire.proofs.Kit.{ℕ, zero, suc, _+_, _^_, _≤_, _<_, _≡_, refl, sym, ap, ap₂, _∙_, List, [], _∷_, _++_, append-assoc, Bool, true, false, arith, length}
-use Rattle.wire.proofs.Kit.{length-append, take, drop, take-length, take-append-seam, ltb, eqb, lit<, lt-ltb}
+use Rattle.wire.proofs.Kit.{ℕ, zero, suc, _+_, _^_, _≤_, _<_, _≡_, refl, ap, _∙_, List, [], _∷_, _++_, append-assoc, Bool, true, false, arith, length}
+use Rattle.wire.proofs.Kit.{length-append, drop, ltb, eqb, lit<, lt-ltb}
 use Rattle.wire.specs.Choice.{pick}
 use Rattle.wire.specs.Number.{digits, Bytes}
 use Rattle.wire.specs.Utf8.{utf8}
@@ -8,12 +8,13 @@ use Rattle.wire.specs.Field.{to, textAt}
 use Rattle.wire.specs.Limit as limit
 use Rattle.wire.specs.declared.cursor.Text.the-variants as Text
 use Rattle.wire.specs.declared.cursor.Cursor.{Cursor}
-use Rattle.wire.proofs.Stands.{Here, cut, skip, join, inside, there, bytes-here, text-at, byte-at, u32-at, endText, end8, end32}
+use Rattle.wire.proofs.Stands.{Here, cut, skip, inside, there, bytes-here, text-at, byte-at, u32-at, endText, end8, end32}
 use Rattle.image.specs.Record.{bitOf as bit}
 use Rattle.image.specs.Taking.{Fits}
 use Rattle.amf0.specs.Standard.{UTF-8}
 use Rattle.amf0.specs.Standard.UTF-8.{short}
 use Rattle.amf0.specs.Shown as Shown
+use Rattle.amf0_theorems.proofs.Sound.{ends-at}
 use Rattle.packet.specs.declared.head.Entry.{Entry}
 use Rattle.packet.specs.declared.head.Head.{Head}
 use Rattle.packet.specs.declared.head.Head.the-variants as Head
@@ -120,19 +121,10 @@ pub record Stood (Kind : Label → Type 0) (s : List ℕ) (at : ℕ) : Type 0 wh
   pub here : Here s at (row ++ digits 4 declared) rest
 
 -- a header's name and flag, by the flag's byte
-flag-head : (t : List ℕ) (b : ℕ) → b < 256 → UTF-8 t (digits 2 (length t) ++ t)
-    → packet.Head (Label.header t (eqb (bitOf b) 1)) ((digits 2 (length t) ++ t) ++ (b ∷ []))
-flag-head t zero h u = packet.Head.header-false u
-flag-head t (suc zero) h u = packet.Head.header-true u
-flag-head t (suc (suc b)) h u = rw (lt-ltb 0 (suc (suc b)) (omega arith)) (packet.Head.header-above (suc (suc b)) (omega arith) h u)
-
--- a row, and another where it ends
-pub ends-at : {s x r y z : List ℕ} {at next : ℕ} → Here s at x r → next ≡ at + length x → Here s next y z → Here s at (x ++ y) z
-ends-at h e g = join h refl (rw e at g)
-
--- a row as long as all of s, at its front, is s
-pub all-here : {s x r : List ℕ} → Here s 0 x r → length x ≡ length s → x ≡ s
-all-here {s} {x} {r} h l = sym (take-append-seam x r) ∙ (ap₂ take l (sym (h .same)) ∙ take-length s)
+pub flag-head : {t x : List ℕ} (b : ℕ) → b < 256 → UTF-8 t x → packet.Head (Label.header t (eqb (bitOf b) 1)) (x ++ (b ∷ []))
+flag-head zero h u = packet.Head.header-false u
+flag-head (suc zero) h u = packet.Head.header-true u
+flag-head (suc (suc b)) h u = rw (lt-ltb 0 (suc (suc b)) (omega arith)) (packet.Head.header-above (suc (suc b)) (omega arith) h u)
 
 module _ (s : List ℕ) (bs : Bytes s) (at : ℕ) where
   header-stood : (e : Entry) (c : Cursor) → headerAt s at ≡ Head.Got e c → Stood IsHeader s at
@@ -149,7 +141,7 @@ module _ (s : List ℕ) (bs : Bytes s) (at : ℕ) where
         rest = drop (at + 2 + length t + 1 + 4) s;
         declared = d;
         kind = tt;
-        head = flag-head t b (bytes-here g bs .0) (short t l u);
+        head = flag-head b (bytes-here g bs .0) (short t l u);
         small = k .bound;
         here = ends-at (ends-at h (omega arith) g) (simp length-append (omega arith)) (k .here);
       }

@@ -1,6 +1,6 @@
 -- Entries in a row against the standard's packet: what stands there is read and shown, what was read stood there, and it is no other.
 use Rattle.wire.proofs.Kit.{ℕ, zero, suc, _+_, _^_, _≤_, _<_, _≡_, refl, sym, ap, ap₂, _∙_, List, [], _∷_, _++_, append-assoc, arith, length, take, drop}
-use Rattle.wire.proofs.Kit.{length-append, take-append-seam, drop-append-seam}
+use Rattle.wire.proofs.Kit.{length-append, take-append-seam, drop-append-seam, map, map-append, true, false}
 use Rattle.wire.specs.Number.{digits, Bytes}
 use Rattle.wire.specs.Limit as limit
 use Rattle.wire.specs.Field.{to}
@@ -10,23 +10,29 @@ use Rattle.image.specs.declared.record.Record.{Record}
 use Rattle.image.specs.Due.{stop, Ends}
 use Rattle.image.specs.Whole.{bytes}
 use Rattle.amf0.specs.Reading.{value, topValue}
-use Rattle.amf0.specs.Standard.{Sort}
-use Rattle.amf0.specs.Shown.{Shows}
+use Rattle.amf0.specs.Shown.{Shows, laid}
 use Rattle.amf0_theorems.proofs.Telling as telling
-use Rattle.amf0_theorems.proofs.Spelling.{shown}
+use Rattle.amf0_theorems.proofs.Spelling.{shown, spelled}
 use Rattle.amf0_theorems.proofs.Sound as soundness
 use Rattle.amf0_theorems.proofs.Theorems as amf0
-use Rattle.amf0_theorems.proofs.Sound.{bind-ends}
+use Rattle.amf0_theorems.proofs.Sound.{bind-ends, ends-at}
+use Rattle.amf0_theorems.proofs.Spans.{ends-bind}
 use Rattle.packet.specs.declared.head.Entry.{Entry}
-use Rattle.packet.specs.declared.head.Head.{Head}
 use Rattle.packet.specs.Head.{headAt}
 use Rattle.packet.specs.Packet.{Label, Item, Items}
 use Rattle.packet.specs.Packet as packet
 use Rattle.packet.specs.Shown.{Names, ShowsItems, Shallow}
 use Rattle.packet.specs.Reading.{recordOf, entriesAt}
 use Rattle.packet_theorems.proofs.Same.{onHead}
-use Rattle.packet_theorems.proofs.Heads.{Stands, Stood, Kinded, group, ends-at}
-use Rattle.packet_theorems.proofs.Agree.{bytes-bind, ends-bind, Exactly}
+use Rattle.packet_theorems.proofs.Heads.{Stands, Kinded, group}
+use Rattle.packet_theorems.proofs.Agree.{Exactly}
+use Rattle.image.proofs.Settle.{bytes-bind}
+use Rattle.image.specs.declared.record.Record.the-variants as R
+use Rattle.image.specs.Record.{unplaced}
+use Rattle.amf0_theorems.proofs.Telling.{recordsOf, bytes-laid}
+use Rattle.amf0_theorems.proofs.Alike.{ofTree, Of, read}
+use Rattle.amf0_theorems.proofs.Puts.{laid-append}
+use Rattle.packet.specs.Written.{Labelled, Spells}
 
 -- ---- what stands there
 
@@ -48,10 +54,33 @@ abbrev pub ExactItems : {Kind : Label → Type 0} {is : List Item} {x : List ℕ
 ExactItems Items.none = Unit {0}
 ExactItems (Items.more {d} {y} k h b v i) = (d ≡ length y) × ExactItems i
 
+-- the records of entries, but for places
+abbrev ofLabel : Label → Record
+ofLabel (Label.header name flag) = R.Header 0 (length name) flag
+ofLabel (Label.message target response) = R.Message 0 (length target) 0 (length response)
+
+abbrev pub ofItems : List Item → List Record
+ofItems [] = []
+ofItems (i ∷ is) = ofLabel (i .label) ∷ (ofTree (i .value) [] ++ ofItems is)
+
+-- the record of an entry is known by its label but for places
+record-alike : (s : List ℕ) (l : Label) (e : Entry) → Labelled s l e → unplaced (recordOf e) ≡ ofLabel l
+record-alike s (Label.header name true) e g = rw (g .kind, g .bit) (ap (λ k. R.Header 0 k true) (g .first .long))
+record-alike s (Label.header name false) e g = rw (g .kind, g .bit) (ap (λ k. R.Header 0 k false) (g .first .long))
+record-alike s (Label.message target response) e g = rw (g .kind) (ap₂ (λ k j. R.Message 0 k 0 j) (g .first .long) (g .second .long))
+
+-- image bytes of entries that were read
+pub record Imaged (Kind : Label → Type 0) (s : List ℕ) (is : List Item) (image : List ℕ) : Type 0 where
+  pub records : List Record
+  pub spells : Spells s Kind is records
+  pub alike : map unplaced records ≡ ofItems is
+  pub lies : image ≡ laid records
+
 -- a row of entries that stands at a place is read, and its image shows it
 pub record Told (kind : ℕ) {Kind : Label → Type 0} {is : List Item} {x : List ℕ} (i : Items Kind is x) (s : List ℕ) (at z : ℕ) : Type 0 where
   pub ends : Ends (entriesAt kind s (length is) at) z
   pub shows : length s ≤ limit.bytes → ShowsItems s is (bytes (entriesAt kind s (length is) at))
+  pub imaged : length s ≤ limit.bytes → Imaged Kind s is (bytes (entriesAt kind s (length is) at))
   pub exact : ExactItems i → Exacted kind s (length is) at z
 
 module _ {kind : ℕ} {Kind : Label → Type 0} (k : Kinded kind Kind) where
@@ -70,48 +99,46 @@ module _ {kind : ℕ} {Kind : Label → Type 0} (k : Kinded kind Kind) where
   unfolding entriesAt bytes
   items-told Items.none s r at h deep =
       let e : at + 0 ≡ at = omega arith in
-      record { ends = e; shows = λ l. ShowsItems.none; exact = λ t. record { entries = []; count = refl; exactly = rw e Exactly.none } }
+      record {
+        ends = e;
+        shows = λ l. ShowsItems.none;
+        imaged = λ l. record { records = []; spells = Spells.none; alike = refl; lies = refl };
+        exact = λ t. record { entries = []; count = refl; exactly = rw e Exactly.none };
+      }
   items-told (Items.more {l} {d} {v} {is} {x} {y} {z} is-kind h b e i) s r at g deep =
       let f : First kind s at l x d y z r = first is-kind h b g in
       let p = f .head .entry .place in
       go f (telling.reads limit.levels s (z ++ r) p e (f .value) (deep .0)) (shown s (z ++ r) p e (f .value) (deep .0))
-      (items-told i s r (p + length y) (f .behind) (deep .1))
+      (read s y (z ++ r) p e (f .value) (deep .0)) (items-told i s r (p + length y) (f .behind) (deep .1))
     where
       go : (f : First kind s at l x d y z r) → telling.Reads limit.levels s (f .head .entry .place) (f .head .entry .place + length y) v
-          → (length s ≤ limit.bytes → Shows s v (bytes (topValue s (f .head .entry .place))))
+          → (length s ≤ limit.bytes → Shows s v (bytes (topValue s (f .head .entry .place)))) → (length s ≤ limit.bytes → Of s (f .head .entry .place) v)
           → Told kind i s (f .head .entry .place + length y) (f .head .entry .place + length y + length z)
           → Told kind (Items.more {l = l} {d = d} {v = v} {is = is} {x = x} {y = y} {z = z} is-kind h b e i) s at (at + length (x ++ (digits 4 d ++ (y ++ z))))
-      go f a w t =
+      go f a w o t =
           let p = f .head .entry .place in
           let u = topValue s p in
+          let same = bytes-bind u (entriesAt kind s (length is)) (p + length y) (a .ends) in
           rw (f .long) (record {
             ends = rw (f .head .read) (ends-bind u (entriesAt kind s (length is)) (p + length y) (p + length y + length z) (a .ends) (t .ends));
-            shows = λ l.
-                rw (f .head .read, bytes-bind u (entriesAt kind s (length is)) (p + length y) (a .ends))
-                (ShowsItems.more (f .head .fits l) (f .head .names) (w l) (t .shows l));
-            exact = λ o.
-                let same : f .head .entry .length ≡ length y = f .head .declared ∙ o .0 in
-                let m = t .exact (o .1) in
+            shows = λ b. rw (f .head .read, same) (ShowsItems.more (f .head .fits b) (f .head .names) (w b) (t .shows b));
+            imaged = λ b.
+                let m = t .imaged b in
+                record {
+                  records = recordOf (f .head .entry) ∷ (recordsOf u ++ m .records);
+                  spells = Spells.more is-kind (f .head .fits b) (f .head .names) (o b .right) (spelled s v (recordsOf u) (a .tells)) (m .spells);
+                  alike = rw (record-alike s l (f .head .entry) (f .head .labelled), map-append unplaced (recordsOf u) (m .records), o b .same, m .alike);
+                  lies = rw (f .head .read, same, laid-append (recordsOf u) (m .records), m .lies, bytes-laid u);
+                };
+            exact = λ x.
+                let same : f .head .entry .length ≡ length y = f .head .declared ∙ x .0 in
+                let m = t .exact (x .1) in
                 record {
                   entries = f .head .entry ∷ m .entries;
                   count = ap suc (m .count);
                   exactly = Exactly.more {es = m .entries} {z = p + length y + length z} (f .head .read) (rw same (a .ends)) (rw same (m .exactly));
                 };
           })
-
-  -- what is read of a row of entries goes to no depth over the limit
-  pub items-shallow : {is : List Item} {x : List ℕ} (i : Items Kind is x) (s r : List ℕ) (at z : ℕ) → Bytes s → Here s at x r
-      → Ends (entriesAt kind s (length is) at) z → Shallow limit.levels is
-  unfolding entriesAt
-  items-shallow Items.none s r at n bs g ends = tt
-  items-shallow (Items.more {l} {d} {v} {is} {x} {y} {z} is-kind h b e i) s r at n bs g ends =
-      let f : First kind s at l x d y z r = first is-kind h b g in
-      let p = f .head .entry .place in
-      bind-ends (topValue s p) (entriesAt kind s (length is)) n (rw (f .head .read) at ends) λ m a c.
-      let t = soundness.sound limit.levels s p m bs a in
-      let u = amf0.unique (t .tree) v (t .row) y (t .rest) (z ++ r) (t .encodes) e (sym (t .here .same) ∙ f .value .same) in
-      let is-m : m ≡ p + length y = t .next ∙ ap (λ w. p + length w) (u .1) in
-      (rw (u .0) at (t .deep), items-shallow i s r (p + length y) n bs (f .behind) (rw is-m at c))
 
 -- ---- what was read
 
@@ -138,22 +165,20 @@ module _ {kind : ℕ} {Kind : Label → Type 0} (k : Kinded kind Kind) (s : List
       let is : to (b .entry .place) ≡ c = cc (sym h ∙ b .read) in
       let at-p : c .at ≡ b .entry .place = ap (λ (x : Cursor). x .at) (sym is) in
       bind-ends (topValue s (c .at)) (entriesAt kind s n) z ends λ m f g.
-      one a (soundness.sound limit.levels s (c .at) m bs f) (items-found n m z g) (simp length-append (omega (arith, b .place)))
-    where
-      one : {p m : ℕ} (a : Stood Kind s at) → soundness.Found Sort.value limit.levels s p m → Found Kind s n m z → p ≡ at + length (a .row ++ digits 4 (a .declared))
-          → Found Kind s (suc n) at z
-      one {p} {m} a v r e =
-          let d = digits 4 (a .declared) in
-          record {
-            items = record { label = a .label; declared = a .declared; value = v .tree } ∷ r .items;
-            row = a .row ++ (d ++ (v .row ++ r .row));
-            rest = r .rest;
-            encodes = Items.more (a .kind) (a .head) (a .small) (v .encodes) (r .encodes);
-            here = group (a .row) d (v .row ++ r .row) (ends-at (a .here) e (ends-at (v .here) (v .next) (r .here)));
-            count = ap suc (r .count);
-            next = simp length-append (omega (arith, r .next, v .next, simp length-append at e));
-            shallow = (v .deep, r .shallow);
-          }
+      let v = soundness.sound limit.levels s (c .at) m bs f in
+      let r = items-found n m z g in
+      let d = digits 4 (a .declared) in
+      let e : c .at ≡ at + length (a .row ++ d) = simp length-append (omega (arith, b .place)) in
+      record {
+        items = record { label = a .label; declared = a .declared; value = v .tree } ∷ r .items;
+        row = a .row ++ (d ++ (v .row ++ r .row));
+        rest = r .rest;
+        encodes = Items.more (a .kind) (a .head) (a .small) (v .encodes) (r .encodes);
+        here = group (a .row) d (v .row ++ r .row) (ends-at (a .here) e (ends-at (v .here) (v .next) (r .here)));
+        count = ap suc (r .count);
+        next = simp length-append (omega (arith, r .next, v .next, simp length-append at e));
+        shallow = (v .deep, r .shallow);
+      }
 
 -- ---- no other
 

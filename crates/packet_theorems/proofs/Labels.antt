@@ -1,5 +1,5 @@
 -- The label of an entry, and its head, are gone over just as the grammar of refusals has them.
-use Rattle.wire.proofs.Kit.{ℕ, zero, suc, _+_, _<_, _≡_, refl, sym, ap, _∙_, List, [], _∷_, _++_, append-nil, true, false, arith, length, getD, le-leb, lt-leb}
+use Rattle.wire.proofs.Kit.{ℕ, _+_, _<_, _≡_, refl, sym, ap, _∙_, List, [], _∷_, _++_, append-nil, arith, length, getD, eqb, le-leb, lt-leb}
 use Rattle.wire.specs.Number.{digits, number, Bytes}
 use Rattle.wire.specs.Field.{to, bytesAt, u8At, u32At, textAt, got8, got32, gotText}
 use Rattle.wire.specs.declared.cursor.Text.{Text}
@@ -15,6 +15,7 @@ use Rattle.packet.specs.Head.{bitOf, entry, headerAt, messageAt, headAt, gotHea
 use Rattle.packet.specs.Packet as packet
 use Rattle.packet.specs.Packet.{Label, IsHeader, IsMessage}
 use Rattle.packet_theorems.specs.Refusal.{LeadsLabel}
+use Rattle.packet_theorems.proofs.Heads.{flag-head}
 use Rattle.packet_theorems.proofs.Parts.{Part, goes, halts, _then_, then-then, Follows, Plain, plain, Both, LeadsBoth, in-turn, turned, Some, numberless, Only, Number, numberBy, number-follows, Texted, textBy, text-follows}
 
 -- ---- the label of an entry
@@ -24,12 +25,6 @@ pub record Labelled (Kind : Label → Type 0) (x : List ℕ) : Type 0 where
   pub label : Label
   pub kind : Kind label
   pub head : packet.Head label x
-
--- a header's flag is any byte
-flagged : (k x : List ℕ) (b : ℕ) → b < 256 → UTF-8 k x → Labelled IsHeader (x ++ (b ∷ []))
-flagged k x zero l u = record { label = Label.header k false; kind = tt; head = packet.Head.header-false u }
-flagged k x (suc zero) l u = record { label = Label.header k true; kind = tt; head = packet.Head.header-true u }
-flagged k x (suc (suc b)) l u = record { label = Label.header k true; kind = tt; head = packet.Head.header-above (suc (suc b)) (omega arith) l u }
 
 -- a byte is a number in one byte
 digit : (b : ℕ) → b < 256 → digits 1 b ≡ b ∷ []
@@ -69,7 +64,7 @@ messageBy s at = textBy s at then λ v q. textBy s q
 
 header-follows : (s : List ℕ) → Bytes s → (at : ℕ) → Follows (Plain (Labelled IsHeader)) (λ r. LeadsLabel IsHeader) s at (headerBy s at)
 header-follows s bs at =
-    turned to-label from-label to-leads from-leads
+    turned to-label from-label (λ r x f e. to-leads r x f) from-leads
     (in-turn (λ v q. numberBy 1 s q then λ b e. goes 0 e) (textBy s at) (text-follows s bs at) λ v x r t h.
     numberless (numberBy 1 s (at + length x)) (number-follows 1 s bs (at + length x) (omega arith)))
   where
@@ -77,7 +72,7 @@ header-follows s bs at =
     to-label v x (Both.both {x = y} (Plain.plain t) (Plain.plain n)) = plain (go (n .number) (n .stands))
       where
         go : (b : ℕ) {z : List ℕ} → Number 1 b z → Labelled IsHeader (y ++ z)
-        go b (Number.is l) = rw (digit b l) (flagged (t .letters) y b l (t .utf-8))
+        go b (Number.is l) = rw (digit b l) (record { label = Label.header (t .letters) (eqb (bitOf b) 1); kind = tt; head = flag-head b l (t .utf-8) })
 
     from-label : (v : ℕ) (x r : List ℕ) → Here s at x r → Plain (Labelled IsHeader) v x → Both (Plain Texted) (λ v. Plain (Some (Number 1))) v x
     from-label v x r h (Plain.plain l) = header-parts (l .label) x bs (l .kind) (l .head) h
@@ -97,7 +92,7 @@ header-follows s bs at =
 
 message-follows : (s : List ℕ) → Bytes s → (at : ℕ) → Follows (Plain (Labelled IsMessage)) (λ r. LeadsLabel IsMessage) s at (messageBy s at)
 message-follows s bs at =
-    turned to-label from-label to-leads from-leads
+    turned to-label from-label (λ r x f e. to-leads r x f) from-leads
     (in-turn (λ v q. textBy s q) (textBy s at) (text-follows s bs at) λ v x r t h. text-follows s bs (at + length x))
   where
     to-label : (v : ℕ) (x : List ℕ) → Both (Plain Texted) (λ v. Plain Texted) v x → Plain (Labelled IsMessage) v x

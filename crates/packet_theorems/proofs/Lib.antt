@@ -4,7 +4,6 @@
 pub mod Demand3
 pub mod Same
 pub mod Frame
-pub mod Judge
 pub mod Heads
 pub mod Agree
 pub mod Examples

@@ -3,29 +3,28 @@ use Rattle.wire.proofs.Kit.{ℕ, _+_, _*_, _≤_, _<_, _≡_, refl, sym, ap, ap
 use Rattle.wire.proofs.Kit.{take-append-seam, take-length, le-leb, lt-ltb}
 use Rattle.wire.specs.Number.{Bytes}
 use Rattle.wire.specs.Limit as limit
-use Rattle.wire.proofs.Stands.{stood, bytes-here, length-bytes}
-use Rattle.image.specs.Due.{Due, Ends}
+use Rattle.wire.proofs.Stands.{stood, length-bytes}
+use Rattle.image.specs.Due.{Due}
 use Rattle.image.specs.Whole.{Whole, bytes, accepted}
 use Rattle.amf0.specs.Reading.{value, topValue}
+use Rattle.amf0.specs.Span.{oneValue}
 use Rattle.amf0.specs.Standard.{Sort, Tree, depth, Encodes}
 use Rattle.amf0.specs.Shown.{Shows}
+use Rattle.amf0_theorems.proofs.Spans.{length-based, Takes, past, lies-within, alone, all-value}
 use Rattle.amf0_theorems.proofs.Telling as telling
 use Rattle.amf0_theorems.proofs.Spelling.{shown}
-use Rattle.amf0.proofs.Outcome as outcome
-use Rattle.amf0_theorems.proofs.Sound as soundness
-use Rattle.amf0.proofs.Outcome.{ended-at}
+use Rattle.amf0_theorems.proofs.Call.{Taken, ended-at, value-bounded}
 use Rattle.packet.specs.declared.head.Entry.{Entry}
 use Rattle.packet.specs.Packet.{Packet, Encoded}
 use Rattle.packet.specs.Shown.{ShowsPacket, Within}
 use Rattle.packet.specs.Reading.{packetAt, incompleteOf, wholeOf}
 use Rattle.packet.specs.declared.entry.Found.the-variants as Found
-use Rattle.packet.specs.Entry.{found, cutOf, noEntry, spanOf, readEntry, foundIn}
-use Rattle.packet_theorems.proofs.Agree.{alone, good-entry, based-ends}
-use Rattle.packet_theorems.proofs.Frame.{cut-read, lies-told}
-use Rattle.packet_theorems.proofs.Heads.{all-here}
-use Rattle.packet_theorems.proofs.Judge.{length-based}
-use Rattle.packet_theorems.proofs.Outcome.{ComesEntry, comes-entry}
-use Rattle.packet_theorems.proofs.Taken.{thrice, roomy, Taken, taken, whole-taken}
+use Rattle.packet.specs.Entry.{found, cutOf, noEntry, span, spanOf, readEntry, foundIn}
+use Rattle.packet_theorems.proofs.Agree.{good-entry}
+use Rattle.packet_theorems.proofs.Frame.{cut-read}
+use Rattle.packet_theorems.proofs.Theorems.{entry-takes}
+use Rattle.packet_theorems.proofs.Taken.{roomy, taken, whole-taken}
+use Rattle.packet_theorems.proofs.Outcome.{packet-bounded}
 use Rattle.packet_theorems.proofs.Whole.{packet-told, FoundPacket, packet-found, packet-unique}
 
 -- ---- the readings and the standard
@@ -39,7 +38,7 @@ pub record Means (s : List ℕ) (w : Whole) : Type 0 where
   pub made : w .reading .made ≡ length (w .bytes)
   pub used : w .reading .used ≤ length s
 
-means : (s : List ℕ) (room n : ℕ) (w : Whole) → Bytes s → Taken s room n w → Means s w
+means : (s : List ℕ) (room n : ℕ) (w : Whole) → Bytes s → Taken s (packetAt s) room n w → Means s w
 means s room n w bs t = rw (t .result) (go (packet-found s n bs (t .ends)))
   where
     go : FoundPacket s n → Means s (accepted n (bytes (packetAt s)))
@@ -76,7 +75,7 @@ pub complete-incomplete : (p : Packet) (x r : List ℕ) (room : ℕ) → Encoded
 complete-incomplete p x r room e l h i =
     let t = packet-told (x ++ r) r e (record { same = refl }) l in
     let d : Due = packetAt (x ++ r) in
-    rw (roomy (x ++ r) room h (omega (arith, thrice (x ++ r))), ended-at d (bytes d) (length x) (t .ends))
+    rw (roomy (x ++ r) room h (omega (arith, packet-bounded (x ++ r) .small)), ended-at d (bytes d) (length x) (t .ends))
     (record { answer = refl; used = refl; shows = t .shows h })
 
 -- And by the whole reading, where nothing follows it.
@@ -86,7 +85,7 @@ unfolding wholeOf
 complete p s room e l h i =
     let t = packet-told s [] e (record { same = sym (append-nil s) }) l in
     let d : Due = packetAt s in
-    rw (roomy s room h (omega (arith, thrice s)), ended-at d (bytes d) (length s) (t .ends), le-leb (length s) (length s) (le-refl (length s)))
+    rw (roomy s room h (omega (arith, packet-bounded s .small)), ended-at d (bytes d) (length s) (t .ends), le-leb (length s) (length s) (le-refl (length s)))
     (record { answer = refl; used = refl; shows = t .shows h })
 
 -- Within the limit, and where the room is three times the input, the whole reading accepts exactly the standard's packets.
@@ -111,25 +110,11 @@ pub record Gives (s : List ℕ) (t : Tree Sort.value) (n : ℕ) (w : Whole) : Ty
   pub used : w .reading .used ≡ n
   pub shows : Shows s t (w .bytes)
 
--- the tree that all of x encodes
-pub record AllValue (x : List ℕ) : Type 0 where
-  pub tree : Tree Sort.value
-  pub encodes : Encodes Sort.value tree x
-  pub deep : depth tree ≤ limit.levels
-
--- a value whose reading ends with x
-pub all-value : (x : List ℕ) → Bytes x → Ends (topValue x 0) (length x) → AllValue x
-all-value x bs ends =
-    let r = soundness.sound limit.levels x 0 (length x) bs ends in
-    record { tree = r .tree; encodes = rw (all-here (r .here) (omega (arith, r .next))) at (r .encodes); deep = r .deep }
-
--- an entry's span has the bytes that it declares
-length-span : (s : List ℕ) (es : List Entry) (n k : ℕ) → cutOf s ≡ found es n → k < length es → length (spanOf s (getD es k noEntry)) ≡ getD es k noEntry .length
-length-span s es n k cut h =
-    let e : Entry = getD es k noEntry in
-    let r = lies-told 4 n es k (cut-read s es n cut .lies) h in
-    let all = cut-read s es n cut .all in
-    length-bytes (e .length) s (e .place) (omega arith)
+-- an entry's span is inside the packet
+span-inside : (s : List ℕ) (es : List Entry) (n k : ℕ) → cutOf s ≡ found es n → k < length es → past (span (getD es k noEntry)) ≤ length s
+span-inside s es n k cut h =
+    let c = cut-read s es n cut in
+    omega (arith, c .all, lies-within noEntry k (c .lies) h .1)
 
 -- the entry with the number k of a packet that is cut
 module _ (s : List ℕ) (bs : Bytes s) (es : List Entry) (n : ℕ) (cut : cutOf s ≡ found es n) (k : ℕ) (h : k < length es) where
@@ -138,9 +123,7 @@ module _ (s : List ℕ) (bs : Bytes s) (es : List Entry) (n : ℕ) (cut : cutOf 
       → Gives s t (e .length) (readEntry s k room)
   entry-gives t room x deep i =
       let e : Entry = getD es k noEntry in
-      let r = lies-told 4 n es k (cut-read s es n cut .lies) h in
-      let all = cut-read s es n cut .all in
-      let within : e .place + e .length ≤ length s = omega arith in
+      let within : e .place + e .length ≤ length s = span-inside s es n k cut h in
       let b = telling.reads limit.levels s (drop (e .place + e .length) s) (e .place) x (stood (e .length) s (e .place)) deep in
       let a = alone s (e .place) (e .length) bs within (rw (length-bytes (e .length) s (e .place) within) at (b .ends)) in
       rw (good-entry s room es n cut k e h refl (record { ends = a .ends; fits = rw length-based i }))
@@ -154,32 +137,17 @@ module _ (s : List ℕ) (bs : Bytes s) (es : List Entry) (n : ℕ) (cut : cutOf 
   -- bytes: all of them are used, and the image tells that tree.
   pub entry-complete : (t : Tree Sort.value) (room : ℕ) → let e = getD es k noEntry in
       Encodes Sort.value t (spanOf s e) → depth t ≤ limit.levels → 3 * length (spanOf s e) ≤ room → Gives s t (e .length) (readEntry s k room)
-  entry-complete t room x deep i = entry-gives t room x deep (omega (arith, outcome.thrice (spanOf s (getD es k noEntry))))
+  entry-complete t room x deep i = entry-gives t room x deep (omega (arith, value-bounded (spanOf s (getD es k noEntry)) .small))
 
   -- What is accepted is a value: the bytes of the entry's value encode a tree of the standard's, at most as deep as the limit, and the image tells it.
   pub entry-sound : (room : ℕ) → readEntry s k room .reading .answer ≡ 0 → let e = getD es k noEntry in
       (t : Tree Sort.value) × Encodes Sort.value t (spanOf s e) × (depth t ≤ limit.levels) × Gives s t (e .length) (readEntry s k room)
-  entry-sound room zero = go (readEntry s k room) (comes-entry s k room) zero
-    where
-      e : Entry
-      e = getD es k noEntry
-
-      is : foundIn (cutOf s) k ≡ Found.Is e
-      is = rw (cut, lt-ltb k (length es) h)
-
-      go : (w : Whole) → ComesEntry s k room w → w .reading .answer ≡ 0
-          → (t : Tree Sort.value) × Encodes Sort.value t (spanOf s e) × (depth t ≤ limit.levels) × Gives s t (e .length) (readEntry s k room)
-      go w (ComesEntry.none f) z = let g = sym is ∙ f in let z : _≡_ {A = ℕ} 0 1 = cc in absurd (omega arith)
-      go w (ComesEntry.no-room f i) z = absurd (omega arith)
-      go w (ComesEntry.deep p f i t) z = absurd (omega arith)
-      go w (ComesEntry.damaged a p f i t l) z = absurd (omega arith)
-      go w (ComesEntry.unused m f i t l) z = absurd (omega arith)
-      go w (ComesEntry.read {e = d} f i t) z =
-          let g = sym is ∙ f in
-          let same : d ≡ e = cc in
-          let x = spanOf s e in
-          let v = topValue x 0 in
-          let long : length x ≡ e .length = length-span s es n k cut h in
-          let ends : Ends v (length x) = rw long (based-ends (e .place) v (e .length) (rw same at t)) in
-          let r = all-value x (bytes-here (stood (e .length) s (e .place)) bs) ends in
-          (r .tree, r .encodes, r .deep, entry-gives (r .tree) room (r .encodes) (r .deep) (rw length-based at (rw same at i)))
+  entry-sound room zero =
+      let e : Entry = getD es k noEntry in
+      let t = entry-takes s k room zero in
+      let is : foundIn (cutOf s) k ≡ Found.Is e = rw (cut, lt-ltb k (length es) h) in
+      let g = sym is ∙ t .found in
+      let same : t .entry ≡ e = cc in
+      let take : Takes oneValue s (span e) room (readEntry s k room) = rw same at (t .holds .takes) in
+      let r = all-value s (span e) bs (span-inside s es n k cut h) (take .ends) in
+      (r .tree, r .encodes, r .deep, entry-gives (r .tree) room (r .encodes) (r .deep) (rw length-based at (take .fits)))

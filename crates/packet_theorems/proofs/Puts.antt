@@ -11,7 +11,7 @@ use Rattle.image.specs.declared.record.Record.the-variants as R
 use Rattle.image.specs.declared.record.Field.{Field}
 use Rattle.image.specs.Record.{_bytes_, none, fieldBytes, size}
 use Rattle.image.specs.Taking.{Fits}
-use Rattle.image.specs.Out.{Out, end, row, bytes as putOut, namedOf, sized}
+use Rattle.image.specs.Out.{Out, end, rowOf, row, bytes as putOut, namedOf, sized}
 use Rattle.amf0.specs.Standard.{depth}
 use Rattle.amf0.specs.Shown.{laid, Stands, Named, Right}
 use Rattle.amf0.specs.Written as amf0
@@ -20,7 +20,7 @@ use Rattle.amf0_theorems.proofs.Puts.{Puts, then, first, others, puts, laid-app
 use Rattle.amf0_theorems.proofs.WriteOutcome.{puts-bytes, puts-settled, puts-whole}
 use Rattle.packet.specs.Packet.{Label, Item, Packet, IsHeader, IsMessage}
 use Rattle.packet.specs.Shown.{Names, counts, Shallow, Within}
-use Rattle.packet.specs.Writing.{rowOf, label, declared, entry, entries, packet, writeOf}
+use Rattle.packet.specs.Writing.{label, declared, entry, entries, packet, writeOf}
 use Rattle.packet.specs.Written.{writeLabel, writeItems, write, Spells, Images, Writable}
 
 -- the kind of an entry with a label
@@ -38,8 +38,8 @@ message-kind (Label.message target response) k = refl
 
 -- the record of an entry is right
 pub names-named : {s : List ℕ} {l : Label} {r : Record} → Names s l r → Named s r
-names-named (Names.header b h e) = tt
-names-named (Names.message h i e o) = tt
+names-named (Names.header b h e) = (h, tt)
+names-named (Names.message h i e o) = (h, (i, tt))
 
 -- and so are those of entries in a row
 pub spells-right : {s : List ℕ} {Kind : Label → Type 0} {is : List Item} {rs : List Record} → Spells s Kind is rs → Right s rs
@@ -57,11 +57,11 @@ module _ (s : List ℕ) where
   unfolding ends
   empty = record { inside = omega arith; right = refl }
 
-  pub named : {p n : ℕ} (m a : Field) → Stands s p n → namedOf s (rowOf m a p n) ≡ true
+  pub named : {p n : ℕ} (m a : Field) → Stands s p n → namedOf s (rowOf m a none p n) ≡ true
   named {p} {n} m a h = rw (le-leb (p + n) (length s) (h .inside)) (h .right)
 
   pub row-puts : {D : Type 0} {p n e : ℕ} {x : List ℕ} {d : Out} (at : ℕ) (m a : Field) → Stands s p n → Puts D d x e
-      → Puts D (row s (rowOf m a p n) at d) ((fieldBytes m ++ (fieldBytes a ++ bytesAt n s p)) ++ x) e
+      → Puts D (row s (rowOf m a none p n) at d) ((fieldBytes m ++ (fieldBytes a ++ bytesAt n s p)) ++ x) e
   unfolding row
   row-puts {p} {n} at m a h q = rw (named m a h, le-leb (p + n) (length s) (h .inside)) (Puts.more q)
 
@@ -81,7 +81,7 @@ module _ (s : List ℕ) where
         let same : length target ≡ n = rw e at (length-bytes n s p (h .inside)) in
         let too : length response ≡ m = rw o at (length-bytes m s q (i .inside)) in
         let k : ℕ = at + size (R.Message p n q m) in
-        let y : Puts D (row s (rowOf none (2 bytes m) q m) at (end k)) ((digits 2 m ++ bytesAt m s q) ++ []) k = row-puts at none (2 bytes m) i Puts.done in
+        let y : Puts D (row s (rowOf none (2 bytes m) none q m) at (end k)) ((digits 2 m ++ bytesAt m s q) ++ []) k = row-puts at none (2 bytes m) i Puts.done in
         rw (first s image (R.Message p n q m) qs z g f, same, too, sym e, sym o)
         (row-puts at none (2 bytes n) h (rw (append-nil (digits 2 m ++ bytesAt m s q)) at y))
 
@@ -103,7 +103,7 @@ module _ (s : List ℕ) where
         λ E i. puts s image c g (laid qs ++ z) q e limit.levels (length (laid rs)) (cut (laid rs) (laid qs) j) refl i (omega arith) in
         let o = items-puts exact k y z e (skip (laid rs) (laid qs) j) (λ i. d λ w. i (w .1)) in
         let a : Puts D (label kind image s at) (writeLabel l) q = rw (k l t) at (label-puts {D = D} (rs ++ qs) z at f n h) in
-        let b : Puts D (row s (rowOf (4 bytes m) none 0 0) at u) (digits 4 m ++ amf0.write v) e =
+        let b : Puts D (row s (rowOf (4 bytes m) none none 0 0) at u) (digits 4 m ++ amf0.write v) e =
         row-puts at (4 bytes m) none empty (x D λ i. d λ w. omega (arith, w .0)) in
         record {
           out = (writeLabel l ++ (digits 4 m ++ amf0.write v)) ++ o .out;
@@ -152,7 +152,8 @@ module _ (s : List ℕ) where
         → Puts ⊥ (whole image (packet exact image s)) (write exact p) (length image)
     write-puts exact m w = let x = image-puts {D = ⊥} exact m (λ f. f w) in rw (x .same w) at (x .puts)
 
--- the call on it is not refused for what it holds
+-- Within the limits, the image of a packet is written as that packet, with exact lengths or without: but 1 where that is over the limit, and 4 where it has
+-- no room.
 pub packet-written : {image s : List ℕ} {p : Packet} (exact : Bool) (room : ℕ) → Writable image s p → writeOf image s exact room ≡ sized (write exact p) room
 packet-written {image} {s} exact room w =
     pick-yes (length s) limit.bytes _ _ (w .text-size)

@@ -1,36 +1,31 @@
 -- Why each packet call is refused, and what it accepts, by the grammars.
-use Rattle.wire.proofs.Kit.{ℕ, suc, _+_, _≤_, _<_, _≡_, refl, sym, ap, _≢_, _⊎_, inl, inr, _↔_, List, [], _∷_, arith, length, getD, length-append, leb, ltb}
-use Rattle.wire.proofs.Kit.{leb-true, leb-false, le-leb, ltb-true, ltb-false, ne-eqb}
+use Rattle.wire.proofs.Kit.{ℕ, suc, _≤_, _≡_, refl, sym, ap, _≢_, _↔_, List, [], _∷_, arith, length, getD, length-append, leb, ltb, leb-true, leb-false, le-leb}
+use Rattle.wire.proofs.Kit.{ltb-true, ltb-false, ne-eqb}
 use Rattle.wire.specs.Number.{Bytes}
 use Rattle.wire.specs.Limit as limit
 use Rattle.wire.proofs.Laws.{picked}
-use Rattle.wire.proofs.Stands.{stood, bytes-here}
-use Rattle.image.specs.Due.{Due, end, stop, due, based, Ends, Stops}
-use Rattle.image.specs.Whole.{Whole, bytes, accepted, refused, ended, settled}
-use Rattle.amf0.specs.Reading.{value, topValue}
-use Rattle.amf0.specs.Standard.{Sort}
-use Rattle.amf0_theorems.proofs.Refusals.{value-refused}
-use Rattle.amf0_theorems.specs.Refusal.{Field, Refuses, RefusedValue}
-use Rattle.amf0_theorems.proofs.Sound as soundness
+use Rattle.image.specs.Whole.{Whole, bytes, refused, ended, settled, all}
+use Rattle.amf0.specs.Span.{Span, spanAt, Fault}
+use Rattle.amf0_theorems.proofs.Call.{call-either}
+use Rattle.amf0_theorems.specs.Refusal.{Field, Refuses}
 use Rattle.packet.specs.declared.head.Entry.{Entry}
 use Rattle.packet.specs.declared.entry.Found.{Found}
 use Rattle.packet.specs.declared.entry.Found.the-variants as Found
-use Rattle.packet.specs.Head.{entry}
 use Rattle.packet.specs.Packet.{Label, Item, Packet, Items, Encoded}
 use Rattle.packet.specs.Shown.{Shallow, Within}
-use Rattle.packet.specs.Reading.{packetAt, incompleteOf, all, wholeOf}
-use Rattle.packet.specs.Entry.{Cut, found, stops, cutOf, noEntry, Listed, listOf, foundIn, spanOf, valueOf, readSpan, readEntry, entryIn}
+use Rattle.packet.specs.Reading.{packetAt, incompleteOf, wholeOf}
+use Rattle.packet.specs.Entry.{Cut, found, stops, cutOf, noEntry, Listed, listOf, foundIn, span, readSpan, readEntry, entryIn}
 use Rattle.packet.proofs.Laws.{cut-told, entry-none, entry-chosen}
-use Rattle.packet_theorems.specs.Refusal.{Way, Value, whole, Entries, IsPacket, Seven, RefusedPacket, LeftOver, RefusedCut}
-use Rattle.packet_theorems.specs.Why.{Readable, Comes, ComesWhole, ComesList, ComesNth, inEntry, ComesValue, ComesEntry, ComesSpan}
+use Rattle.packet_theorems.specs.Refusal.{Way, whole, Entries, IsPacket, Seven, RefusedPacket, RefusedCut}
+use Rattle.packet_theorems.specs.Why.{Readable, Comes, ComesWhole, ComesList, ComesNth, ComesEntry, ComesSpan}
 use Rattle.packet_theorems.proofs.Outcome as outcome
-use Rattle.packet_theorems.proofs.Outcome.{comes, comes-list, value-either, span-length}
-use Rattle.packet_theorems.proofs.Agree.{based-ends}
-use Rattle.packet_theorems.proofs.Heads.{all-here}
+use Rattle.packet_theorems.proofs.Outcome.{comes-list, span-either}
 use Rattle.packet_theorems.proofs.CutExactly.{cut-sound}
 use Rattle.packet_theorems.proofs.Whole.{packet-found, encoded-row}
 use Rattle.packet_theorems.proofs.Ways.{seven-version}
-use Rattle.packet_theorems.proofs.Refusals.{packet-refused, cut-refused-exactly, left-behind}
+use Rattle.packet_theorems.proofs.Refusals.{packet-refused, cut-refused-exactly}
+use Rattle.amf0_theorems.proofs.Spans.{all-here, left-behind, comes-value}
+use Rattle.amf0_theorems.specs.Spans.{LeftOver, ComesValue}
 
 -- ---- the grammar and the packet as the Rust has it
 
@@ -99,32 +94,27 @@ nth-reasons s number bs = go (cutOf s) refl
 -- ---- answers
 
 -- the answers of fields
-data Known : ℕ → Type 0 where
-  two : Known 2
-  three : Known 3
-  five : Known 5
+fault : {f : Field} {r : List ℕ} {a : ℕ} → Refuses f r a → Fault a
+fault (Refuses.short l) = Fault.short
+fault (Refuses.too-few l m) = Fault.short
+fault (Refuses.not-utf8 l u) = Fault.malformed
+fault (Refuses.other-bytes l n) = Fault.malformed
+fault (Refuses.no-value b) = Fault.malformed
+fault (Refuses.too-deep b) = Fault.too-deep
 
-known : {f : Field} {r : List ℕ} {a : ℕ} → Refuses f r a → Known a
-known (Refuses.short l) = Known.two
-known (Refuses.too-few l m) = Known.two
-known (Refuses.not-utf8 l u) = Known.three
-known (Refuses.other-bytes l n) = Known.three
-known (Refuses.no-value b) = Known.three
-known (Refuses.too-deep b) = Known.five
-
-known-some : {a : ℕ} → Known a → (a ≢ 0) × (a ≢ 7)
-known-some Known.two = (λ e. omega arith, λ e. omega arith)
-known-some Known.three = (λ e. omega arith, λ e. omega arith)
-known-some Known.five = (λ e. omega arith, λ e. omega arith)
+fault-some : {a : ℕ} → Fault a → (a ≢ 0) × (a ≢ 7)
+fault-some Fault.short = (λ e. omega arith, λ e. omega arith)
+fault-some Fault.malformed = (λ e. omega arith, λ e. omega arith)
+fault-some Fault.too-deep = (λ e. omega arith, λ e. omega arith)
 
 refused-some : {w : Way} {s : List ℕ} {a p : ℕ} → RefusedPacket w s a p → a ≢ 0
 refused-some (RefusedPacket.version-3 v) e = omega arith
-refused-some (RefusedPacket.field q) e = known-some (known (q .refuses)) .0 e
+refused-some (RefusedPacket.field q) e = fault-some (fault (q .refuses)) .0 e
 
 -- 7 is for version 3 alone
 refused-seven : {w : Way} {s : List ℕ} {a p : ℕ} → RefusedPacket w s a p → a ≡ 7 → Seven s
 refused-seven (RefusedPacket.version-3 v) e = v
-refused-seven (RefusedPacket.field q) e = absurd (known-some (known (q .refuses)) .1 e)
+refused-seven (RefusedPacket.field q) e = absurd (fault-some (fault (q .refuses)) .1 e)
 
 left-three : {P : List ℕ → Type 0} {s : List ℕ} {a p : ℕ} → LeftOver P s a p → a ≡ 3
 left-three (LeftOver.behind b r i) = refl
@@ -134,12 +124,6 @@ cut-seven-of : {s : List ℕ} {a p : ℕ} → RefusedCut s a p → a ≡ 7 → (
 cut-seven-of (RefusedCut.over-limit l) e = absurd (omega arith)
 cut-seven-of (RefusedCut.not-cut l q) e = (l, refused-seven q e)
 cut-seven-of (RefusedCut.left-over l x) e = absurd (omega (arith, left-three x))
-
--- a part's reading that is refused
-based-stops : (b : ℕ) (d : Due) (a p : ℕ) → Stops (based b d) a p → (q : ℕ) × Stops d a q
-based-stops b (end n) a p t = absurd t
-based-stops b (stop c q) a p t = (q, (t .0, refl))
-based-stops b (due r q d) a p t = based-stops b d a p t
 
 -- ---- version 3
 
@@ -174,16 +158,14 @@ nth-seven s number bs = (λ x. go (nth-reasons s number bs) (x .1), λ x. (1, rw
 
 -- The incomplete reading is refused for the limit, for the room, for version 3 or by a field; else a packet stands at the front of the input, which it uses.
 pub reasons : (s : List ℕ) (room : ℕ) → Bytes s → Comes s room (incompleteOf s room)
-reasons s room bs = go (comes s room)
-  where
-    go : {w : Whole} → outcome.Comes s room w → Comes s room w
-    go (outcome.Comes.over-limit i) = Comes.over-limit i
-    go (outcome.Comes.no-room i j) = Comes.no-room i j
-    go (outcome.Comes.not-read {a} p i j t) = Comes.not-read i j (packet-refused s a p bs .0 t)
-    go (outcome.Comes.read {n} i j e) =
-        let f = packet-found s n bs e in
-        let p : Readable (f .row) = record { packet = f .packet; encoded = f .encoded; within = f .within } in
-        rw (f .next) (Comes.read (f .rest) i j (f .here .same) p)
+unfolding incompleteOf
+reasons s room bs =
+    call-either s (packetAt s) room (Comes s room) Comes.over-limit Comes.no-room
+    (λ i j n e.
+    let f = packet-found s n bs e in
+    let p : Readable (f .row) = record { packet = f .packet; encoded = f .encoded; within = f .within } in
+    rw (f .next) (Comes.read (f .rest) i j (f .here .same) p))
+    (λ i j a p t. Comes.not-read i j (packet-refused s a p bs .0 t))
 
 -- The whole reading is refused for the limit, for the room, for version 3, by a field or for bytes left over; else all of the input is a packet.
 pub parse-reasons : (s : List ℕ) (room : ℕ) → Bytes s → ComesWhole s room (wholeOf s room)
@@ -200,48 +182,6 @@ parse-reasons s room bs = go (reasons s room bs)
         rw l (ComesWhole.read i j (rw (all-here {s = s} {x = x} {r = r} (record { same = e }) l) at p)))
         (λ t. ComesWhole.left-over i j (left-behind Readable s x r p e (leb-false (length s) (length x) t)))
 
--- what the reading of an entry's value comes to
-comes-value : (s : List ℕ) (e : Entry) (room : ℕ) → Bytes s → length (spanOf s e) ≡ e .length → ComesValue s e room (valueOf s e room)
-comes-value s e room bs l = value-either (ComesValue s e room) s e room l ComesValue.no-room deep damaged unused read
-  where
-    x : List ℕ
-    x = spanOf s e
-
-    d : Due
-    d = topValue x 0
-
-    xs : Bytes x
-    xs = bytes-here (stood (e .length) s (e .place)) bs
-
-    refusal : (a p : ℕ) → Stops (inEntry s e) a p → (q : ℕ) × RefusedValue limit.levels x 0 a q
-    refusal a p t = let q = based-stops (e .place) d a p t in (q .0, value-refused limit.levels x 0 a (q .0) xs (omega arith) .0 (q .1))
-
-    deep : length (bytes (inEntry s e)) ≤ room → (p : ℕ) → Stops (inEntry s e) 5 p → ComesValue s e room (refused 5)
-    deep h p t = ComesValue.deep h (refusal 5 p t .1)
-
-    damaged : length (bytes (inEntry s e)) ≤ room → (a p : ℕ) → Stops (inEntry s e) a p → a ≤ 3 → ComesValue s e room (refused 9)
-    damaged h a p t k = let q = refusal a p t .1 in ComesValue.damaged h q (go (known (q .refuses)) k)
-      where
-        go : {a : ℕ} → Known a → a ≤ 3 → (a ≡ 2) ⊎ (a ≡ 3)
-        go Known.two k = inl refl
-        go Known.three k = inr refl
-        go Known.five k = absurd (omega arith)
-
-    stands : (n : ℕ) → Ends (inEntry s e) n → soundness.Found Sort.value limit.levels x 0 n
-    stands n t = soundness.sound limit.levels x 0 n xs (based-ends (e .place) d n t)
-
-    unused : length (bytes (inEntry s e)) ≤ room → (n : ℕ) → Ends (inEntry s e) n → n < e .length → ComesValue s e room (refused 9)
-    unused h n t k =
-        let f = stands n t in
-        let v : Value (f .row) = record { tree = f .tree; encodes = f .encodes; deep = f .deep } in
-        ComesValue.unused h (left-behind Value x (f .row) (f .rest) v (f .here .same) (omega (arith, f .next, l)))
-
-    read : length (bytes (inEntry s e)) ≤ room → Ends (inEntry s e) (e .length) → ComesValue s e room (accepted (e .length) (bytes (inEntry s e)))
-    read h t =
-        let f = stands (e .length) t in
-        let v : Value (f .row) = record { tree = f .tree; encodes = f .encodes; deep = f .deep } in
-        ComesValue.read h (rw (all-here (f .here) (omega (arith, f .next, l))) at v)
-
 -- The reading of an entry is refused as the cut is or for want of an entry, for the room, for depth or as damaged; else all bytes of its span are a value.
 pub entry-reasons : (s : List ℕ) (number room : ℕ) → Bytes s → ComesEntry s number room (readEntry s number room)
 unfolding readEntry
@@ -253,22 +193,13 @@ entry-reasons s number room bs = go (nth-reasons s number bs) refl
     go (ComesNth.is {es} e l) h =
         let i : Entry = getD es number noEntry in
         let c = entry-chosen s number room (cutOf s) {e = i} (cut-told s) (sym h) in
-        rw (c .read) (ComesEntry.found e l (comes-value s i room bs (span-length s i (c .inside))))
+        rw (c .read) (ComesEntry.found e l (comes-value s (span i) room bs (c .inside)))
 
 -- The reading of a span is refused for the limit or where it is not inside the packet, and then as that of an entry.
 pub span-reasons : (s : List ℕ) (place n room : ℕ) → Bytes s → ComesSpan s place n room (readSpan s place n room)
-unfolding readSpan
 span-reasons s place n room bs =
-    let e : Entry = entry 0 0 0 0 0 0 place n in
-    picked (ComesSpan s place n room) (leb (length s) limit.bytes) _ _
-    (λ t.
-    let i = leb-true (length s) limit.bytes t in
-    picked (ComesSpan s place n room) (leb (place + n) (length s)) _ _
-    (λ u.
-    let j = leb-true (place + n) (length s) u in
-    ComesSpan.inside i j (comes-value s e room bs (span-length s e j)))
-    (λ u. ComesSpan.outside i (leb-false (place + n) (length s) u)))
-    (λ t. ComesSpan.over-limit (leb-false (length s) limit.bytes t))
+    span-either (ComesSpan s place n room) s place n room ComesSpan.over-limit ComesSpan.outside λ i j.
+    ComesSpan.inside i j (comes-value s (spanAt place n) room bs j)
 
 -- The answer of `parse_incomplete` is 7 exactly where the input, within the limit, begins with 00 03.
 pub incomplete-seven : (s : List ℕ) (room : ℕ) → Bytes s → incompleteOf s room .reading .answer ≡ 7 ↔ (length s ≤ limit.bytes) × Seven s
@@ -297,7 +228,7 @@ pub entry-seven : (s : List ℕ) (number room : ℕ) → Bytes s → readEntry s
 unfolding readEntry
 entry-seven s number room bs = (go (entry-reasons s number room bs), λ x. rw (seven-cut s bs (x .0) (x .1)))
   where
-    other : {i : Entry} {w : Whole} → ComesValue s i room w → w .reading .answer ≢ 7
+    other : {i : Span} {w : Whole} → ComesValue s i room w → w .reading .answer ≢ 7
     other (ComesValue.no-room h) e = omega arith
     other (ComesValue.deep h q) e = omega arith
     other (ComesValue.damaged h q a) e = omega arith

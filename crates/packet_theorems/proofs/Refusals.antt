@@ -1,16 +1,17 @@
 -- The whole reading of a packet and the cut are refused exactly where, and as, the grammar of refusals says.
-use Rattle.wire.proofs.Kit.{ℕ, zero, suc, _+_, _-_, _≤_, _<_, _≡_, refl, sym, ap, _∙_, _↔_, List, [], _∷_, _++_, Bool, true, false, arith, length, take, drop}
+use Rattle.wire.proofs.Kit.{ℕ, zero, suc, _+_, _-_, _≤_, _<_, _≡_, refl, sym, ap, _∙_, _↔_, List, _∷_, _++_, Bool, true, false, arith, length, take, drop, []}
 use Rattle.wire.proofs.Kit.{length-append, length-drop, leb, le-leb, lt-leb, leb-true, leb-false}
 use Rattle.wire.specs.Choice.{pick}
 use Rattle.wire.specs.Number.{digits, number, Bytes}
 use Rattle.wire.specs.Limit as limit
 use Rattle.wire.specs.Field.{to, bytesAt, u16At, got16, pastTag}
+use Rattle.wire.specs.declared.cursor.U16.the-variants as U16
 use Rattle.wire.specs.declared.cursor.Tag.{Tag}
 use Rattle.wire.specs.declared.cursor.Tag.the-variants as Tag
 use Rattle.wire.proofs.Laws.{picked}
 use Rattle.wire.proofs.Stands.{Here, Stood, inside, stood, number-stood, join, length-bytes, go16, cut as front}
 use Rattle.image.specs.Due.{Due, end, stop, due, _>>=_, Ends, Stops}
-use Rattle.amf0.specs.Reading.{value, topValue}
+use Rattle.amf0.specs.Reading.{topValue}
 use Rattle.amf0_theorems.proofs.Refusals.{value-refused}
 use Rattle.amf0_theorems.specs.Refusal.{Field, Refuses}
 use Rattle.amf0_theorems.specs.Refusal.Field.{some, count}
@@ -19,15 +20,16 @@ use Rattle.amf0_theorems.proofs.Sound as soundness
 use Rattle.packet.specs.declared.head.Entry.{Entry}
 use Rattle.packet.specs.declared.head.Head.{Head}
 use Rattle.packet.specs.declared.head.Head.the-variants as Head
-use Rattle.packet.specs.Head.{versionAt, headAt, gotHead}
+use Rattle.packet.specs.Head.{versionAt, frontOf, headAt, gotHead}
 use Rattle.packet.specs.Packet.{Label}
 use Rattle.packet.specs.Reading.{entriesAt, packetAt}
-use Rattle.packet.specs.Entry.{Cut, found, stops, gotCut, entryAt, walk, cutOf}
-use Rattle.packet_theorems.specs.Refusal.{Value, whole, cut, IsPacket, RefusedPacket, LeftOver, RefusedCut}
-use Rattle.packet_theorems.proofs.Heads.{all-here}
+use Rattle.packet.specs.Entry.{Ending, done, halt, reach, Trail, reached, stopped, puts, _thence_, entryAt, walk, endAt, messagesFrom, Cut, found, stops, strict, cutOf}
+use Rattle.packet_theorems.specs.Refusal.{whole, cut, IsPacket, RefusedPacket, RefusedCut}
 use Rattle.packet_theorems.proofs.Parts.{Part, goes, halts, _then_, then-then, then-same, goes-halts, Standing, Tells, Follows, Plain, plain, Both, LeadsBoth, in-turn, turned, Only, only-refused, one-field, Number, numberBy, number-follows}
 use Rattle.packet_theorems.proofs.Labels.{Kinds, headers, messages}
 use Rattle.packet_theorems.proofs.Ways.{Body, LeadsBody, Goes, entriesBy, versionBy, packetBy, TellsPacket, way-told, way-halts, way-ends}
+use Rattle.amf0_theorems.proofs.Spans.{all-here, left-behind}
+use Rattle.amf0_theorems.specs.Spans.{Value, LeftOver}
 
 -- ---- fields, as the readings have them
 
@@ -115,10 +117,20 @@ packet-end s =
 
 -- ---- the cut
 
--- how a cut ends
+-- how a walk and a cut end
+abbrev endBy : Ending → Part
+endBy x = reach halts x (goes 0)
+
 abbrev cutEnd : Cut → Part
 cutEnd (found es z) = goes 0 z
 cutEnd (stops a p) = halts a p
+
+strict-end : (t : Trail) → cutEnd (strict t) ≡ endBy (t .ending)
+strict-end t = go (t .ending)
+  where
+    go : (x : Ending) → cutEnd (reach stops x (found (t .entries))) ≡ endBy x
+    go (done z) = refl
+    go (halt a p) = refl
 
 -- as many bytes as were declared; else the length is refused
 abbrev pub spanBy : List ℕ → ℕ → ℕ → Part
@@ -126,29 +138,25 @@ spanBy s d v = pick (leb (v + d) (length s)) (goes 0 (v + d)) (halts 2 (v - 4))
 
 -- a walk ends as its parts in turn do
 module _ {kind : ℕ} {Kind : Label → Type 0} (k : Kinds kind Kind) (s : List ℕ) where
-  walk-end : (n at : ℕ) → cutEnd (walk kind s n at) ≡ entriesBy k s (spanBy s) n at
+  walk-end : (n at : ℕ) → endBy (walk kind s n at .ending) ≡ entriesBy k s (spanBy s) n at
   unfolding walk entryAt entriesBy
   walk-end zero at = refl
   walk-end (suc n) at =
-      head-end (λ x. cutEnd (gotHead stops x (λ e q. gotCut (walk kind s n q) λ es z. found (e ∷ es) z))) Head.Stop (λ a p. refl) s k at _
+      head-end (λ x. endBy (gotHead stopped x (λ e q. puts (e ∷ []) (walk kind s n q)) .ending)) Head.Stop (λ a p. refl) s k at _
       (λ d v. spanBy s d v then λ u q. entriesBy k s (spanBy s) n q)
       (λ e v. one (walk-end n) e v (leb (v + e .length) (length s)))
       ∙ then-same (k .labelBy s at) _ _ λ v q. sym (then-then (numberBy 4 s q) (spanBy s) λ u e. entriesBy k s (spanBy s) n e)
     where
-      rest : (e : Entry) (x : Cut) (o : Part) → cutEnd x ≡ o → cutEnd (gotCut x λ es z. found (e ∷ es) z) ≡ o
-      rest e (found es z) o q = q
-      rest e (stops a p) o q = q
-
-      one : ((q : ℕ) → cutEnd (walk kind s n q) ≡ entriesBy k s (spanBy s) n q) → (e : Entry) (v : ℕ) (t : Bool)
-          → cutEnd (gotHead stops (pick t (Head.Got e (to (v + e .length))) (Head.Stop 2 (v - 4))) (λ e q. gotCut (walk kind s n q) λ es z. found (e ∷ es) z))
+      one : ((q : ℕ) → endBy (walk kind s n q .ending) ≡ entriesBy k s (spanBy s) n q) → (e : Entry) (v : ℕ) (t : Bool)
+          → endBy (gotHead stopped (pick t (Head.Got e (to (v + e .length))) (Head.Stop 2 (v - 4))) (λ e q. puts (e ∷ []) (walk kind s n q)) .ending)
           ≡ pick t (goes 0 (v + e .length)) (halts 2 (v - 4)) then λ u q. entriesBy k s (spanBy s) n q
-      one behind e v true = rest e (walk kind s n (v + e .length)) _ (behind (v + e .length))
+      one behind e v true = behind (v + e .length)
       one behind e v false = refl
 
--- a cut goes on from where one ends
-cut-bind : (x : Cut) (k : List Entry → ℕ → Cut) (g : ℕ → Part) → ((es : List Entry) (z : ℕ) → cutEnd (k es z) ≡ g z) → cutEnd (gotCut x k) ≡ cutEnd x then λ v z. g z
-cut-bind (found es z) k g each = each es z
-cut-bind (stops a p) k g each = refl
+-- what goes on from where a walk ends
+thence-end : (x : Ending) (k : ℕ → Trail) (g : ℕ → Part) → ((z : ℕ) → endBy (k z .ending) ≡ g z) → endBy (reach stopped x k .ending) ≡ endBy x then λ v z. g z
+thence-end (done z) k g each = each z
+thence-end (halt a p) k g each = refl
 
 -- bytes left over are refused
 abbrev lastBy : List ℕ → ℕ → Part
@@ -173,25 +181,26 @@ packet-then s step k =
 
 -- so does a cut, within the limit
 cut-end : (s : List ℕ) → length s ≤ limit.bytes → cutEnd (cutOf s) ≡ packetBy s (spanBy s) then λ v z. lastBy s z
-unfolding cutOf
+unfolding cutOf frontOf
 cut-end s l =
     rw (le-leb (length s) limit.bytes l)
-    (version-end cutEnd stops (λ a p. refl) s _ _ (λ p.
+    (version-end (λ u. cutEnd (got16 stops u λ h q. strict (walk 0x31 s h q thence messagesFrom s))) U16.Stop (λ a p. refl) s _ _ (λ p.
     number-end cutEnd stops (λ a p. refl) s p _ _ λ h q.
-    cut-bind (walk 0x31 s h q) _ (λ e. numberBy 2 s e then λ m f. entriesBy messages s (spanBy s) m f then λ v z. lastBy s z) (λ hs e.
-    number-end cutEnd stops (λ a p. refl) s e _ _ λ m f.
-    cut-bind (walk 0x32 s m f) _ (lastBy s) (λ ms z. last hs ms z (leb (length s) z))
+    strict-end (walk 0x31 s h q thence messagesFrom s)
+    ∙ thence-end (walk 0x31 s h q .ending) (messagesFrom s) (λ e. numberBy 2 s e then λ m f. entriesBy messages s (spanBy s) m f then λ v z. lastBy s z) (λ e.
+    number-end (λ t. endBy (t .ending)) stopped (λ a p. refl) s e _ _ λ m f.
+    thence-end (walk 0x32 s m f .ending) (endAt s) (lastBy s) (λ z. last z (leb (length s) z))
     ∙ ap (λ o. o then λ v z. lastBy s z) (walk-end messages s m f))
     ∙ ap (λ o. o then λ v e. numberBy 2 s e then λ m f. entriesBy messages s (spanBy s) m f then λ v z. lastBy s z) (walk-end headers s h q))
     ∙ sym (packet-then s (spanBy s) λ v z. lastBy s z))
   where
-    last : (hs ms : List Entry) (z : ℕ) (t : Bool) → cutEnd (pick t (found (hs ++ ms) z) (stops 3 z)) ≡ pick t (goes 0 z) (halts 3 z)
-    last hs ms z true = refl
-    last hs ms z false = refl
+    last : (z : ℕ) (t : Bool) → endBy (pick t (reached [] z) (stopped 3 z) .ending) ≡ pick t (goes 0 z) (halts 3 z)
+    last z true = refl
+    last z false = refl
 
 -- a length that is whole, and as many bytes
 span-follows : (s : List ℕ) → Bytes s → (q : ℕ) → Follows (Plain (Body cut)) (LeadsBody cut) s q (numberBy 4 s q then spanBy s)
-span-follows s bs q = turned (λ v x b. b) (λ v x r h b. b) to-leads from-leads (one-field {f = count} ends halt told)
+span-follows s bs q = turned (λ v x b. b) (λ v x r h b. b) (λ r x f e. to-leads r x f) from-leads (one-field {f = count} ends halt told)
   where
     to-leads : (r x : List ℕ) (f : Field) → Only count x f → LeadsBody cut r x f
     to-leads r x f Only.only = LeadsBody.size
@@ -255,13 +264,8 @@ cut-stops (found es z) a p e = goes-halts e
 cut-stops (stops b q) a p e = cc
 
 cut-over : (s : List ℕ) → limit.bytes < length s → cutOf s ≡ stops 1 0
-unfolding cutOf
+unfolding cutOf frontOf
 cut-over s l = rw (lt-leb (length s) limit.bytes l)
-
--- bytes are left over behind x, which ends before s does
-pub left-behind : (P : List ℕ → Type 0) (s x r : List ℕ) → P x → s ≡ x ++ r → length x < length s → LeftOver P s 3 (length x)
-left-behind P s x [] i e l = absurd (omega (arith, ap length e, length-append x []))
-left-behind P s x (b ∷ r) i e l = rw e (LeftOver.behind b r i)
 
 -- bytes left over refuse the cut
 cut-left : {s : List ℕ} {a p : ℕ} → Bytes s → length s ≤ limit.bytes → LeftOver (IsPacket cut) s a p → cutEnd (cutOf s) ≡ halts a p
@@ -363,7 +367,7 @@ value-goes s bs = record { follows = follows }
 
     follows : (q : ℕ) → Follows (Plain (Body whole)) (LeadsBody whole) s q (numberBy 4 s q then valueBy s)
     follows q =
-        turned to-body (λ v x r h. from-body v x) to-leads from-leads
+        turned to-body (λ v x r h. from-body v x) (λ r x f e. to-leads r x f) from-leads
         (in-turn (valueBy s) (numberBy 4 s q) (number-follows 4 s bs q (omega arith)) λ d x r n h. value-follows s bs d (q + length x) (within n h))
 
 -- The whole reading of a packet is refused exactly where version 3 or a field refuses it, and with that answer and place.

@@ -1,28 +1,26 @@
 -- More room changes nothing, for every packet call. So the round trip goes in every room that is not refused for room, and in that of the first reading.
 use Rattle.wire.proofs.Kit.{ℕ, _*_, _≤_, _<_, _≡_, refl, ap, _≢_, _↔_, List, Bool, le-refl, arith, length, getD, leb, ltb}
 use Rattle.wire.specs.Limit as limit
-use Rattle.wire.specs.Number.{Bytes}
 use Rattle.wire.specs.Text.{insideOf}
 use Rattle.image.specs.Out.{written}
-use Rattle.image.specs.Whole.{Whole, bytes, refused}
+use Rattle.image.specs.Whole.{Whole, bytes, refused, all}
+use Rattle.amf0.specs.Span.{Span, spanAt, judge, inSpan, answerOf, oneValue}
 use Rattle.amf0_theorems.proofs.More.{More, settled-more, pick-more, pass-more, any-room}
 use Rattle.amf0_theorems.proofs.Room.{alike-length}
-use Rattle.packet.specs.declared.head.Entry.{Entry}
-use Rattle.packet.specs.Head.{entry}
-use Rattle.packet.specs.Reading.{packetAt, all, incompleteOf, wholeOf}
-use Rattle.packet.specs.Entry.{Cut, found, stops, cutOf, noEntry, judge, valueOf, readSpan, entryIn, readEntry}
-use Rattle.packet_theorems.specs.Why.{inEntry}
+use Rattle.packet.specs.Reading.{packetAt, incompleteOf, wholeOf}
+use Rattle.packet.specs.Entry.{Cut, found, stops, cutOf, noEntry, span, readSpan, entryIn, readEntry}
 use Rattle.packet.specs.Writing.{writeOf}
 use Rattle.packet.specs.Written.{rewriteOf}
-use Rattle.packet_theorems.proofs.Taken.{Taken, taken, whole-taken}
+use Rattle.packet_theorems.proofs.Taken.{whole-taken}
 use Rattle.packet_theorems.proofs.Theorems.{over-all, incomplete-room-exact}
-use Rattle.packet_theorems.proofs.WriteTheorems.{RoundTrip, round-trip, round-trip-incomplete, again, again-incomplete}
+use Rattle.packet_theorems.proofs.WriteTheorems.{RoundTrip, round-trip, again}
+use Rattle.packet_theorems.proofs.WriteOutcome.{WasRead}
 
 -- ---- more room
 
--- the value of an entry
-value-more : (s : List ℕ) (e : Entry) → More (valueOf s e)
-value-more s e = pass-more (judge (e .length)) (λ w four. rw four) (settled-more (inEntry s e))
+-- the value in a span
+value-more : (s : List ℕ) (p : Span) → More (answerOf oneValue s p)
+value-more s p = pass-more (judge (p .length)) (λ w four. rw four) (settled-more (inSpan oneValue s p))
 
 -- Where a room does, every larger room gives the same to `parse_incomplete`.
 pub incomplete-more : (s : List ℕ) (room more : ℕ) → room ≤ more → incompleteOf s room .reading .answer ≢ 4 → incompleteOf s more ≡ incompleteOf s room
@@ -41,13 +39,13 @@ entry-more s number = go (cutOf s)
   where
     go : (x : Cut) → More (entryIn s x number)
     go (stops a p) = λ room more h n. refl
-    go (found es z) = pick-more (ltb number (length es)) (refused 8) (value-more s (getD es number noEntry))
+    go (found es z) = pick-more (ltb number (length es)) (refused 8) (value-more s (span (getD es number noEntry)))
 
 -- And to `parse_span`.
 pub span-more : (s : List ℕ) (place n room more : ℕ) → room ≤ more → readSpan s place n room .reading .answer ≢ 4 → readSpan s place n more ≡ readSpan s place n room
 unfolding readSpan
 span-more s place n =
-    pick-more (leb (length s) limit.bytes) (refused 1) (pick-more (insideOf s place n) (refused 8) (value-more s (entry 0 0 0 0 0 0 place n)))
+    pick-more (leb (length s) limit.bytes) (refused 1) (pick-more (insideOf s place n) (refused 8) (value-more s (spanAt place n)))
 
 -- ---- the room
 
@@ -67,48 +65,19 @@ holds {b} more room t h f =
     let x = whole-taken b more (t .answer) in
     omega (arith, parse-room-exact b room (x .small) .0 f, ap (λ (w : Whole). length (w .bytes)) (x .result), alike-length (t .alike))
 
--- what an accepted reading makes has room
-fits : {s : List ℕ} {room n : ℕ} {w : Whole} → Taken s room n w → length (w .bytes) ≤ room
-fits t = omega (arith, t .fits, ap (λ (w : Whole). length (w .bytes)) (t .result))
-
 -- ---- the round trip
 
-module _ (s b : List ℕ) (room : ℕ) (exact : Bool) (out : ℕ) (bs : Bytes s) where
-  -- A packet that was read whole and then written, in either setting, reads back in every room that is not refused for room.
-  pub round-trip-any : (more : ℕ) → wholeOf s room .reading .answer ≡ 0 → rewriteOf wholeOf s room exact out ≡ written b
-      → wholeOf b more .reading .answer ≢ 4 → RoundTrip s b exact (wholeOf s room) (wholeOf b more)
-  round-trip-any more e f =
-      any-room (wholeOf b) (parse-more b) (RoundTrip s b exact (wholeOf s room)) (3 * length b) (λ m. round-trip s b room exact out m bs e f) more
+-- A packet that was read, whole or as far as it was used, and then written, in either setting,
+module _ {s : List ℕ} {room : ℕ} {v : Whole} (m : WasRead s room v) (exact : Bool) (b : List ℕ) (out : ℕ) (f : writeOf (v .bytes) s exact out ≡ written b) where
+  -- reads back in every room that is not refused for room,
+  pub round-trip-any : (more : ℕ) → wholeOf b more .reading .answer ≢ 4 → RoundTrip s b exact v (wholeOf b more)
+  round-trip-any more = any-room (wholeOf b) (parse-more b) (RoundTrip s b exact v) (3 * length b) (round-trip m exact b out f) more
 
-  -- So does a packet that the incomplete reading used.
-  pub round-trip-any-incomplete : (more : ℕ) → incompleteOf s room .reading .answer ≡ 0 → rewriteOf incompleteOf s room exact out ≡ written b
-      → wholeOf b more .reading .answer ≢ 4 → RoundTrip s b exact (incompleteOf s room) (wholeOf b more)
-  round-trip-any-incomplete more e f =
-      any-room (wholeOf b) (parse-more b) (RoundTrip s b exact (incompleteOf s room)) (3 * length b) (λ m. round-trip-incomplete s b room exact out m bs e f) more
-
-  -- So a packet that was read whole and then written, in either setting, reads back in the room of the first reading.
-  pub same-room : wholeOf s room .reading .answer ≡ 0 → rewriteOf wholeOf s room exact out ≡ written b → RoundTrip s b exact (wholeOf s room) (wholeOf b room)
-  same-room e f =
-      let more : ℕ = 3 * length b in
-      round-trip-any room e f (holds more room (round-trip s b room exact out more bs e f (le-refl more)) (fits (whole-taken s room e)))
-
-  -- And so does a packet that the incomplete reading used.
-  pub same-room-incomplete : incompleteOf s room .reading .answer ≡ 0 → rewriteOf incompleteOf s room exact out ≡ written b
-      → RoundTrip s b exact (incompleteOf s room) (wholeOf b room)
-  same-room-incomplete e f =
-      let more : ℕ = 3 * length b in
-      round-trip-any-incomplete room e f (holds more room (round-trip-incomplete s b room exact out more bs e f (le-refl more)) (fits (taken s room e)))
+  -- and so in the room of the first reading.
+  pub same-room : RoundTrip s b exact v (wholeOf b room)
+  same-room = let more : ℕ = 3 * length b in round-trip-any room (holds more room (round-trip m exact b out f more (le-refl more)) (m .fits))
 
   -- To read it in such a room and write it once more in the same setting changes nothing more.
-  pub again-any : (more once : ℕ) → wholeOf s room .reading .answer ≡ 0 → rewriteOf wholeOf s room exact out ≡ written b
-      → wholeOf b more .reading .answer ≢ 4 → length b ≤ once → rewriteOf wholeOf b more exact once ≡ written b
-  again-any more once e f n h =
-      any-room (wholeOf b) (parse-more b) (λ w. writeOf (w .bytes) b exact once ≡ written b) (3 * length b)
-      (λ m i. again s b room exact out m once bs e f i h) more n
-
-  -- Nor does it after the incomplete reading.
-  pub again-any-incomplete : (more once : ℕ) → incompleteOf s room .reading .answer ≡ 0 → rewriteOf incompleteOf s room exact out ≡ written b
-      → wholeOf b more .reading .answer ≢ 4 → length b ≤ once → rewriteOf wholeOf b more exact once ≡ written b
-  again-any-incomplete more once e f n h =
-      any-room (wholeOf b) (parse-more b) (λ w. writeOf (w .bytes) b exact once ≡ written b) (3 * length b)
-      (λ m i. again-incomplete s b room exact out m once bs e f i h) more n
+  pub again-any : (more once : ℕ) → wholeOf b more .reading .answer ≢ 4 → length b ≤ once → rewriteOf wholeOf b more exact once ≡ written b
+  again-any more once n h =
+      any-room (wholeOf b) (parse-more b) (λ w. writeOf (w .bytes) b exact once ≡ written b) (3 * length b) (λ l i. again m exact b out f l once i h) more n

@@ -6,48 +6,19 @@ use Rattle.wire.specs.Field.{bytesAt}
 use Rattle.wire.proofs.Laws.{picked, false-true}
 use Rattle.image.specs.declared.record.Record.{Record}
 use Rattle.image.specs.declared.record.Record.the-variants as R
-use Rattle.image.specs.Record.{_bytes_, none}
-use Rattle.image.specs.Taking.{recordAt}
+use Rattle.image.specs.Kind as kind
+use Rattle.image.specs.Record.{_bytes_, none, layoutOf}
 use Rattle.image.specs.Out.{Out, end, stop, put, row, rowBytes, namedOf}
-use Rattle.amf0.specs.Writing.{taken}
+use Rattle.image.proofs.Kinded.{is}
+use Rattle.amf0.specs.Writing.{texted, asked}
 use Rattle.amf0_theorems.specs.Unwritten.{Stops, Fronts}
 use Rattle.amf0_theorems.proofs.WriteSound.{Ends}
-use Rattle.amf0_theorems.proofs.Seen.{Took, named-stands, clash, Taking, taking}
+use Rattle.amf0_theorems.proofs.Seen.{Took, named-stands, Asking, asking}
 use Rattle.packet.specs.Shown.{Names}
-use Rattle.packet.specs.declared.write.Part.{Part}
-use Rattle.packet.specs.declared.write.Part.the-variants as P
 use Rattle.packet.specs.Packet.{Label, IsHeader, IsMessage}
-use Rattle.packet.specs.Writing.{partOf, rowOf, labelled, label, packed}
+use Rattle.packet.specs.Writing.{labelled, label}
 use Rattle.packet_theorems.specs.Unwritten.{NoPacket, NoEntry}
-use Rattle.packet_theorems.proofs.Puts.{empty, named}
-
--- a part tells its record
-abbrev Is : Record → Part → Type 0
-Is r (P.Packet h m) = r ≡ R.Packet h m
-Is r (P.Header p n f) = r ≡ R.Header p n f
-Is r (P.Message p n q m) = r ≡ R.Message p n q m
-Is r P.Other = Unit {0}
-
-part-is : (r : Record) → Is r (partOf r)
-part-is (R.Number n) = tt
-part-is (R.Boolean b) = tt
-part-is (R.Text p n) = tt
-part-is R.Object = tt
-part-is R.Null = tt
-part-is R.Undefined = tt
-part-is (R.Reference n) = tt
-part-is (R.EcmaArray n) = tt
-part-is R.ObjectEnd = tt
-part-is (R.StrictArray n) = tt
-part-is (R.Date n z t) = tt
-part-is R.Unsupported = tt
-part-is (R.Xml p n) = tt
-part-is (R.TypedObject p n) = tt
-part-is (R.Key p n) = tt
-part-is (R.Packet h m) = refl
-part-is (R.Header p n f) = refl
-part-is (R.Message p n q m) = refl
-part-is (R.Lso stored p n) = tt
+use Rattle.packet_theorems.proofs.Puts.{kindOf, header-kind, message-kind, empty, named}
 
 -- ---- the packet's own
 
@@ -57,19 +28,12 @@ module _ (s image : List ℕ) (bs : Bytes image) where
     seen : {h m q : ℕ} → Took s image bs 0 (R.Packet h m) q → SeenPacket k (k h m q)
     unseen : NoPacket s image → SeenPacket k (stop 6 0)
 
-  pub see-packet : (k : ℕ → ℕ → ℕ → Out) → SeenPacket k (taken 0 (recordAt image 0) λ r q. packed (partOf r) λ h m. k h m q)
-  see-packet k = go (taking s image bs 0 (λ r q. packed (partOf r) λ h m. k h m q))
+  pub see-packet : (k : ℕ → ℕ → ℕ → Out) → SeenPacket k (asked image kind.packet 0 λ l q. k (l .a .number) (l .b .number) q)
+  see-packet k = go (asking s image bs 0 kind.packet λ l q. k (l .a .number) (l .b .number) q)
     where
-      by : {r : Record} {q : ℕ} → Took s image bs 0 r q → ((t : Record) → Fronts s t image → t ≡ r) → (h : Part) → partOf r ≡ h → Is r h
-          → SeenPacket k (packed h λ h m. k h m q)
-      by t one (P.Packet h m) e i = SeenPacket.seen (rw i at t)
-      by t one (P.Header p n f) e i = SeenPacket.unseen (record { none = λ h m f. let g = one (R.Packet h m) f in clash (cc) })
-      by t one (P.Message p n q m) e i = SeenPacket.unseen (record { none = λ h m f. let g = one (R.Packet h m) f in clash (cc) })
-      by t one P.Other e i = SeenPacket.unseen (record { none = λ h m f. let g = one (R.Packet h m) f in clash (cc) })
-
-      go : {d : Out} → Taking s image bs 0 (λ r q. packed (partOf r) λ h m. k h m q) d → SeenPacket k d
-      go (Taking.takes {r} t one) = by t one (partOf r) refl (part-is r)
-      go (Taking.bad n) = SeenPacket.unseen (record { none = λ h m f. n (R.Packet h m) f })
+      go : {d : Out} → Asking s image bs 0 kind.packet (λ l q. k (l .a .number) (l .b .number) q) d → SeenPacket k d
+      go (Asking.asks {r} t e one) = let i = is r kind.packet e in rw (i .2) (SeenPacket.seen (rw (i .2) at t))
+      go (Asking.other n) = SeenPacket.unseen (record { none = λ h m f. n (R.Packet h m) f refl })
 
 -- ---- an entry's
 
@@ -96,43 +60,47 @@ module _ (s image : List ℕ) (bs : Bytes image) (at : ℕ) where
       none t l f k (Names.header b h e) = absurd k
       none t l f k (Names.message {p} {n} {q} {m} h i e o) = not p n q m (sym (one (R.Message p n q m) f)) h i
 
-  -- a header's, and a message's
-  pub see-header : SeenLabel IsHeader (label 0x31 image s at)
-  unfolding label row
-  see-header = go (taking s image bs at (λ r q. labelled s 0x31 at (partOf r) (end q)))
+  -- nor where none of the kind is right
+  no-entry : {Kind : Label → Type 0} {due : ℕ} → ((l : Label) → Kind l → kindOf l ≡ due) → ((t : Record) → Fronts s t (drop at image) → layoutOf t .kind ≡ due → ⊥)
+      → NoEntry s Kind (drop at image)
+  no-entry {Kind} {due} kinds n = record { none = none }
     where
-      by : {r : Record} {q : ℕ} → Took s image bs at r q → ((t : Record) → Fronts s t (drop at image) → t ≡ r) → (h : Part) → partOf r ≡ h → Is r h
-          → SeenLabel IsHeader (labelled s 0x31 at h (end q))
-      by t one (P.Packet h m) e i = SeenLabel.unseen (no-header one λ u k b g w. clash (cc)) (refl, refl)
-      by {q} t one (P.Header p n f) e i =
-          picked (SeenLabel IsHeader) (namedOf s (rowOf none (2 bytes n) p n)) _ (stop 6 at)
-          (λ h. SeenLabel.seen {q = q} {l = Label.header (bytesAt n s p) f} (rw i at t) tt (Names.header f (named-stands s none 0 p n h) refl)
+      none : (t : Record) (l : Label) → Fronts s t (drop at image) → Kind l → Names s l t → ⊥
+      none t l f k (Names.header b h e) = n t f (kinds l k)
+      none t l f k (Names.message h i e o) = n t f (kinds l k)
+
+  -- a header's, and a message's
+  pub see-header : SeenLabel IsHeader (label kind.header image s at)
+  unfolding label row
+  see-header = go (asking s image bs at kind.header λ l q. labelled s kind.header at l (end q))
+    where
+      by : {p n q : ℕ} {f : Bool} → Took s image bs at (R.Header p n f) q → ((t : Record) → Fronts s t (drop at image) → t ≡ R.Header p n f)
+          → SeenLabel IsHeader (labelled s kind.header at (layoutOf (R.Header p n f)) (end q))
+      by {p} {n} {q} {f} t one =
+          picked (SeenLabel IsHeader) (namedOf s (texted none 2 p n)) _ (stop 6 at)
+          (λ h. SeenLabel.seen {q = q} {l = Label.header (bytesAt n s p) f} t tt (Names.header f (named-stands s none 0 p n h) refl)
           (rw (named s none none (empty s)) refl))
           (λ h. SeenLabel.unseen (no-header one λ u k b g w.
           let a : u ≡ p = cc in
           let c : k ≡ n = cc in
           false-true (sym h ∙ named s none (2 bytes n) (rw (a, c) at w))) (refl, refl))
-      by t one (P.Message p n q m) e i = SeenLabel.unseen (no-header one λ u k b g w. clash (cc)) (refl, refl)
-      by t one P.Other e i = SeenLabel.unseen (no-header one λ u k b g w. clash (cc)) (refl, refl)
 
-      go : {d : Out} → Taking s image bs at (λ r q. labelled s 0x31 at (partOf r) (end q)) d → SeenLabel IsHeader d
-      go (Taking.takes {r} t one) = by t one (partOf r) refl (part-is r)
-      go (Taking.bad n) = SeenLabel.unseen (record { none = λ r l f k m. n r f }) (refl, refl)
+      go : {d : Out} → Asking s image bs at kind.header (λ l q. labelled s kind.header at l (end q)) d → SeenLabel IsHeader d
+      go (Asking.asks {r} t e one) = let i = is r kind.header e in rw (i .3) (by (rw (i .3) at t) (λ x f. one x f ∙ i .3))
+      go (Asking.other n) = SeenLabel.unseen (no-entry header-kind n) (refl, refl)
 
-  pub see-message : SeenLabel IsMessage (label 0x32 image s at)
+  pub see-message : SeenLabel IsMessage (label kind.message image s at)
   unfolding label row
-  see-message = go (taking s image bs at (λ r q. labelled s 0x32 at (partOf r) (end q)))
+  see-message = go (asking s image bs at kind.message λ l q. labelled s kind.message at l (end q))
     where
-      by : {r : Record} {q : ℕ} → Took s image bs at r q → ((t : Record) → Fronts s t (drop at image) → t ≡ r) → (h : Part) → partOf r ≡ h → Is r h
-          → SeenLabel IsMessage (labelled s 0x32 at h (end q))
-      by t one (P.Packet h m) e i = SeenLabel.unseen (no-message one λ u k v j g w x. clash (cc)) (refl, refl)
-      by t one (P.Header p n f) e i = SeenLabel.unseen (no-message one λ u k v j g w x. clash (cc)) (refl, refl)
-      by {q = q} t one (P.Message p n y m) e i =
-          let front : List ℕ = rowBytes s (rowOf none (2 bytes n) p n) in
-          picked (SeenLabel IsMessage) (namedOf s (rowOf none (2 bytes n) p n)) _ (stop 6 at)
+      by : {p n y m q : ℕ} → Took s image bs at (R.Message p n y m) q → ((t : Record) → Fronts s t (drop at image) → t ≡ R.Message p n y m)
+          → SeenLabel IsMessage (labelled s kind.message at (layoutOf (R.Message p n y m)) (end q))
+      by {p} {n} {y} {m} {q} t one =
+          let front : List ℕ = rowBytes s (texted none 2 p n) in
+          picked (SeenLabel IsMessage) (namedOf s (texted none 2 p n)) _ (stop 6 at)
           (λ h.
-          picked (λ (d : Out). SeenLabel IsMessage (put front d)) (namedOf s (rowOf none (2 bytes m) y m)) _ (stop 6 at)
-          (λ o. SeenLabel.seen {q = q} {l = Label.message (bytesAt n s p) (bytesAt m s y)} (rw i at t) tt
+          picked (λ (d : Out). SeenLabel IsMessage (put front d)) (namedOf s (texted none 2 y m)) _ (stop 6 at)
+          (λ o. SeenLabel.seen {q = q} {l = Label.message (bytesAt n s p) (bytesAt m s y)} t tt
           (Names.message (named-stands s none 0 p n h) (named-stands s none 0 y m o) refl refl) refl)
           (λ o. SeenLabel.unseen (no-message one λ u k v j g w x.
           let a : v ≡ y = cc in
@@ -142,8 +110,7 @@ module _ (s image : List ℕ) (bs : Bytes image) (at : ℕ) where
           let a : u ≡ p = cc in
           let c : k ≡ n = cc in
           false-true (sym h ∙ named s none (2 bytes n) (rw (a, c) at w))) (refl, refl))
-      by t one P.Other e i = SeenLabel.unseen (no-message one λ u k v j g w x. clash (cc)) (refl, refl)
 
-      go : {d : Out} → Taking s image bs at (λ r q. labelled s 0x32 at (partOf r) (end q)) d → SeenLabel IsMessage d
-      go (Taking.takes {r} t one) = by t one (partOf r) refl (part-is r)
-      go (Taking.bad n) = SeenLabel.unseen (record { none = λ r l f k m. n r f }) (refl, refl)
+      go : {d : Out} → Asking s image bs at kind.message (λ l q. labelled s kind.message at l (end q)) d → SeenLabel IsMessage d
+      go (Asking.asks {r} t e one) = let i = is r kind.message e in rw (i .4) (by (rw (i .4) at t) (λ x f. one x f ∙ i .4))
+      go (Asking.other n) = SeenLabel.unseen (no-entry message-kind n) (refl, refl)

@@ -5,7 +5,7 @@ use Rattle.wire.proofs.Stands.{Here, cut, skip}
 use Rattle.image.specs.declared.record.Record.{Record}
 use Rattle.image.specs.Record.{size}
 use Rattle.image.specs.Taking.{Fits}
-use Rattle.image.specs.Out.{Out, end, stop, put}
+use Rattle.image.specs.Out.{Out}
 use Rattle.amf0.specs.Standard.{Sort, Tree, depth}
 use Rattle.amf0.specs.Shown.{laid, Right}
 use Rattle.amf0.specs.Writing.{value}
@@ -17,6 +17,7 @@ use Rattle.amf0_theorems.proofs.WriteSound.{Ends}
 use Rattle.amf0_theorems.proofs.Shortest.{encoded}
 use Rattle.amf0_theorems.proofs.Theorems.{unique}
 use Rattle.packet.specs.Packet.{Label, Item, Packet}
+use Rattle.amf0_theorems.proofs.WriteRefusal.{ends-once}
 use Rattle.packet.specs.Shown.{counts}
 use Rattle.packet.specs.Written.{sayingItem, saying, Spells, Images}
 use Rattle.packet_theorems.proofs.Items.{names-one}
@@ -27,11 +28,6 @@ puts-ends : {d : Out} {x : List ℕ} {n : ℕ} → Puts ⊥ d x n → Ends d n
 puts-ends Puts.done = refl
 puts-ends (Puts.more p) = puts-ends p
 puts-ends (Puts.shut e) = absurd e
-
-one-end : (d : Out) {m n : ℕ} → Ends d m → Ends d n → m ≡ n
-one-end (end k) a b = a ∙ sym b
-one-end (stop w p) a b = absurd a
-one-end (put x d) a b = one-end d a b
 
 -- ---- a value
 
@@ -47,7 +43,7 @@ module _ (s image : List ℕ) where
       let q : Puts ⊥ d (amf0.write w) (at + length (laid us)) =
       puts s image b h y at (at + length (laid us)) left (length (laid us)) j refl (λ t. omega arith) (omega arith) in
       let same : amf0.write v ≡ amf0.write w = sym (puts-bytes p) ∙ puts-bytes q in
-      let n : at + length (laid rs) ≡ at + length (laid us) = one-end d (puts-ends p) (puts-ends q) in
+      let n : at + length (laid rs) ≡ at + length (laid us) = ends-once d (at + length (laid rs)) (at + length (laid us)) (puts-ends p) (puts-ends q) in
       (unique v w (amf0.write v) (amf0.write w) [] [] (encoded a g (omega arith)) (encoded b h (omega arith)) (ap (λ z. z ++ []) same) .0, omega arith)
 
   -- the record at a place

@@ -1,17 +1,18 @@
 -- A packet is gone over just as the grammar of its refusals has it, by the whole reading and by the cut: once over how the values are gone over.
-use Rattle.wire.proofs.Kit.{ℕ, zero, suc, _+_, _^_, _≤_, _<_, _≡_, refl, sym, ap, _∙_, _≢_, _⊎_, inl, inr, List, [], _∷_, _++_, append-nil, Bool, true, false}
-use Rattle.wire.proofs.Kit.{arith, add-zero, length, take, drop, eqb, le-leb, ne-eqb, eqb-true, eqb-false}
+use Rattle.wire.proofs.Kit.{ℕ, zero, suc, _+_, _^_, _≤_, _<_, _≡_, refl, sym, ap, subst, _∙_, _≢_, _⊎_, inl, inr, List, [], _∷_, _++_, append-nil, Bool, true, false}
+use Rattle.wire.proofs.Kit.{arith, add-zero, length, take, drop, getD, length-drop, leb, eqb, le-leb, lt-leb, ne-eqb, leb-true, leb-false, eqb-true, eqb-false}
 use Rattle.wire.specs.Choice.{pick}
 use Rattle.wire.specs.Number.{digits, Bytes}
 use Rattle.wire.specs.Field.{to, u8At, tagAt, pastTag}
 use Rattle.wire.specs.declared.cursor.Tag.the-variants as Tag
-use Rattle.wire.proofs.Stands.{Here, tag-at, byte-at}
+use Rattle.wire.proofs.Laws.{picked}
+use Rattle.wire.proofs.Stands.{Here, inside as reached, tag-at, byte-at, byte-stood}
 use Rattle.amf0_theorems.specs.Refusal.{Field, Refuses, Refused}
 use Rattle.amf0_theorems.specs.Refusal.Field.{some, fixed}
 use Rattle.packet.specs.Head.{versionAt}
 use Rattle.packet.specs.Packet.{Label, IsHeader, IsMessage}
 use Rattle.packet_theorems.specs.Refusal.{Way, LeadsLabel, Entries, LeadsEntries, IsPacket, LeadsPacket, Seven, RefusedPacket}
-use Rattle.packet_theorems.proofs.Parts.{Part, goes, halts, _then_, Standing, Tells, Follows, Plain, plain, Both, LeadsBoth, in-turn, turned, Only, Number, numberBy, number-follows}
+use Rattle.packet_theorems.proofs.Parts.{Part, goes, halts, _then_, then-then, Standing, Tells, Follows, Plain, plain, Both, LeadsBoth, in-turn, turned, Only, only-refused, one-field, Number, numberBy, number-follows}
 use Rattle.packet_theorems.proofs.Labels.{Labelled, Kinds, headers, messages}
 
 -- ---- entries
@@ -85,47 +86,16 @@ module _ {w : Way} {kind : ℕ} {Kind : Label → Type 0} (k : Kinds kind Kind) 
   unfolding entriesBy
   entries-follows zero at = none-follow w Kind s at
   entries-follows (suc n) at =
-      turned (to-entries w Kind n) (λ v x r h. from-entries w Kind n v x) (to-leads w Kind n) (from-leads w Kind n)
+      turned (to-entries w Kind n) (λ v x r h. from-entries w Kind n v x) (λ r x f e. to-leads w Kind n r x f) (from-leads w Kind n)
       (in-turn (λ v q. numberBy 4 s q then step then λ u e. entriesBy k s step n e) (k .labelBy s at) (k .follows s bs at) λ v x r l h.
       in-turn (λ u e. entriesBy k s step n e) (numberBy 4 s (at + length x) then step) (g .follows (at + length x)) λ u y z b i.
       entries-follows n (at + length x + length y))
 
 -- ---- the version
 
--- the field of a zero byte, where nothing is left, or another byte
-data Untagged : List ℕ → ℕ → Type 0 where
-  none : Untagged [] 2
-  other : {b : ℕ} {r : List ℕ} → b ≢ 0 → Untagged (b ∷ r) 3
-
-untagged : {r : List ℕ} {a : ℕ} → Refuses (fixed (0 ∷ [])) r a → Untagged r a
-untagged {r = []} (Refuses.short l) = Untagged.none
-untagged {r = b ∷ r} (Refuses.short l) = absurd (omega arith)
-untagged {r = []} (Refuses.other-bytes l n) = absurd (omega arith)
-untagged {r = b ∷ r} (Refuses.other-bytes l n) = Untagged.other λ e. n (ap (λ c. c ∷ []) e)
-
-refuses-tag : {r : List ℕ} {a : ℕ} → Untagged r a → Refuses (fixed (0 ∷ [])) r a
-refuses-tag Untagged.none = let few : length {A = ℕ} [] < 1 = omega arith in Refuses.short few
-refuses-tag (Untagged.other {b} {r} n) =
-    let enough : 1 ≤ length (b ∷ r) = omega arith in
-    let differs : take 1 (b ∷ r) ≢ 0 ∷ [] = λ e. n (cc e) in
-    Refuses.other-bytes enough differs
-
 -- going over a zero and the version
 abbrev pub versionBy : List ℕ → Part
 versionBy s = pastTag halts (versionAt s) λ p. goes 0 p
-
--- what comes of each beginning
-version-none : versionBy [] ≡ halts 2 0
-unfolding versionAt tagAt
-version-none = refl
-
-version-other : (b : ℕ) (r : List ℕ) → b ≢ 0 → versionBy (b ∷ r) ≡ halts 3 0
-unfolding versionAt tagAt
-version-other b r n = rw (le-leb 1 (length (b ∷ r)) (omega arith), ne-eqb b 0 n)
-
-version-alone : versionBy (0 ∷ []) ≡ halts 2 1
-unfolding versionAt tagAt u8At
-version-alone = refl
 
 -- behind a zero
 version-byte : (b : ℕ) (r : List ℕ) → versionAt (0 ∷ b ∷ r) ≡ pick (eqb b 0) (Tag.Past (to 2)) (pick (eqb b 3) (Tag.Stop 7 1) (Tag.Stop 3 1))
@@ -136,80 +106,68 @@ version-byte b r =
       byte-at {s = 0 ∷ b ∷ r} {r = r} {at = 1} b (record { same = refl }),
     )
 
-version-right : (r : List ℕ) → versionBy (0 ∷ 0 ∷ r) ≡ goes 0 2
-version-right r = rw (version-byte 0 r)
+-- going over a zero byte
+data Zero : List ℕ → Type 0 where
+  nought : Zero (0 ∷ [])
 
-version-wrong : (b : ℕ) (r : List ℕ) → b ≢ 0 → b ≢ 3 → versionBy (0 ∷ b ∷ r) ≡ halts 3 1
-version-wrong b r n m = rw (version-byte b r, ne-eqb b 0 n, ne-eqb b 3 m)
+abbrev zeroBy : List ℕ → ℕ → Part
+zeroBy s at = pick (leb (at + 1) (length s)) (pick (eqb (getD s at 0) 0) (goes 0 (at + 1)) (halts 3 at)) (halts 2 at)
 
--- the ways in which an input can begin
-data Front : List ℕ → Type 0 where
-  none : Front []
-  other : {b : ℕ} {r : List ℕ} → b ≢ 0 → Front (b ∷ r)
-  alone : Front (0 ∷ [])
-  right : {r : List ℕ} → Front (0 ∷ 0 ∷ r)
-  three : {r : List ℕ} → Front (0 ∷ 3 ∷ r)
-  wrong : {b : ℕ} {r : List ℕ} → b ≢ 0 → b ≢ 3 → Front (0 ∷ b ∷ r)
-
-front : (s : List ℕ) → Front s
-front [] = Front.none
-front (b ∷ r) = first (eqb b 0) refl
+zero-follows : (s : List ℕ) (at : ℕ) → Follows (Plain Zero) (λ r. Only (fixed (0 ∷ []))) s at (zeroBy s at)
+zero-follows s at = one-field ends stops told
   where
-    second : (r : List ℕ) → Front (0 ∷ r)
-    second [] = Front.alone
-    second (c ∷ r) = go (eqb c 0) (eqb c 3) refl refl
-      where
-        go : (t u : Bool) → eqb c 0 ≡ t → eqb c 3 ≡ u → Front (0 ∷ c ∷ r)
-        go true u e f = rw (eqb-true c 0 e) Front.right
-        go false true e f = rw (eqb-true c 3 f) Front.three
-        go false false e f = Front.wrong (eqb-false c 0 e) (eqb-false c 3 f)
+    ends : (v : ℕ) (x r : List ℕ) → Plain Zero v x → Here s at x r → zeroBy s at ≡ goes v (at + length x)
+    ends v x r (Plain.plain Zero.nought) h =
+        let i : at + 1 ≤ length s = reached h (omega arith) in
+        let e : getD s at 0 ≡ 0 = cc (byte-stood s at (omega arith) .same, h .same) in
+        rw (le-leb (at + 1) (length s) i, e)
 
-    first : (t : Bool) → eqb b 0 ≡ t → Front (b ∷ r)
-    first true e = rw (eqb-true b 0 e) (second r)
-    first false e = Front.other (eqb-false b 0 e)
+    stops : (a : ℕ) → Refuses (fixed (0 ∷ [])) (drop at s) a → zeroBy s at ≡ halts a at
+    stops a (Refuses.short l) = rw (lt-leb (at + 1) (length s) (omega (arith, length-drop at s)))
+    stops a (Refuses.other-bytes l n) =
+        let i : at < length s = omega (arith, length-drop at s) in
+        rw (le-leb (at + 1) (length s) (omega arith), ne-eqb (getD s at 0) 0 λ z. n (ap (take 1) (byte-stood s at i .same) ∙ ap (λ b. b ∷ []) z))
 
--- a zero and the version
-data Zeros : List ℕ → Type 0 where
-  zeros : Zeros (0 ∷ 0 ∷ [])
+    told : Tells (Plain Zero) (λ r. Only (fixed (0 ∷ []))) s at (zeroBy s at)
+    told =
+        let P : Part → Type 0 = Tells (Plain Zero) (λ r. Only (fixed (0 ∷ []))) s at in
+        picked P (leb (at + 1) (length s)) _ _
+        (λ t.
+        let i : at < length s = omega (arith, leb-true (at + 1) (length s) t) in
+        let e = byte-stood s at i .same in
+        let enough : 1 ≤ length (drop at s) = omega (arith, length-drop at s) in
+        picked P (eqb (getD s at 0) 0) (goes 0 (at + 1)) (halts 3 at)
+        (λ z.
+        let same : drop at s ≡ 0 ∷ drop (at + 1) s = e ∙ ap (λ b. b ∷ drop (at + 1) s) (eqb-true (getD s at 0) 0 z) in
+        record { row = 0 ∷ []; rest = drop (at + 1) s; stands = plain Zero.nought; here = record { same = same }; next = refl })
+        (λ z. only-refused s at (Refuses.other-bytes {x = 0 ∷ []} enough λ q. eqb-false (getD s at 0) 0 z (cc (ap (take 1) e, q)))))
+        (λ t.
+        let few : length (drop at s) < 1 = omega (arith, leb-false (at + 1) (length s) t, length-drop at s) in
+        only-refused s at (Refuses.short few))
 
-data LeadsVersion (r : List ℕ) : List ℕ → Field → Type 0 where
-  start : LeadsVersion r [] (fixed (0 ∷ []))
-  version : ((z : List ℕ) → r ≢ 3 ∷ z) → LeadsVersion r (0 ∷ []) (fixed (0 ∷ []))
-
--- a zero byte refuses, at the front or as the version
-version-refused : (z r : List ℕ) {a : ℕ} → LeadsVersion r z (fixed (0 ∷ [])) → Untagged r a → Refused LeadsVersion (z ++ r) 0 a (length z)
-version-refused z r l u = record { before = z; rest = r; field = fixed (0 ∷ []); stands = refl; here = omega arith; leads = l; refuses = refuses-tag u }
-
-version-follows : (s : List ℕ) → (Seven s → ⊥) → Follows (Plain Zeros) LeadsVersion s 0 (versionBy s)
-version-follows s not = record { ends = ends; stops = stops; told = told (front s) not }
+-- but for version 3, the version is gone over as two zeros
+version-second : (r : List ℕ) → (Seven (0 ∷ r) → ⊥) → versionBy (0 ∷ r) ≡ zeroBy (0 ∷ r) 1
+unfolding versionAt tagAt u8At
+version-second [] not = refl
+version-second (c ∷ r) not = rw (version-byte c r, le-leb 2 (length (0 ∷ c ∷ r)) (omega arith)) (go (eqb c 0) (eqb c 3) refl)
   where
-    ends : (v : ℕ) (x r : List ℕ) → Plain Zeros v x → Here s 0 x r → versionBy s ≡ goes v (0 + length x)
-    ends v x r (Plain.plain Zeros.zeros) h = ap versionBy (h .same) ∙ version-right r
+    go : (t u : Bool) → eqb c 3 ≡ u → pastTag halts (pick t (Tag.Past (to 2)) (pick u (Tag.Stop 7 1) (Tag.Stop 3 1))) (λ p. goes 0 p) ≡ pick t (goes 0 2) (halts 3 1)
+    go true u e = refl
+    go false true e = absurd (not (rw (eqb-true c 3 e) Seven.begins))
+    go false false e = refl
 
-    stops : (a p : ℕ) → Refused LeadsVersion s 0 a p → versionBy s ≡ halts a p
-    stops a p q = go (q .leads) (q .refuses) (q .stands) (q .here)
-      where
-        tag : {r z : List ℕ} {f : Field} {a : ℕ} → LeadsVersion r z f → Untagged r a → s ≡ z ++ r → p ≡ 0 + length z → versionBy s ≡ halts a p
-        tag LeadsVersion.start Untagged.none e n = ap versionBy e ∙ (version-none ∙ ap (halts 2) (sym n))
-        tag LeadsVersion.start (Untagged.other {b} {r} m) e n = ap versionBy e ∙ (version-other b r m ∙ ap (halts 3) (sym n))
-        tag (LeadsVersion.version t) Untagged.none e n = ap versionBy e ∙ (version-alone ∙ ap (halts 2) (sym n))
-        tag (LeadsVersion.version t) (Untagged.other {b} {r} m) e n =
-            ap versionBy e ∙ (version-wrong b r m (λ q. t r (ap (λ c. c ∷ r) q)) ∙ ap (halts 3) (sym n))
-
-        go : {r z : List ℕ} {f : Field} → LeadsVersion r z f → Refuses f r a → s ≡ z ++ r → p ≡ 0 + length z → versionBy s ≡ halts a p
-        go LeadsVersion.start u = tag LeadsVersion.start (untagged u)
-        go (LeadsVersion.version t) u = tag (LeadsVersion.version t) (untagged u)
-
-    told : {s : List ℕ} → Front s → (Seven s → ⊥) → Tells (Plain Zeros) LeadsVersion s 0 (versionBy s)
-    told Front.none not = rw version-none (version-refused [] [] LeadsVersion.start Untagged.none)
-    told (Front.other {b} {r} m) not = rw (version-other b r m) (version-refused [] (b ∷ r) LeadsVersion.start (Untagged.other m))
-    told Front.alone not =
-        rw version-alone (version-refused (0 ∷ []) [] (LeadsVersion.version λ z e. let z : _≡_ {A = ℕ} 0 1 = cc in omega arith) Untagged.none)
-    told (Front.right {r}) not =
-        rw (version-right r) (record { row = 0 ∷ 0 ∷ []; rest = r; stands = plain Zeros.zeros; here = record { same = refl }; next = refl })
-    told Front.three not = absurd (not Seven.begins)
-    told (Front.wrong {b} {r} m k) not =
-        rw (version-wrong b r m k) (version-refused (0 ∷ []) (b ∷ r) (LeadsVersion.version λ z e. k (cc)) (Untagged.other m))
+version-zeros : (s : List ℕ) → (Seven s → ⊥) → versionBy s ≡ zeroBy s 0 then λ v p. zeroBy s p
+unfolding versionAt tagAt
+version-zeros [] not = refl
+version-zeros (b ∷ r) not = go (eqb b 0) refl
+  where
+    go : (t : Bool) → eqb b 0 ≡ t → versionBy (b ∷ r) ≡ zeroBy (b ∷ r) 0 then λ v p. zeroBy (b ∷ r) p
+    go true e =
+        let z : b ≡ 0 = eqb-true b 0 e in
+        let n : Seven (0 ∷ r) → ⊥ = rw z at not in
+        let one : zeroBy (0 ∷ r) 0 ≡ goes 0 1 = rw (le-leb 1 (length (0 ∷ r)) (omega arith)) in
+        rw z (version-second r n ∙ sym (ap (λ o. o then λ v p. zeroBy (0 ∷ r) p) one))
+    go false e = rw (le-leb 1 (length (b ∷ r)) (omega arith), e)
 
 -- ---- the packet
 
@@ -225,59 +183,79 @@ packetBy s step =
 module _ (w : Way) where
   abbrev Fields : ℕ → List ℕ → Type 0
   Fields =
-      Both (Plain Zeros) λ v.
+      Both (Plain Zero) λ u.
+      Both (Plain Zero) λ v.
       Both (Number 2) λ h.
       Both (Plain (Entries w IsHeader h)) λ u.
       Both (Number 2) λ m. Plain (Entries w IsMessage m)
 
   abbrev LeadsFields : List ℕ → List ℕ → Field → Type 0
   LeadsFields =
-      LeadsBoth (Plain Zeros) LeadsVersion λ v.
+      LeadsBoth (Plain Zero) (λ r. Only (fixed (0 ∷ []))) λ u.
+      LeadsBoth (Plain Zero) (λ r. Only (fixed (0 ∷ []))) λ v.
       LeadsBoth (Number 2) (λ r. Only (some 2)) λ h.
       LeadsBoth (Plain (Entries w IsHeader h)) (λ r. LeadsEntries w IsHeader r h) λ u.
       LeadsBoth (Number 2) (λ r. Only (some 2)) λ m r. LeadsEntries w IsMessage r m
 
   to-packet : (v : ℕ) (x : List ℕ) → Fields v x → Plain (IsPacket w) v x
-  to-packet v x (Both.both (Plain.plain Zeros.zeros) (Both.both (Number.is h) (Both.both (Plain.plain y) (Both.both (Number.is m) (Plain.plain z))))) =
-      plain (IsPacket.packet h y m z)
+  to-packet v x (Both.both (Plain.plain Zero.nought) (Both.both (Plain.plain Zero.nought)
+      (Both.both (Number.is h) (Both.both (Plain.plain y) (Both.both (Number.is m) (Plain.plain z)))))) = plain (IsPacket.packet h y m z)
+
+  -- behind the two zeros
+  zeros : {u : ℕ} {y : List ℕ} → Both (Number 2) (λ h. Both (Plain (Entries w IsHeader h)) λ v. Both (Number 2) λ m. Plain (Entries w IsMessage m)) u y
+      → Fields u (0 ∷ 0 ∷ y)
+  zeros f = Both.both (plain Zero.nought) (Both.both (plain Zero.nought) f)
 
   from-packet : (v : ℕ) (x : List ℕ) → Plain (IsPacket w) v x → Fields v x
-  from-packet v x (Plain.plain (IsPacket.packet h y m z)) =
-      Both.both (plain Zeros.zeros) (Both.both (Number.is h) (Both.both (plain y) (Both.both (Number.is m) (plain z))))
+  from-packet v x (Plain.plain (IsPacket.packet h y m z)) = zeros (Both.both (Number.is h) (Both.both (plain y) (Both.both (Number.is m) (plain z))))
 
-  to-field : (r x : List ℕ) (f : Field) → LeadsFields r x f → LeadsPacket w r x f
-  to-field r x f (LeadsBoth.one LeadsVersion.start) = LeadsPacket.zero
-  to-field r x f (LeadsBoth.one (LeadsVersion.version t)) = LeadsPacket.version t
-  to-field r x f (LeadsBoth.two (Plain.plain Zeros.zeros) (LeadsBoth.one Only.only)) = LeadsPacket.header-count
-  to-field r x f (LeadsBoth.two (Plain.plain Zeros.zeros) (LeadsBoth.two (Number.is h) (LeadsBoth.one y))) = LeadsPacket.headers h y
-  to-field r x f (LeadsBoth.two (Plain.plain Zeros.zeros) (LeadsBoth.two (Number.is h) (LeadsBoth.two {x = y} (Plain.plain e) (LeadsBoth.one Only.only)))) =
-      rw (append-nil y) (LeadsPacket.message-count h e)
-  to-field r x f (LeadsBoth.two (Plain.plain Zeros.zeros) (LeadsBoth.two (Number.is h) (LeadsBoth.two (Plain.plain e) (LeadsBoth.two (Number.is m) y)))) =
-      LeadsPacket.messages h e m y
+  to-field : (s : List ℕ) → (Seven s → ⊥) → (r x : List ℕ) (f : Field) → s ≡ x ++ r → LeadsFields r x f → LeadsPacket w r x f
+  to-field s not r x f e (LeadsBoth.one Only.only) = LeadsPacket.zero
+  to-field s not r x f e (LeadsBoth.two (Plain.plain Zero.nought) (LeadsBoth.one Only.only)) =
+      LeadsPacket.version λ z q. not (subst Seven (sym (e ∙ ap (λ y. 0 ∷ y) q)) Seven.begins)
+  to-field s not r x f e (LeadsBoth.two (Plain.plain Zero.nought) (LeadsBoth.two (Plain.plain Zero.nought) l)) = go l
+    where
+      go : {y : List ℕ} {f : Field}
+          → LeadsBoth (Number 2) (λ r. Only (some 2)) (λ h. LeadsBoth (Plain (Entries w IsHeader h)) (λ r. LeadsEntries w IsHeader r h) λ u.
+          LeadsBoth (Number 2) (λ r. Only (some 2)) λ m r. LeadsEntries w IsMessage r m) r y f
+          → LeadsPacket w r (0 ∷ 0 ∷ y) f
+      go (LeadsBoth.one Only.only) = LeadsPacket.header-count
+      go (LeadsBoth.two (Number.is h) (LeadsBoth.one y)) = LeadsPacket.headers h y
+      go (LeadsBoth.two (Number.is h) (LeadsBoth.two {x = y} (Plain.plain e) (LeadsBoth.one Only.only))) = rw (append-nil y) (LeadsPacket.message-count h e)
+      go (LeadsBoth.two (Number.is h) (LeadsBoth.two (Plain.plain e) (LeadsBoth.two (Number.is m) y))) = LeadsPacket.messages h e m y
 
   from-field : (r x : List ℕ) (f : Field) → LeadsPacket w r x f → LeadsFields r x f
-  from-field r x f LeadsPacket.zero = LeadsBoth.one LeadsVersion.start
-  from-field r x f (LeadsPacket.version t) = LeadsBoth.one (LeadsVersion.version t)
-  from-field r x f LeadsPacket.header-count = LeadsBoth.two {x = 0 ∷ 0 ∷ []} {y = []} (plain Zeros.zeros) (LeadsBoth.one Only.only)
-  from-field r x f (LeadsPacket.headers h y) = LeadsBoth.two (plain Zeros.zeros) (LeadsBoth.two (Number.is h) (LeadsBoth.one y))
+  from-field r x f LeadsPacket.zero = LeadsBoth.one Only.only
+  from-field r x f (LeadsPacket.version t) = LeadsBoth.two {x = 0 ∷ []} {y = []} (plain Zero.nought) (LeadsBoth.one Only.only)
+  from-field r x f LeadsPacket.header-count =
+      LeadsBoth.two {x = 0 ∷ []} {y = 0 ∷ []} (plain Zero.nought) (LeadsBoth.two {x = 0 ∷ []} {y = []} (plain Zero.nought) (LeadsBoth.one Only.only))
+  from-field r x f (LeadsPacket.headers h y) =
+      LeadsBoth.two (plain Zero.nought) (LeadsBoth.two (plain Zero.nought) (LeadsBoth.two (Number.is h) (LeadsBoth.one y)))
   from-field r x f (LeadsPacket.message-count {h} {x = y} l e) =
       let i : LeadsFields r (0 ∷ 0 ∷ digits 2 h ++ (y ++ [])) (some 2) =
-      LeadsBoth.two (plain Zeros.zeros) (LeadsBoth.two (Number.is l) (LeadsBoth.two (plain e) (LeadsBoth.one Only.only)))
+      LeadsBoth.two (plain Zero.nought) (LeadsBoth.two (plain Zero.nought) (LeadsBoth.two (Number.is l) (LeadsBoth.two (plain e) (LeadsBoth.one Only.only))))
       in
       rw (append-nil y) at i
   from-field r x f (LeadsPacket.messages h e m y) =
-      LeadsBoth.two (plain Zeros.zeros) (LeadsBoth.two (Number.is h) (LeadsBoth.two (plain e) (LeadsBoth.two (Number.is m) y)))
+      LeadsBoth.two (plain Zero.nought) (LeadsBoth.two (plain Zero.nought) (LeadsBoth.two (Number.is h) (LeadsBoth.two (plain e) (LeadsBoth.two (Number.is m) y))))
 
 module _ {w : Way} (s : List ℕ) (bs : Bytes s) (step : ℕ → ℕ → Part) (g : Goes w s step) where
   packet-follows : (Seven s → ⊥) → Follows (Plain (IsPacket w)) (LeadsPacket w) s 0 (packetBy s step)
   unfolding packetBy
   packet-follows not =
-      turned (to-packet w) (λ v x r h. from-packet w v x) (to-field w) (from-field w)
-      (in-turn _ (versionBy s) (version-follows s not) λ v x r a b.
-      in-turn _ (numberBy 2 s (0 + length x)) (number-follows 2 s bs (0 + length x) (omega arith)) λ h y r a b.
-      in-turn _ (entriesBy headers s step h (0 + length x + length y)) (entries-follows headers s bs step g h (0 + length x + length y)) λ u z r a b.
-      in-turn _ (numberBy 2 s (0 + length x + length y + length z)) (number-follows 2 s bs (0 + length x + length y + length z) (omega arith)) λ m t r a b.
-      entries-follows messages s bs step g m (0 + length x + length y + length z + length t))
+      rw (
+        version-zeros s not,
+        then-then (zeroBy s 0) (λ v p. zeroBy s p) λ v p.
+            numberBy 2 s p then λ h q. entriesBy headers s step h q then λ u e. numberBy 2 s e then λ m f. entriesBy messages s step m f,
+      )
+      (turned (to-packet w) (λ v x r h. from-packet w v x) (to-field w s not) (from-field w)
+      (in-turn _ (zeroBy s 0) (zero-follows s 0) λ v o r a b.
+      in-turn _ (zeroBy s (0 + length o)) (zero-follows s (0 + length o)) λ v x r a b.
+      let p : ℕ = 0 + length o + length x in
+      in-turn _ (numberBy 2 s p) (number-follows 2 s bs p (omega arith)) λ h y r a b.
+      in-turn _ (entriesBy headers s step h (p + length y)) (entries-follows headers s bs step g h (p + length y)) λ u z r a b.
+      in-turn _ (numberBy 2 s (p + length y + length z)) (number-follows 2 s bs (p + length y + length z) (omega arith)) λ m t r a b.
+      entries-follows messages s bs step g m (p + length y + length z + length t)))
 
 -- ---- version 3
 
@@ -293,9 +271,9 @@ seven-front : {s z : List ℕ} → Seven s → s ≡ 0 ∷ 0 ∷ z → ⊥
 seven-front Seven.begins e = let z : _≡_ {A = ℕ} 3 0 = cc in omega arith
 
 -- its first byte is a zero
-seven-tag : {s r : List ℕ} {a : ℕ} → Seven s → Untagged r a → s ≡ r → ⊥
-seven-tag Seven.begins Untagged.none e = let z : _≡_ {A = ℕ} 1 0 = cc in omega arith
-seven-tag Seven.begins (Untagged.other n) e = n (cc)
+seven-tag : {s : List ℕ} {a : ℕ} → Seven s → Refuses (fixed (0 ∷ [])) s a → ⊥
+seven-tag Seven.begins (Refuses.short l) = omega arith
+seven-tag Seven.begins (Refuses.other-bytes l n) = n refl
 
 -- and behind that byte stands 3
 seven-behind : {s r : List ℕ} → Seven s → ((z : List ℕ) → r ≢ 3 ∷ z) → s ≡ 0 ∷ r → ⊥
@@ -306,7 +284,7 @@ seven-alone : {w : Way} {s : List ℕ} {a p : ℕ} → Seven s → Refused (Lead
 seven-alone {w} {s} {a} {p} v q = go (q .leads) (q .refuses) (q .stands)
   where
     go : {r z : List ℕ} {f : Field} → LeadsPacket w r z f → Refuses f r a → s ≡ z ++ r → ⊥
-    go LeadsPacket.zero u e = seven-tag v (untagged u) e
+    go LeadsPacket.zero u e = seven-tag {a = a} v (rw e u)
     go (LeadsPacket.version t) u e = seven-behind v t e
     go LeadsPacket.header-count u e = seven-front v e
     go (LeadsPacket.headers l y) u e = seven-front v e
@@ -319,21 +297,17 @@ seven-packet v (IsPacket.packet l y m z) h = seven-front v (h .same)
 
 -- an input is of version 3 or not
 seven-or : (s : List ℕ) → Seven s ⊎ (Seven s → ⊥)
-seven-or s = go (front s)
+seven-or [] = inr (elim [ ])
+seven-or (b ∷ []) = inr (elim [ ])
+seven-or (b ∷ c ∷ r) = go (eqb b 0) (eqb c 3) refl refl
   where
-    go : {s : List ℕ} → Front s → Seven s ⊎ (Seven s → ⊥)
-    go Front.none = inr (elim [ ])
-    go (Front.other n) = inr λ v. n (zero v)
-      where
-        zero : {b : ℕ} {r : List ℕ} → Seven (b ∷ r) → b ≡ 0
-        zero Seven.begins = refl
-    go Front.alone = inr (elim [ ])
-    go Front.right = inr λ v. seven-front v refl
-    go Front.three = inl Seven.begins
-    go (Front.wrong n m) = inr λ v. m (third v)
-      where
-        third : {b : ℕ} {r : List ℕ} → Seven (0 ∷ b ∷ r) → b ≡ 3
-        third Seven.begins = refl
+    both : {b c : ℕ} {r : List ℕ} → Seven (b ∷ c ∷ r) → (b ≡ 0) × (c ≡ 3)
+    both Seven.begins = (refl, refl)
+
+    go : (t u : Bool) → eqb b 0 ≡ t → eqb c 3 ≡ u → Seven (b ∷ c ∷ r) ⊎ (Seven (b ∷ c ∷ r) → ⊥)
+    go true true e f = inl (rw (eqb-true b 0 e, eqb-true c 3 f) Seven.begins)
+    go true false e f = inr λ v. eqb-false c 3 f (both v .1)
+    go false u e f = inr λ v. eqb-false b 0 e (both v .0)
 
 -- ---- what going over a packet comes to
 

@@ -1,5 +1,6 @@
 -- The whole packet against the standard's: what encodes a packet is read as it, and what was read encodes one.
-use Rattle.wire.proofs.Kit.{ℕ, _+_, _^_, _≤_, _<_, _≡_, refl, sym, ap, _∙_, List, [], _∷_, _++_, arith, length, drop, length-append, eqb, lit<, eqb-true}
+use Rattle.wire.proofs.Kit.{ℕ, _+_, _^_, _≤_, _<_, _≡_, refl, sym, ap, _∙_, List, [], _∷_, _++_, arith, length, drop, length-append, eqb, lit<, eqb-true, map}
+use Rattle.wire.proofs.Kit.{map-append}
 use Rattle.wire.specs.Number.{digits, Bytes}
 use Rattle.wire.specs.Limit as limit
 use Rattle.wire.specs.Field.{to, u16At, tagAt, got16}
@@ -11,17 +12,23 @@ use Rattle.wire.proofs.Laws.{picked, u16-next, tag-next}
 use Rattle.wire.proofs.Stands.{Here, cut, skip, tag-at, byte-at, u16-at, tag-ends, end8, u16-ends}
 use Rattle.image.specs.Due.{Due, stop, Ends}
 use Rattle.image.specs.Whole.{bytes}
-use Rattle.amf0_theorems.proofs.Telling.{one-end}
-use Rattle.amf0_theorems.proofs.Sound.{bind-ends}
+use Rattle.amf0_theorems.proofs.Sound.{bind-ends, ends-at}
 use Rattle.packet.specs.Head.{versionAt}
 use Rattle.packet.specs.Packet.{Item, Packet, IsHeader, IsMessage, Items, Encoded}
-use Rattle.packet.specs.Shown.{ShowsPacket, Shallow, Within}
+use Rattle.packet.specs.Shown.{ShowsPacket, Within, counts}
 use Rattle.packet.specs.Reading.{entriesAt, packetAt}
 use Rattle.packet_theorems.proofs.Same.{on16, onTag}
-use Rattle.packet_theorems.proofs.Frame.{no-tag}
-use Rattle.packet_theorems.proofs.Heads.{headers, messages, ends-at}
-use Rattle.packet_theorems.proofs.Agree.{bytes-bind, ends-bind, count-after, Exacts}
-use Rattle.packet_theorems.proofs.Items.{ExactItems, Told, items-told, items-shallow, Exacted, items-found, items-unique}
+use Rattle.packet_theorems.proofs.Heads.{headers, messages}
+use Rattle.packet_theorems.proofs.Agree.{count-after, Exacts}
+use Rattle.packet_theorems.proofs.Items.{ExactItems, Told, items-told, Exacted, items-found, items-unique, ofItems}
+use Rattle.amf0_theorems.proofs.Spans.{ends-bind}
+use Rattle.image.proofs.Settle.{one-end, bytes-bind}
+use Rattle.image.specs.declared.record.Record.the-variants as R
+use Rattle.image.specs.Record.{bytesOf, unplaced}
+use Rattle.image.specs.Taking.{Fits}
+use Rattle.amf0_theorems.proofs.Puts.{laid-append}
+use Rattle.packet.specs.Written.{Images}
+use Rattle.image.specs.declared.record.Record.{Record}
 
 -- ---- what stands there
 
@@ -60,10 +67,20 @@ framed {s} {r} h m x y b c all =
 abbrev pub ExactPacket : {p : Packet} {s : List ℕ} → Encoded p s → Type 0
 ExactPacket (Encoded.packet h m hs ms) = ExactItems hs × ExactItems ms
 
+-- the records of a packet, but for places
+abbrev pub ofPacket : Packet → List Record
+ofPacket p = counts p ∷ (ofItems (p .headers) ++ ofItems (p .messages))
+
+-- the image of a packet that was read
+pub record PacketImage (s : List ℕ) (p : Packet) (image : List ℕ) : Type 0 where
+  pub images : Images s p image
+  pub alike : map unplaced (counts p ∷ (images .header-records ++ images .message-records)) ≡ ofPacket p
+
 -- a packet that stands at the front of s is read up to n, and its image shows it; X says that its lengths are exact
 pub record ToldPacket (p : Packet) (s : List ℕ) (n : ℕ) (X : Type 0) : Type 0 where
   pub ends : Ends (packetAt s) n
   pub shows : length s ≤ limit.bytes → ShowsPacket s p (bytes (packetAt s))
+  pub imaged : length s ≤ limit.bytes → PacketImage s p (bytes (packetAt s))
   pub exact : X → n ≡ length s → Exacts s
 
 exacts : {s : List ℕ} {h m : ℕ} {x y r : List ℕ} → Framed s h m x y r → Exacted 0x31 s h 4 (4 + length x) → Exacted 0x32 s m (4 + length x + 2) (length s) → Exacts s
@@ -90,17 +107,33 @@ unfolding packetAt bytes
 told-whole {hs} {ms} {x} {y} s hi mi f hl ml a b =
     let d : Due = entriesAt 0x31 s (length hs) 4 in
     let k : ℕ → Due = λ n. got16 stop (u16At s n) (entriesAt 0x32 s) in
+    let fits : Fits (R.Packet (length hs) (length ms)) = record { a = hl; b = ml; c = lit< tt; d = lit< tt; zone = λ n z e. cc } in
+    let same : bytes (packetAt s) ≡ bytesOf (R.Packet (length hs) (length ms)) ++ (bytes d ++ bytes (entriesAt 0x32 s (length ms) (4 + length x + 2))) =
+    rw (
+      f .version,
+      f .header-count,
+      count-after s d (4 + length x) (length ms) (to (4 + length x + 2)) (a .ends) (f .message-count),
+      bytes-bind d k (4 + length x) (a .ends),
+      f .message-count,
+    ) in
     record {
       ends = rw (f .version, f .header-count) (ends-bind d k (4 + length x) (4 + length x + 2 + length y) (a .ends) (rw (f .message-count) (b .ends)));
-      shows = λ l.
-          rw (
-            f .version,
-            f .header-count,
-            count-after s d (4 + length x) (length ms) (to (4 + length x + 2)) (a .ends) (f .message-count),
-            bytes-bind d k (4 + length x) (a .ends),
-            f .message-count,
-          )
-          (ShowsPacket.packet (record { a = hl; b = ml; c = lit< tt; d = lit< tt; zone = λ n z e. cc }) (a .shows l) (b .shows l));
+      shows = λ l. rw same (ShowsPacket.packet fits (a .shows l) (b .shows l));
+      imaged = λ l.
+          let h = a .imaged l in
+          let m = b .imaged l in
+          record {
+            images =
+                record {
+                  header-records = h .records;
+                  message-records = m .records;
+                  fits = fits;
+                  headers = h .spells;
+                  messages = m .spells;
+                  lies = rw (same, laid-append (h .records) (m .records), h .lies, m .lies);
+                };
+            alike = rw (map-append unplaced (h .records) (m .records), h .alike, m .alike);
+          };
       exact = λ o e. exacts f (a .exact (o .0)) (rw e at (b .exact (o .1)));
     }
 
@@ -109,20 +142,6 @@ packet-told s r (Encoded.packet {hs} {ms} {x} {y} hl ml hi mi) h deep =
     let f = framed (length hs) (length ms) x y hl ml h in
     rw (f .long) (told-whole s hi mi f hl ml (items-told headers hi s ((digits 2 (length ms) ++ y) ++ r) 4 (f .headers-here) (deep .0))
     (items-told messages mi s r (4 + length x + 2) (f .messages-here) (deep .1)))
-
--- what is read of a packet goes to no depth over the limit
-shallow-whole : {hs ms : List Item} {x y r : List ℕ} (s : List ℕ) (hi : Items IsHeader hs x) (mi : Items IsMessage ms y) → Framed s (length hs) (length ms) x y r
-    → Bytes s → (z : ℕ) → Ends (packetAt s) z → Shallow limit.levels hs × Shallow limit.levels ms
-unfolding packetAt
-shallow-whole {hs} {ms} {x} {y} {r} s hi mi f bs z ends =
-    bind-ends (entriesAt 0x31 s (length hs) 4) (λ n. got16 stop (u16At s n) (entriesAt 0x32 s)) z (rw (f .version, f .header-count) at ends) λ n a b.
-    let deep = items-shallow headers hi s ((digits 2 (length ms) ++ y) ++ r) 4 n bs (f .headers-here) a in
-    let t = items-told headers hi s ((digits 2 (length ms) ++ y) ++ r) 4 (f .headers-here) deep in
-    let is : n ≡ 4 + length x = one-end (entriesAt 0x31 s (length hs) 4) a (t .ends) in
-    (deep, items-shallow messages mi s r (4 + length x + 2) z bs (f .messages-here) (rw (is, f .message-count) at b))
-
-pub packet-shallow : {p : Packet} {x : List ℕ} (s r : List ℕ) → Encoded p x → Here s 0 x r → Bytes s → (z : ℕ) → Ends (packetAt s) z → Within limit.levels p
-packet-shallow s r (Encoded.packet {hs} {ms} {x} {y} hl ml hi mi) h = shallow-whole s hi mi (framed (length hs) (length ms) x y hl ml h)
 
 -- ---- what was read
 
@@ -135,6 +154,9 @@ pub record FoundPacket (s : List ℕ) (n : ℕ) : Type 0 where
   pub here : Here s 0 row rest
   pub next : n ≡ length row
   pub within : Within limit.levels packet
+
+no-tag : {P : Type 0} {c : Cursor} (a p : ℕ) → Tag.Stop a p ≡ Tag.Past c → P
+no-tag a p q = let z : _≡_ {A = ℕ} 0 1 = cc in absurd (omega arith)
 
 version-stood : (s : List ℕ) (c : Cursor) → Bytes s → versionAt s ≡ Tag.Past c → (c .at ≡ 2) × Here s 0 (0 ∷ 0 ∷ []) (drop 2 s)
 unfolding versionAt
@@ -155,9 +177,14 @@ pub encoded-row : {hs ms : List Item} {x y : List ℕ} (h m : ℕ) → h < 256 ^
     → Items IsHeader hs x → Items IsMessage ms y → Encoded (record { headers = hs; messages = ms }) (rowOf h m x y)
 encoded-row {hs} {ms} h m hl ml hc mc hi mi = rw (← hc, ← mc) (Encoded.packet {hs = hs} {ms = ms} (rw hc hl) (rw mc ml) hi mi)
 
-whole-found : (s : List ℕ) (c q f : Cursor) (h n m z : ℕ) → Bytes s → versionAt s ≡ Tag.Past c → u16At s (c .at) ≡ U16.Got h q
-    → Ends (entriesAt 0x31 s h (q .at)) n → u16At s n ≡ U16.Got m f → Ends (entriesAt 0x32 s m (f .at)) z → FoundPacket s z
-whole-found s c q f h n m z bs v g a k b =
+pub packet-found : (s : List ℕ) (z : ℕ) → Bytes s → Ends (packetAt s) z → FoundPacket s z
+unfolding packetAt
+packet-found s z bs =
+    let P : Due → Type 0 = λ d. Ends d z → FoundPacket s z in
+    onTag P stop (λ a p e. absurd e) (versionAt s) _ λ c v.
+    on16 P stop (λ a p e. absurd e) (u16At s (c .at)) _ λ h q g ends.
+    bind-ends (entriesAt 0x31 s h (q .at)) (λ n. got16 stop (u16At s n) (entriesAt 0x32 s)) z ends λ n a.
+    on16 P stop (λ a p e. absurd e) (u16At s n) _ λ m f k b.
     let vs = version-stood s c bs v in
     let hc = u16-ends s bs (c .at) h q g in
     let hn = u16-next s (c .at) h q g in
@@ -175,16 +202,6 @@ whole-found s c q f h n m z bs v g a k b =
       within = (hi .shallow, mi .shallow);
     }
 
-pub packet-found : (s : List ℕ) (z : ℕ) → Bytes s → Ends (packetAt s) z → FoundPacket s z
-unfolding packetAt
-packet-found s z bs =
-    let P : Due → Type 0 = λ d. Ends d z → FoundPacket s z in
-    onTag P stop (λ a p e. absurd e) (versionAt s) _ λ c v.
-    on16 P stop (λ a p e. absurd e) (u16At s (c .at)) _ λ h q g ends.
-    bind-ends (entriesAt 0x31 s h (q .at)) (λ n. got16 stop (u16At s n) (entriesAt 0x32 s)) z ends λ n a.
-    on16 P stop (λ a p e. absurd e) (u16At s n) _ λ m f k b.
-    whole-found s c q f h n m z bs v g a k b
-
 -- ---- no other
 
 pub packet-unique : {p q : Packet} {x y : List ℕ} (r t : List ℕ) → Encoded p x → Encoded q y → x ++ r ≡ y ++ t → (p ≡ q) × (x ≡ y)
@@ -198,3 +215,9 @@ packet-unique r t (Encoded.packet {hs} {ms} {x} {y} hl ml hi mi) (Encoded.packet
     let mc : length ms ≡ length ms′ = cc (sym (a .message-count) ∙ (ap (u16At s) long ∙ b .message-count)) in
     let m = items-unique messages mi mi′ r t mc (sym (a .messages-here .same) ∙ (ap (λ n. drop (n + 2) s) long ∙ b .messages-here .same)) in
     (rw (h .0, m .0), rw (hc, mc, h .1, m .1))
+
+-- so what is read of a packet goes to no depth over the limit
+pub packet-shallow : {p : Packet} {x : List ℕ} (s r : List ℕ) → Encoded p x → Here s 0 x r → Bytes s → (z : ℕ) → Ends (packetAt s) z → Within limit.levels p
+packet-shallow s r e h bs z ends =
+    let f = packet-found s z bs ends in
+    rw (packet-unique (f .rest) r (f .encoded) e (sym (f .here .same) ∙ h .same) .0) at (f .within)

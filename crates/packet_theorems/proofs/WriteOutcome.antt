@@ -12,12 +12,13 @@ use Rattle.image.specs.Due.{Due, stop}
 use Rattle.image.specs.Whole.{Whole, bytes}
 use Rattle.amf0.specs.Reading.{value, topValue}
 use Rattle.amf0.specs.Shown.{laid}
-use Rattle.amf0.specs.Written.{unplaced, Alike}
+use Rattle.amf0.specs.Written.{Alike}
 use Rattle.amf0_theorems.proofs.Telling as telling
 use Rattle.amf0_theorems.proofs.Telling.{recordsOf, bytes-laid}
 use Rattle.amf0_theorems.proofs.Spelling.{spelled}
 use Rattle.amf0_theorems.proofs.Alike.{ofTree, Of, read}
 use Rattle.amf0_theorems.proofs.Puts.{laid-append, right-both}
+use Rattle.amf0_theorems.proofs.Call.{Taken}
 use Rattle.packet.specs.declared.head.Entry.{Entry}
 use Rattle.packet.specs.Packet.{Label, Item, Packet, IsHeader, IsMessage, Items, Encoded}
 use Rattle.packet.specs.Shown.{counts, Shallow, Within}
@@ -25,11 +26,14 @@ use Rattle.packet.specs.Reading.{recordOf, entriesAt, packetAt, incompleteOf, w
 use Rattle.packet.specs.Written.{Labelled, Spells, Images, Writable, sayingItem, saying}
 use Rattle.packet_theorems.proofs.Puts.{spells-right}
 use Rattle.packet_theorems.proofs.Heads.{Kinded, headers, messages}
-use Rattle.packet_theorems.proofs.Agree.{bytes-bind, count-after}
+use Rattle.packet_theorems.proofs.Agree.{count-after}
 use Rattle.packet_theorems.proofs.Items.{First, first, Told, items-told}
 use Rattle.packet_theorems.proofs.Whole.{Framed, framed}
-use Rattle.packet_theorems.proofs.Taken.{thrice, Taken, taken, whole-taken}
+use Rattle.packet_theorems.proofs.Taken.{taken, whole-taken}
+use Rattle.packet_theorems.proofs.Outcome.{packet-bounded}
 use Rattle.packet_theorems.proofs.PacketTheorems.{Means, sound-incomplete, sound}
+use Rattle.image.specs.Record.{unplaced}
+use Rattle.image.proofs.Settle.{bytes-bind}
 
 -- ---- records, but for places
 
@@ -146,37 +150,39 @@ packet-imaged s r (Encoded.packet {hs} {ms} {x} {y} hl ml hi mi) h deep l =
 
 -- ---- what was read
 
-pub taken-image : {s x r : List ℕ} {p : Packet} {room n : ℕ} {w : Whole} → Encoded p x → Within limit.levels p → Here s 0 x r → Taken s room n w
+pub taken-image : {s x r : List ℕ} {p : Packet} {room n : ℕ} {w : Whole} → Encoded p x → Within limit.levels p → Here s 0 x r → Taken s (packetAt s) room n w
     → ReadImage s p w
 taken-image {s} {x} {r} {p} {room} {n} {w} e d h t =
     let m = packet-imaged s r e h d (t .small) in
     rw (t .result)
     (record {
-      writable = record { text-size = t .small; image-size = omega (arith, thrice s, t .small); images = m .images; deep = d };
+      writable = record { text-size = t .small; image-size = omega (arith, packet-bounded s .small, t .small); images = m .images; deep = d };
       header-alike = m .header-alike;
       message-alike = m .message-alike;
     })
 
--- the packet that the used bytes of an input are, and its image
-pub record WasRead (s : List ℕ) (w : Whole) : Type 0 where
+-- the packet that the used bytes of an input are, and its image, in a room
+pub record WasRead (s : List ℕ) (room : ℕ) (w : Whole) : Type 0 where
   pub packet : Packet
   pub encoded : Encoded packet (take (w .reading .used) s)
   pub used : w .reading .used ≤ length s
   pub image : ReadImage s packet w
+  pub fits : length (w .bytes) ≤ room
 
-was-read : (s : List ℕ) (room n : ℕ) (w : Whole) → Taken s room n w → Means s w → WasRead s w
+was-read : (s : List ℕ) (room n : ℕ) (w : Whole) → Taken s (packetAt s) room n w → Means s w → WasRead s room w
 was-read s room n w t m =
     record {
       packet = m .packet;
       encoded = m .encoded;
       used = m .used;
       image = taken-image (m .encoded) (m .within) (record { same = sym (take-append-drop (w .reading .used) s) }) t;
+      fits = omega (arith, t .fits, ap (λ (w : Whole). length (w .bytes)) (t .result));
     }
 
-pub read-incomplete : (s : List ℕ) (room : ℕ) → Bytes s → incompleteOf s room .reading .answer ≡ 0 → WasRead s (incompleteOf s room)
+pub read-incomplete : (s : List ℕ) (room : ℕ) → Bytes s → incompleteOf s room .reading .answer ≡ 0 → WasRead s room (incompleteOf s room)
 read-incomplete s room bs e = was-read s room (incompleteOf s room .reading .used) (incompleteOf s room) (taken s room e) (sound-incomplete s room bs e)
 
-pub read-whole : (s : List ℕ) (room : ℕ) → Bytes s → wholeOf s room .reading .answer ≡ 0 → WasRead s (wholeOf s room)
+pub read-whole : (s : List ℕ) (room : ℕ) → Bytes s → wholeOf s room .reading .answer ≡ 0 → WasRead s room (wholeOf s room)
 read-whole s room bs e = was-read s room (length s) (wholeOf s room) (whole-taken s room e) (sound s room bs e .0)
 
 -- ---- two images of a packet

@@ -1,29 +1,26 @@
 -- A writing of a packet that is refused is so by what stands at its place: the records before it begin a packet, and what is due behind them is not there.
-use Rattle.wire.proofs.Kit.{ℕ, zero, suc, _+_, _≤_, _≡_, sym, ap, List, [], _∷_, Bool, arith, length, drop, length-append, leb, leb-false}
-use Rattle.wire.specs.Choice.{pick}
+use Rattle.wire.proofs.Kit.{ℕ, zero, suc, _≡_, sym, List, Bool, arith, length, drop, _<_, _∙_}
 use Rattle.wire.specs.Number.{Bytes}
 use Rattle.wire.specs.Limit as limit
-use Rattle.wire.proofs.Laws.{picked}
 use Rattle.image.specs.declared.record.Record.the-variants as R
 use Rattle.image.specs.declared.record.Field.{Field}
 use Rattle.image.specs.Record.{_bytes_, none}
-use Rattle.image.specs.Out.{Out, end, stop, _>>=_, row, bytes as putOut}
-use Rattle.amf0.specs.Shown.{laid}
+use Rattle.image.specs.Out.{Out, _>>=_, rowOf, row, bytes as putOut}
 use Rattle.amf0.specs.Writing.{topValue, whole}
 use Rattle.amf0_theorems.specs.Unwritten.{Stops}
 use Rattle.amf0_theorems.proofs.Seen.{Took}
 use Rattle.amf0_theorems.proofs.WriteReasons.{stops-once}
-use Rattle.amf0_theorems.proofs.WriteRefusal.{bind-stops, ends-not, Reached, no-record, past-record, past-records, past-tree, value-halt}
+use Rattle.amf0_theorems.proofs.WriteRefusal.{bind-stops, ends-not, Reached, no-record, past-record, past-records, past-tree, value-halt, whole-stops, left-behind, non-empty, refused-at}
 use Rattle.packet.specs.Packet.{Label, Packet, IsHeader, IsMessage}
-use Rattle.packet.specs.Writing.{rowOf, label, declared, entry, entries, packet}
+use Rattle.packet.specs.Writing.{label, declared, entry, entries, packet}
 use Rattle.packet_theorems.specs.Unwritten.{Slot, Entries, Opens, NoEntry, Refuses, Refused}
 use Rattle.packet_theorems.proofs.Puts.{empty, named, names-named, spells-right}
 use Rattle.packet_theorems.proofs.Seen.{SeenPacket, see-packet, SeenLabel, see-header, see-message}
-use Rattle.packet_theorems.proofs.WriteSound.{label-at, StoodItems, entry-sound, items-sound, packet-sound}
+use Rattle.packet_theorems.proofs.WriteSound.{label-at, StoodItems, entry-sound, items-sound, packet-sound, behind, front}
 
 module _ (s image : List ℕ) (bs : Bytes image) (exact : Bool) where
   -- a row of numbers is not refused
-  numbers-go : (m a : Field) (at x p : ℕ) (d : Out) → Stops (row s (rowOf m a 0 0) at d) x p → Stops d x p
+  numbers-go : (m a : Field) (at x p : ℕ) (d : Out) → Stops (row s (rowOf m a none 0 0) at d) x p → Stops d x p
   unfolding row
   numbers-go m a at x p d e = rw (named s m a (empty s)) at e
 
@@ -69,70 +66,41 @@ module _ (s image : List ℕ) (bs : Bytes image) (exact : Bool) where
 
   -- ---- from the start of the image
 
-  -- by what stands behind records from the start on
-  refused : {a p : ℕ} {d : Slot} (x : Reached s image bs 0 p) → Opens s (x .records) d → Refuses s d (x .rest) a → Refused image s a p
-  refused {d} x o r =
-      record {
-        records = x .records;
-        rest = x .rest;
-        slot = d;
-        lies = x .here .same;
-        stands = omega (arith, x .place);
-        right = x .right;
-        opens = o;
-        refuses = r;
-      }
-
   -- in the headers, in the messages, and behind them
   in-headers : {h k q a p : ℕ} → Took s image bs 0 (R.Packet h k) q → Halted IsHeader Slot.header h q a p → Refused image s a p
   unfolding past-record
-  in-headers t x = refused (past-record s image bs t tt (x .reached)) (Opens.headers (x .begins)) (x .refuses)
+  in-headers t x = refused-at s image bs (x .slot) (past-record s image bs t tt (x .reached)) (Opens.headers (x .begins)) (x .refuses)
 
   in-messages : {h k q u a p : ℕ} → Took s image bs 0 (R.Packet h k) q → StoodItems s image bs IsHeader h q u → Halted IsMessage Slot.message k u a p
       → Refused image s a p
   unfolding past-record past-records
   in-messages t y x =
-      refused (past-record s image bs t tt (past-records s image bs (y .records) (spells-right (y .spells)) (y .here) (y .next) (x .reached)))
+      refused-at s image bs (x .slot) (past-record s image bs t tt (past-records s image bs (y .records) (spells-right (y .spells)) (y .here) (y .next) (x .reached)))
       (rw (sym (y .many)) (Opens.messages (y .spells) (y .deep) (x .begins))) (x .refuses)
 
-  -- bytes past the end
-  past : (x : List ℕ) → 1 ≤ length x → Refuses s Slot.nothing x 6
-  past [] l = absurd (omega arith)
-  past (b ∷ x) l = Refuses.past
-
   past-packet : {h k q u m a p : ℕ} → Took s image bs 0 (R.Packet h k) q → StoodItems s image bs IsHeader h q u → StoodItems s image bs IsMessage k u m
-      → m + 1 ≤ length image → a ≡ 6 → p ≡ m → Refused image s a p
+      → m < length image → a ≡ 6 → p ≡ m → Refused image s a p
   unfolding past-record past-records
   past-packet {u} {p} t x y l e f =
-      let last : Reached s image bs u p =
-      record { records = y .records; rest = y .rest; right = spells-right (y .spells); here = y .here; place = omega (arith, y .next) } in
+      let last : Reached s image bs u p = record { records = y .records; rest = y .rest; right = spells-right (y .spells); here = y .here; place = f ∙ y .next } in
       let z = past-record s image bs t tt (past-records s image bs (x .records) (spells-right (x .spells)) (x .here) (x .next) last) in
-      refused {d = Slot.nothing} z
+      refused-at s image bs Slot.nothing z
       (rw (sym (x .many), sym (y .many)) (Opens.behind {p = record { headers = x .items; messages = y .items }} (x .spells) (y .spells) (x .deep, y .deep)))
-      (rw e (past (y .rest) (omega (arith, z .place, ap length (z .here .same), length-append (laid (z .records)) (z .rest)))))
+      (rw e (non-empty (λ r. Refuses s Slot.nothing r 6) (y .rest) (left-behind (z .here) (omega (arith, z .place))) λ b r. Refuses.past))
 
   -- an image that is refused
   pub refused-by : (a p : ℕ) → Stops (whole image (packet exact image s)) a p → Refused image s a p
   unfolding packet no-record
   refused-by a p e =
-      bind-stops (packet exact image s) (λ n. pick (leb (length image) n) (end n) (stop 6 n)) a p e (by (see-packet s image bs front))
-      (λ m f g. packet-sound s image bs exact m f λ h k q u t x y.
-      picked (λ (d : Out). Stops d a p → Refused image s a p) (leb (length image) m) (end m) (stop 6 m) (λ h i. absurd i)
-      (λ h i. past-packet t x y (omega (arith, leb-false (length image) m h)) (i .0) (i .1))
-      g)
+      whole-stops image (packet exact image s) a p e (by (see-packet s image bs (front s image bs exact)))
+      (λ m f l i j. packet-sound s image bs exact m f λ h k q u t x y. past-packet t x y l i j)
     where
-      behind : ℕ → ℕ → Out
-      behind k e = row s (rowOf none (2 bytes k) 0 0) 0 (entries 0x32 exact image s k e)
-
-      front : ℕ → ℕ → ℕ → Out
-      front h k q = row s (rowOf (2 bytes 0) (2 bytes h) 0 0) 0 (entries 0x31 exact image s h q >>= behind k)
-
-      by : {d : Out} → SeenPacket s image bs front d → Stops d a p → Refused image s a p
+      by : {d : Out} → SeenPacket s image bs (front s image bs exact) d → Stops d a p → Refused image s a p
       by (SeenPacket.seen {h} {m = k} {q} t) f =
-          bind-stops (entries 0x31 exact image s h q) (behind k) a p
-          (numbers-go (2 bytes 0) (2 bytes h) 0 a p (entries 0x31 exact image s h q >>= behind k) f)
+          bind-stops (entries 0x31 exact image s h q) (behind s image bs exact k) a p
+          (numbers-go (2 bytes 0) (2 bytes h) 0 a p (entries 0x31 exact image s h q >>= behind s image bs exact k) f)
           (λ g. in-headers t (entries-halt 0x31 Slot.header (see-header s image bs) (λ x. Refuses.header) h q a p g))
           (λ u g j.
           in-messages t (items-sound s image bs exact 0x31 (see-header s image bs) h q u g)
           (entries-halt 0x32 Slot.message (see-message s image bs) (λ x. Refuses.message) k u a p (numbers-go none (2 bytes k) 0 a p (entries 0x32 exact image s k u) j)))
-      by (SeenPacket.unseen n) f = refused (no-record s image bs (f .1)) Opens.packet (rw (f .0) (Refuses.packet n))
+      by (SeenPacket.unseen n) f = refused-at s image bs Slot.packet (no-record s image bs (f .1)) Opens.packet (rw (f .0) (Refuses.packet n))

@@ -1,26 +1,22 @@
 -- An image whose writing is not refused is that of a packet.
-use Rattle.wire.proofs.Kit.{ℕ, zero, suc, _+_, _≤_, _≡_, refl, ap, _∙_, List, [], _∷_, _++_, append-nil, Bool, arith, length, drop, length-append, leb}
-use Rattle.wire.proofs.Kit.{leb-true}
-use Rattle.wire.specs.Choice.{pick}
+use Rattle.wire.proofs.Kit.{ℕ, zero, suc, _+_, _≡_, refl, ap, List, [], _∷_, _++_, Bool, arith, length, drop}
 use Rattle.wire.specs.Number.{Bytes}
 use Rattle.wire.specs.Limit as limit
-use Rattle.wire.proofs.Laws.{picked}
-use Rattle.wire.proofs.Stands.{Here, join}
+use Rattle.wire.proofs.Stands.{Here}
 use Rattle.image.specs.declared.record.Record.{Record}
 use Rattle.image.specs.declared.record.Record.the-variants as R
 use Rattle.image.specs.Record.{_bytes_, none}
-use Rattle.image.specs.Out.{Out, end, stop, _>>=_, row, bytes as putOut}
+use Rattle.image.specs.Out.{Out, _>>=_, rowOf, row, bytes as putOut}
 use Rattle.amf0.specs.Standard.{Sort}
 use Rattle.amf0.specs.Shown.{laid}
 use Rattle.amf0.specs.Writing.{value, topValue, whole}
 use Rattle.amf0.specs.Written.Lead.{keyed}
-use Rattle.amf0_theorems.proofs.Puts.{laid-append, laid-length}
 use Rattle.amf0_theorems.proofs.WriteRefusal.{ends-once, ends-not}
-use Rattle.amf0_theorems.proofs.Seen.{nothing, Took}
-use Rattle.amf0_theorems.proofs.WriteSound.{Ends, bind-ends, row-ends, before, Stood, sound}
+use Rattle.amf0_theorems.proofs.Seen.{Took}
+use Rattle.amf0_theorems.proofs.WriteSound.{Ends, bind-ends, row-ends, before, Stood, sound, whole-ends, used-up, both}
 use Rattle.packet.specs.Packet.{Label, Item, Packet, IsHeader, IsMessage}
 use Rattle.packet.specs.Shown.{Names, Shallow, Within}
-use Rattle.packet.specs.Writing.{rowOf, label, declared, entry, entries, packet}
+use Rattle.packet.specs.Writing.{label, declared, entry, entries, packet}
 use Rattle.packet.specs.Written.{lengthOf, Spells, Images}
 use Rattle.packet_theorems.proofs.Seen.{SeenPacket, see-packet, SeenLabel, see-header, see-message}
 
@@ -55,17 +51,30 @@ module _ (s image : List ℕ) (bs : Bytes image) where
     pub deep : Shallow limit.levels items
 
   module _ (exact : Bool) where
-    more-sound : {Kind : Label → Type 0} {c at q m n : ℕ} → Label-at Kind at q → Stood s image bs keyed Sort.value limit.levels q m → StoodItems Kind c m n
-        → StoodItems Kind (suc c) at n
-    more-sound {q} {n} l x y =
-        let rs : List Record = x .records in
-        let qs : List Record = y .records in
-        let j : Here image q (laid (rs ++ qs)) (y .rest) = rw (laid-append rs qs) (join (x .here) refl (rw (x .next) at (y .here))) in
-        let e : n ≡ q + length (laid (rs ++ qs)) = omega (arith, laid-length rs qs, x .next, y .next) in
-        let b = before s image bs (rs ++ qs) (l .took) j e in
+    -- an entry whose writing ends
+    pub entry-sound : {Kind : Label → Type 0} (kind : ℕ) → ((at : ℕ) → SeenLabel s image bs at Kind (label kind image s at)) → (at m : ℕ) {A : Type 0}
+        → Ends (entry kind exact image s at) m → ((q : ℕ) → Label-at Kind at q → Stood s image bs keyed Sort.value limit.levels q m → A) → A
+    unfolding entry
+    entry-sound kind see at m e go =
+        bind-ends (label kind image s at) _ m e λ q f g.
+        let u : Out = topValue image s q in
+        let h = row-ends s image bs (rowOf (4 bytes declared exact (length (putOut u))) none none 0 0) at m u g in
+        go q (label-at (see at) q f) (sound s image bs limit.levels q m (h .1))
+
+    pub items-sound : {Kind : Label → Type 0} (kind : ℕ) → ((at : ℕ) → SeenLabel s image bs at Kind (label kind image s at)) → (c at n : ℕ)
+        → Ends (entries kind exact image s c at) n → StoodItems Kind c at n
+    unfolding entries
+    items-sound kind see zero at n e =
+        record { items = []; records = []; rest = drop at image; spells = Spells.none; here = record { same = refl }; next = omega arith; many = refl; deep = tt }
+    items-sound kind see (suc c) at n e =
+        bind-ends (entry kind exact image s at) (entries kind exact image s c) n e λ m f g.
+        entry-sound kind see at m f λ q l x.
+        let y = items-sound kind see c m n g in
+        let j = both s image bs (x .records) (y .records) (x .here) (x .next) (y .here) (y .next) in
+        let b = before s image bs (x .records ++ y .records) (l .took) (j .0) (j .1) in
         record {
           items = record { label = l .what; declared = lengthOf exact (x .tree); value = x .tree } ∷ y .items;
-          records = l .first ∷ (rs ++ qs);
+          records = l .first ∷ (x .records ++ y .records);
           rest = y .rest;
           spells = Spells.more (l .kind) (l .took .fits) (l .names) (x .right) (x .spells) (y .spells);
           here = b .0;
@@ -74,60 +83,14 @@ module _ (s image : List ℕ) (bs : Bytes image) where
           deep = (x .deep, y .deep);
         }
 
-    -- an entry whose writing ends
-    pub entry-sound : {Kind : Label → Type 0} (kind : ℕ) → ((at : ℕ) → SeenLabel s image bs at Kind (label kind image s at)) → (at m : ℕ) {A : Type 0}
-        → Ends (entry kind exact image s at) m → ((q : ℕ) → Label-at Kind at q → Stood s image bs keyed Sort.value limit.levels q m → A) → A
-    unfolding entry
-    entry-sound kind see at m e go =
-        bind-ends (label kind image s at) _ m e λ q f g.
-        let u : Out = topValue image s q in
-        let h = row-ends s image bs (rowOf (4 bytes declared exact (length (putOut u))) none 0 0) at m u g in
-        go q (label-at (see at) q f) (sound s image bs limit.levels q m (h .1))
-
-    pub items-sound : {Kind : Label → Type 0} (kind : ℕ) → ((at : ℕ) → SeenLabel s image bs at Kind (label kind image s at)) → (c at n : ℕ)
-        → Ends (entries kind exact image s c at) n → StoodItems Kind c at n
-    unfolding entries
-    items-sound kind see zero at n e =
-        record {
-          items = [];
-          records = [];
-          rest = drop at image;
-          spells = Spells.none;
-          here = record { same = refl };
-          next = omega arith;
-          many = refl;
-          deep = tt;
-        }
-    items-sound kind see (suc c) at n e =
-        bind-ends (entry kind exact image s at) (entries kind exact image s c) n e λ m f g.
-        entry-sound kind see at m f λ q l x. more-sound l x (items-sound kind see c m n g)
-
     -- ---- the packet
 
-    packet-of : {h m q u e : ℕ} → Took s image bs 0 (R.Packet h m) q → StoodItems IsHeader h q u → StoodItems IsMessage m u e → length image ≤ e
-        → (p : Packet) × Images s p image × Within limit.levels p
-    packet-of {h} {m} {q} {u} {e} t x y l =
-        let r : Record = R.Packet h m in
-        let hs : List Record = x .records in
-        let ms : List Record = y .records in
-        let j : Here image q (laid (hs ++ ms)) (y .rest) = rw (laid-append hs ms) (join (x .here) refl (rw (x .next) at (y .here))) in
-        let n : e ≡ q + length (laid (hs ++ ms)) = omega (arith, laid-length hs ms, x .next, y .next) in
-        let b = before s image bs (hs ++ ms) t j n in
-        let o = ap length (b .0 .same) in
-        let z : y .rest ≡ [] = nothing (y .rest) (omega (arith, length-append (laid (r ∷ (hs ++ ms))) (y .rest), b .1)) in (
-          record { headers = x .items; messages = y .items },
-          record {
-            header-records = hs;
-            message-records = ms;
-            fits = rw (x .many, y .many) (t .fits);
-            headers = x .spells;
-            messages = y .spells;
-            lies =
-                rw (x .many, y .many)
-                (b .0 .same ∙ (ap (λ w. laid (r ∷ (hs ++ ms)) ++ w) z ∙ append-nil (laid (r ∷ (hs ++ ms)))));
-          },
-          (x .deep, y .deep),
-        )
+    -- the messages, and the headers, behind the packet's own record
+    abbrev pub behind : ℕ → ℕ → Out
+    behind k e = row s (rowOf none (2 bytes k) none 0 0) 0 (entries 0x32 exact image s k e)
+
+    abbrev pub front : ℕ → ℕ → ℕ → Out
+    front h k q = row s (rowOf (2 bytes 0) (2 bytes h) none 0 0) 0 (entries 0x31 exact image s h q >>= behind k)
 
     -- a packet whose writing ends
     pub packet-sound : (m : ℕ) {A : Type 0} → Ends (packet exact image s) m
@@ -135,24 +98,29 @@ module _ (s image : List ℕ) (bs : Bytes image) where
     unfolding packet
     packet-sound m {A} f go = by (see-packet s image bs front) f
       where
-        behind : ℕ → ℕ → Out
-        behind k e = row s (rowOf none (2 bytes k) 0 0) 0 (entries 0x32 exact image s k e)
-
-        front : ℕ → ℕ → ℕ → Out
-        front h k q = row s (rowOf (2 bytes 0) (2 bytes h) 0 0) 0 (entries 0x31 exact image s h q >>= behind k)
-
         by : {d : Out} → SeenPacket s image bs front d → Ends d m → A
         by (SeenPacket.seen {h} {m = k} {q} t) f =
-            let a = row-ends s image bs (rowOf (2 bytes 0) (2 bytes h) 0 0) 0 m (entries 0x31 exact image s h q >>= behind k) f in
+            let a = row-ends s image bs (rowOf (2 bytes 0) (2 bytes h) none 0 0) 0 m (entries 0x31 exact image s h q >>= behind k) f in
             bind-ends (entries 0x31 exact image s h q) (behind k) m (a .1) λ u g j.
-            let b = row-ends s image bs (rowOf none (2 bytes k) 0 0) 0 m (entries 0x32 exact image s k u) j in
+            let b = row-ends s image bs (rowOf none (2 bytes k) none 0 0) 0 m (entries 0x32 exact image s k u) j in
             go h k q u t (items-sound 0x31 (see-header s image bs) h q u g) (items-sound 0x32 (see-message s image bs) k u m (b .1))
         by (SeenPacket.unseen n) f = absurd f
 
     -- an image of a packet and no bytes past it
     pub image-of : (n : ℕ) → Ends (whole image (packet exact image s)) n → (p : Packet) × Images s p image × Within limit.levels p
     image-of n e =
-        bind-ends (packet exact image s) (λ m. pick (leb (length image) m) (end m) (stop 6 m)) n e λ m f g.
-        let all : length image ≤ m =
-        picked (λ (x : Out). Ends x n → length image ≤ m) (leb (length image) m) (end m) (stop 6 m) (λ h e. leb-true _ _ h) (λ h e. absurd e) g in
-        packet-sound m f λ h k q u t x y. packet-of t x y all
+        whole-ends image (packet exact image s) n e λ m f l.
+        packet-sound m f λ h k q u t x y.
+        let j = both s image bs (x .records) (y .records) (x .here) (x .next) (y .here) (y .next) in
+        let b = before s image bs (x .records ++ y .records) t (j .0) (j .1) in (
+          record { headers = x .items; messages = y .items },
+          record {
+            header-records = x .records;
+            message-records = y .records;
+            fits = rw (x .many, y .many) (t .fits);
+            headers = x .spells;
+            messages = y .spells;
+            lies = rw (x .many, y .many) (used-up (b .0) (omega (arith, b .1)));
+          },
+          (x .deep, y .deep),
+        )

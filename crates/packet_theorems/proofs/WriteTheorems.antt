@@ -12,13 +12,12 @@ use Rattle.amf0.specs.Writing.{whole}
 use Rattle.amf0_theorems.specs.Unwritten.{Stops}
 use Rattle.amf0_theorems.proofs.WriteOutcome.{sized-written, written-sized}
 use Rattle.amf0_theorems.proofs.WriteRefusal.{ends-or-stops}
-use Rattle.amf0_theorems.proofs.WriteReasons.{call-refusals, stops-once, stops-deep, holds, only-deep}
+use Rattle.amf0_theorems.proofs.WriteReasons.{call-refusals, stops-once, stops-deep, only-deep, call-settled, accepted, call-answers}
 use Rattle.amf0_theorems.proofs.Settled.{Settled}
-use Rattle.amf0_theorems.proofs.Settled.Settled.{refused, put-out}
 use Rattle.packet.specs.declared.head.Entry.{Entry}
 use Rattle.packet.specs.Packet.{Packet, Encoded}
 use Rattle.packet.specs.Shown.{Within}
-use Rattle.packet.specs.Reading.{incompleteOf, wholeOf}
+use Rattle.packet.specs.Reading.{wholeOf}
 use Rattle.packet.specs.Entry.{found, cutOf, noEntry, readEntry}
 use Rattle.packet.specs.Change.{Agrees}
 use Rattle.packet.specs.Writing.{packet, writeOf}
@@ -29,8 +28,8 @@ use Rattle.packet_theorems.proofs.Puts.{image-puts, packet-written}
 use Rattle.packet_theorems.proofs.Shortest.{write-encoded, packet-least, write-saying, within-saying, within-said}
 use Rattle.packet_theorems.proofs.Unique.{images-one}
 use Rattle.packet_theorems.proofs.PacketBytes.{encoded-bytes}
-use Rattle.packet_theorems.proofs.WriteOutcome.{ReadImage, taken-image, WasRead, read-incomplete, read-whole, images-alike}
-use Rattle.packet_theorems.proofs.WriteReasons.{whole-refuses, answered, reasons}
+use Rattle.packet_theorems.proofs.WriteOutcome.{ReadImage, taken-image, WasRead, images-alike}
+use Rattle.packet_theorems.proofs.WriteReasons.{reasons, packet-refusing}
 use Rattle.packet_theorems.proofs.WriteSound.{image-of}
 use Rattle.packet_theorems.proofs.WriteRefusal.{refused-by}
 use Rattle.packet_theorems.proofs.WriteRefusing.{refuses-by}
@@ -40,12 +39,6 @@ use Rattle.packet_theorems.proofs.PacketTheorems.{complete, Gives, entr
 use Rattle.packet_theorems.proofs.Demand3.{agreement}
 
 -- ---- the writing and the packet
-
--- Within the limits, the image of a packet is written as that packet, with exact lengths or without: but 1 where that is over the limit, and 4 where it has
--- no room.
-pub written-packet : (image text : List ℕ) (exact : Bool) (p : Packet) (room : ℕ) → Writable image text p
-    → writeOf image text exact room ≡ sized (write exact p) room
-written-packet image text exact p room w = packet-written exact room w
 
 -- No image is that of two packets, but for the lengths that their entries declare, which an image does not tell.
 pub one-packet : (image text : List ℕ) (exact : Bool) (p q : Packet) → length image ≤ limit.image → Images text p image → Images text q image
@@ -119,12 +112,15 @@ pub record RoundTrip (s b : List ℕ) (exact : Bool) (v w : Whole) : Type 0 wher
   pub image-too : Images b (saying exact packet) (w .bytes)
   pub alike : Alike s b (v .bytes) (w .bytes)
 
-module _ {s : List ℕ} {v : Whole} (m : WasRead s v) (exact : Bool) where
+-- A packet that was read: whole (`read-whole`), or as far as the incomplete reading used it (`read-incomplete`).
+module _ {s : List ℕ} {room : ℕ} {v : Whole} (m : WasRead s room v) (exact : Bool) where
   fewer : length (write exact (m .packet)) ≤ v .reading .used
   fewer = omega (arith, packet-least exact (m .encoded), length-take-le (v .reading .used) s (m .used))
 
-  accepts : (out : ℕ) → v .reading .used ≤ out → Rewritten s exact v (writeOf (v .bytes) s exact out)
-  accepts out h =
+  -- It is written, in either setting, where the output has as much room as the bytes used: as the same packet, but for the lengths that its entries declare,
+  -- in no more bytes.
+  pub accepted-write : (out : ℕ) → v .reading .used ≤ out → Rewritten s exact v (writeOf (v .bytes) s exact out)
+  accepted-write out h =
       let w = m .image .writable in
       let l : length (write exact (m .packet)) ≤ limit.bytes = omega (arith, fewer, m .used, w .text-size) in
       rw (packet-written exact out w ∙ sized-written (write exact (m .packet)) out l (omega (arith, fewer)))
@@ -137,57 +133,28 @@ module _ {s : List ℕ} {v : Whole} (m : WasRead s v) (exact : Bool) where
         fewer = fewer;
       })
 
-  trips : (b : List ℕ) (out more : ℕ) → writeOf (v .bytes) s exact out ≡ written b → 3 * length b ≤ more → RoundTrip s b exact v (wholeOf b more)
-  trips b out more e h =
-      let w = m .image .writable in
-      let r = written-back (v .bytes) s b exact (m .packet) out more w e h in
-      record {
-        packet = m .packet;
-        before = m .encoded;
-        after = r .encoded;
-        answer = r .answer;
-        used = r .used;
-        fewer = rw (written-is (v .bytes) s b exact (m .packet) out w e .same) fewer;
-        image = w .images;
-        image-too = r .image .writable .images;
-        alike = images-alike exact (m .image) (r .image);
-      }
+  module _ (b : List ℕ) (out : ℕ) (e : writeOf (v .bytes) s exact out ≡ written b) where
+    -- Written, in either setting, it reads back, given room, as the same packet: the same headers, flags, targets, responses and values, texts and number bits
+    -- included, in no more bytes than were used. Only text places and declared lengths may differ.
+    pub round-trip : (more : ℕ) → 3 * length b ≤ more → RoundTrip s b exact v (wholeOf b more)
+    round-trip more h =
+        let w = m .image .writable in
+        let r = written-back (v .bytes) s b exact (m .packet) out more w e h in
+        record {
+          packet = m .packet;
+          before = m .encoded;
+          after = r .encoded;
+          answer = r .answer;
+          used = r .used;
+          fewer = rw (written-is (v .bytes) s b exact (m .packet) out w e .same) fewer;
+          image = w .images;
+          image-too = r .image .writable .images;
+          alike = images-alike exact (m .image) (r .image);
+        }
 
--- A packet that was read whole is written, in either setting, where the output has as much room as the bytes used: as the same packet, but for the lengths
--- that its entries declare, in no more bytes.
-pub accepted-write : (s : List ℕ) (room : ℕ) (exact : Bool) (out : ℕ) → Bytes s → wholeOf s room .reading .answer ≡ 0 → wholeOf s room .reading .used ≤ out
-    → Rewritten s exact (wholeOf s room) (rewriteOf wholeOf s room exact out)
-accepted-write s room exact out bs e = accepts (read-whole s room bs e) exact out
-
--- So is a packet that the incomplete reading used.
-pub accepted-write-incomplete : (s : List ℕ) (room : ℕ) (exact : Bool) (out : ℕ) → Bytes s → incompleteOf s room .reading .answer ≡ 0
-    → incompleteOf s room .reading .used ≤ out → Rewritten s exact (incompleteOf s room) (rewriteOf incompleteOf s room exact out)
-accepted-write-incomplete s room exact out bs e = accepts (read-incomplete s room bs e) exact out
-
--- A packet that was read whole and then written, in either setting, reads back, given room, as the same packet: the same headers, flags, targets, responses
--- and values, texts and number bits included, in no more bytes than were used. Only text places and declared lengths may differ.
-pub round-trip : (s b : List ℕ) (room : ℕ) (exact : Bool) (out more : ℕ) → Bytes s → wholeOf s room .reading .answer ≡ 0
-    → rewriteOf wholeOf s room exact out ≡ written b → 3 * length b ≤ more → RoundTrip s b exact (wholeOf s room) (wholeOf b more)
-round-trip s b room exact out more bs e = trips (read-whole s room bs e) exact b out more
-
--- So does a packet that the incomplete reading used.
-pub round-trip-incomplete : (s b : List ℕ) (room : ℕ) (exact : Bool) (out more : ℕ) → Bytes s → incompleteOf s room .reading .answer ≡ 0
-    → rewriteOf incompleteOf s room exact out ≡ written b → 3 * length b ≤ more → RoundTrip s b exact (incompleteOf s room) (wholeOf b more)
-round-trip-incomplete s b room exact out more bs e = trips (read-incomplete s room bs e) exact b out more
-
--- To read that and write it once more in the same setting changes nothing more.
-pub again : (s b : List ℕ) (room : ℕ) (exact : Bool) (out more once : ℕ) → Bytes s → wholeOf s room .reading .answer ≡ 0
-    → rewriteOf wholeOf s room exact out ≡ written b → 3 * length b ≤ more → length b ≤ once → rewriteOf wholeOf b more exact once ≡ written b
-again s b room exact out more once bs e f h =
-    let m = read-whole s room bs e in
-    written-again (wholeOf s room .bytes) s b exact (m .packet) out more (m .image .writable) f h .1 once
-
--- Nor does it after the incomplete reading.
-pub again-incomplete : (s b : List ℕ) (room : ℕ) (exact : Bool) (out more once : ℕ) → Bytes s → incompleteOf s room .reading .answer ≡ 0
-    → rewriteOf incompleteOf s room exact out ≡ written b → 3 * length b ≤ more → length b ≤ once → rewriteOf wholeOf b more exact once ≡ written b
-again-incomplete s b room exact out more once bs e f h =
-    let m = read-incomplete s room bs e in
-    written-again (incompleteOf s room .bytes) s b exact (m .packet) out more (m .image .writable) f h .1 once
+    -- To read that and write it once more in the same setting changes nothing more.
+    pub again : (more once : ℕ) → 3 * length b ≤ more → length b ≤ once → rewriteOf wholeOf b more exact once ≡ written b
+    again more once h = written-again (v .bytes) s b exact (m .packet) out more (m .image .writable) e h .1 once
 
 -- ---- exact lengths
 
@@ -236,28 +203,18 @@ pub record CutsAsRead (s b : List ℕ) (v : Whole) : Type 0 where
   pub before : Encoded packet (take (v .reading .used) s)
   pub cuts : CutsExactly b packet
 
--- So is what it makes of a packet that was read whole.
-pub cuts-as-read : (s b : List ℕ) (room out : ℕ) → Bytes s → wholeOf s room .reading .answer ≡ 0 → rewriteOf wholeOf s room true out ≡ written b
-    → CutsAsRead s b (wholeOf s room)
-cuts-as-read s b room out bs e f =
-    let m = read-whole s room bs e in
-    record { packet = m .packet; before = m .encoded; cuts = cuts-exactly (wholeOf s room .bytes) s b (m .packet) out (m .image .writable) f }
-
--- And of one that the incomplete reading used.
-pub cuts-as-read-incomplete : (s b : List ℕ) (room out : ℕ) → Bytes s → incompleteOf s room .reading .answer ≡ 0
-    → rewriteOf incompleteOf s room true out ≡ written b → CutsAsRead s b (incompleteOf s room)
-cuts-as-read-incomplete s b room out bs e f =
-    let m = read-incomplete s room bs e in
-    record { packet = m .packet; before = m .encoded; cuts = cuts-exactly (incompleteOf s room .bytes) s b (m .packet) out (m .image .writable) f }
+-- So is what it makes of a packet that was read.
+pub cuts-as-read : {s : List ℕ} {room : ℕ} {v : Whole} (m : WasRead s room v) (b : List ℕ) (out : ℕ) → writeOf (v .bytes) s true out ≡ written b
+    → CutsAsRead s b v
+cuts-as-read {s} {v = v} m b out f =
+    record { packet = m .packet; before = m .encoded; cuts = cuts-exactly (v .bytes) s b (m .packet) out (m .image .writable) f }
 
 -- ---- the answers
 
 -- The answer is one of 0, 1, 4, 5 and 6.
 pub write-answers : (image text : List ℕ) (exact : Bool) (room : ℕ)
     → let a = writeOf image text exact room .writing .answer in (a ≡ 0) ⊎ ((a ≡ 1) ⊎ ((a ≡ 4) ⊎ ((a ≡ 5) ⊎ (a ≡ 6))))
-write-answers image text exact room =
-    answered image text exact room (λ w. let a = w .writing .answer in (a ≡ 0) ⊎ ((a ≡ 1) ⊎ ((a ≡ 4) ⊎ ((a ≡ 5) ⊎ (a ≡ 6)))))
-    (inr (inl refl)) (inr (inr (inl refl))) (inr (inr (inr (inl refl)))) (inr (inr (inr (inr refl)))) (λ b h. inl refl)
+write-answers image text exact room = call-answers image text room (whole image (packet exact image text)) (packet-refusing image text exact)
 
 -- The writing is refused with an answer at a place exactly where the records before it begin a packet, and what stands there is not what is due and gives
 -- that answer.
@@ -290,16 +247,13 @@ write-reasons = reasons
 pub write-refusals : (image text : List ℕ) (exact : Bool) (room a : ℕ) → Bytes image → length text ≤ limit.bytes → length image ≤ limit.image
     → (a ≡ 5) ⊎ (a ≡ 6) → writeOf image text exact room ≡ unwritten a ↔ (p : ℕ) × Refused image text a p
 write-refusals image text exact room a bs h i o =
-    call-refusals image text (whole image (packet exact image text)) room a (Refused image text a) (whole-refuses text image exact) h i o λ p.
+    call-refusals image text (whole image (packet exact image text)) room a (Refused image text a) (packet-refusing image text exact) h i o λ p.
     refusal image text exact a p bs
 
 -- A write is accepted exactly where the image is that of a packet whose bytes are within the limit and the room.
 pub write-accepted : (image text : List ℕ) (exact : Bool) (room : ℕ) → Bytes image → writeOf image text exact room .writing .answer ≡ 0
     ↔ (p : Packet) × Writable image text p × (length (write exact p) ≤ limit.bytes) × (length (write exact p) ≤ room)
-write-accepted image text exact room bs = (
-  holds (writeOf image text exact room) (reasons image text exact room bs),
-  λ x. ap (λ (w : Written). w .writing .answer) (packet-written exact room (x .1) ∙ sized-written (write exact (x .0)) room (x .2) (x .3)),
-)
+write-accepted image text exact room bs = accepted (writeOf image text exact room) (reasons image text exact room bs) λ p. packet-written exact room
 
 -- Within the limits, the image of a packet with a value that is too deep is refused with 5.
 pub write-deep : (image text : List ℕ) (exact : Bool) (p : Packet) (room : ℕ) → Bytes image → length text ≤ limit.bytes → length image ≤ limit.image
@@ -314,5 +268,4 @@ write-deep image text exact p room bs h i m d =
 
 -- A refused write counts 0 and has no byte of an output; an accepted one counts the bytes that it has of it, and they have room.
 pub write-settled : (image text : List ℕ) (exact : Bool) (room : ℕ) → Settled room (writeOf image text exact room)
-write-settled image text exact room =
-    answered image text exact room (Settled room) (refused 1 λ e. omega arith) (refused 4 λ e. omega arith) (refused 5 λ e. omega arith) (refused 6 λ e. omega arith) put-out
+write-settled image text exact room = call-settled image text room (whole image (packet exact image text)) (packet-refusing image text exact)

@@ -3,9 +3,10 @@
 use Rattle.wire.specs.Kit.{ℕ, suc, _^_, _≤_, _<_, _≡_, _≢_, List, [], _∷_, _++_, true, length}
 use Rattle.wire.specs.Number.{digits}
 use Rattle.wire.specs.Limit as limit
-use Rattle.amf0.specs.Standard.{Sort, Tree, depth, UTF-8, Encodes}
+use Rattle.amf0.specs.Standard.{Sort, UTF-8}
 use Rattle.amf0_theorems.specs.Refusal.{Field, InText, Leads, Refused}
 use Rattle.amf0_theorems.specs.Refusal.Field.{some, fixed, count}
+use Rattle.amf0_theorems.specs.Spans.{Value, LeftOver}
 use Rattle.packet.specs.Packet.{Label, Head, IsHeader, IsMessage}
 
 -- ---- how the values of a packet are gone over
@@ -17,12 +18,6 @@ pub record Way : Type 1 where
   pub Stands : (declared : ℕ) → List ℕ → Type 0
   -- the bytes x begin a value, `rest` is all that stands behind them, and this field is due there
   pub Inside : (rest x : List ℕ) → Field → Type 0
-
--- the bytes y are a value that is not too deep
-pub record Value (y : List ℕ) : Type 0 where
-  pub tree : Tree Sort.value
-  pub encodes : Encodes Sort.value tree y
-  pub deep : depth tree ≤ limit.levels
 
 -- the whole reading: values of AMF 0, and the declared lengths are not looked at
 abbrev pub whole : Way
@@ -83,10 +78,6 @@ pub data Seven : List ℕ → Type 0 where
 pub data RefusedPacket (w : Way) (s : List ℕ) : (answer place : ℕ) → Type 0 where
   version-3 : Seven s → RefusedPacket w s 7 1
   field : {a p : ℕ} → Refused (LeadsPacket w) s 0 a p → RefusedPacket w s a p
-
--- bytes are left over behind what P says of the first: the first of them is refused
-pub data LeftOver (P : List ℕ → Type 0) : List ℕ → (answer place : ℕ) → Type 0 where
-  behind : {x : List ℕ} (b : ℕ) (r : List ℕ) → P x → LeftOver P (x ++ (b ∷ r)) 3 (length x)
 
 -- a cut is refused, with an answer, by the field at a place
 pub data RefusedCut (s : List ℕ) : (answer place : ℕ) → Type 0 where

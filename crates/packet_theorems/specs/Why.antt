@@ -1,21 +1,19 @@
 -- What the packet calls can come to in a room, and when: a room too small refuses before any other reason but the limit. What stands in the input, which
 -- field refuses it, and into what it is cut, is said by the grammars; that a room is too small, by the records that the definitions find.
-use Rattle.wire.specs.Kit.{ℕ, _+_, _≤_, _<_, _≡_, _⊎_, List, _++_, length, getD}
+use Rattle.wire.specs.Kit.{ℕ, _+_, _≤_, _<_, _≡_, List, _++_, length, getD}
 use Rattle.wire.specs.Limit as limit
-use Rattle.image.specs.Due.{Due, based}
 use Rattle.image.specs.Whole.{Whole, bytes, accepted, refused}
-use Rattle.amf0.specs.Reading.{value, topValue}
-use Rattle.amf0_theorems.specs.Refusal.{RefusedValue}
+use Rattle.amf0.specs.Span.{spanAt}
+use Rattle.amf0_theorems.specs.Spans.{LeftOver, ComesValue}
 use Rattle.packet.specs.declared.head.Entry.{Entry}
 use Rattle.packet.specs.declared.entry.Found.{Found}
 use Rattle.packet.specs.declared.entry.Found.the-variants as Found
-use Rattle.packet.specs.Head.{entry}
 use Rattle.packet.specs.Packet.{Packet, Encoded}
 use Rattle.packet.specs.Shown.{Within}
 use Rattle.packet.specs.Reading.{packetAt}
-use Rattle.packet.specs.Entry.{noEntry, spanOf, Listed, uncut}
+use Rattle.packet.specs.Entry.{noEntry, span, Listed, uncut}
 use Rattle.packet_theorems.specs.Cuts.{CutInto}
-use Rattle.packet_theorems.specs.Refusal.{Value, whole, RefusedPacket, LeftOver, RefusedCut}
+use Rattle.packet_theorems.specs.Refusal.{whole, RefusedPacket, RefusedCut}
 
 -- ---- the whole readings
 
@@ -58,29 +56,14 @@ pub data ComesNth (s : List ℕ) (number : ℕ) : Found → Type 0 where
 
 -- ---- one value
 
--- the value reader on an entry's bytes alone
-abbrev pub inEntry : List ℕ → Entry → Due
-inEntry s e = based (e .place) (topValue (spanOf s e) 0)
-
--- the reading of an entry's value
-pub data ComesValue (s : List ℕ) (e : Entry) (room : ℕ) : Whole → Type 0 where
-  no-room : room < length (bytes (inEntry s e)) → ComesValue s e room (refused 4)
-  deep : {p : ℕ} → length (bytes (inEntry s e)) ≤ room → RefusedValue limit.levels (spanOf s e) 0 5 p → ComesValue s e room (refused 5)
-  -- no value stands in its bytes
-  damaged : {a p : ℕ} → length (bytes (inEntry s e)) ≤ room → RefusedValue limit.levels (spanOf s e) 0 a p → (a ≡ 2) ⊎ (a ≡ 3)
-      → ComesValue s e room (refused 9)
-  -- one stands there, and bytes are left over
-  unused : {a p : ℕ} → length (bytes (inEntry s e)) ≤ room → LeftOver Value (spanOf s e) a p → ComesValue s e room (refused 9)
-  read : length (bytes (inEntry s e)) ≤ room → Value (spanOf s e) → ComesValue s e room (accepted (e .length) (bytes (inEntry s e)))
-
 -- the reading of entry `number`
 pub data ComesEntry (s : List ℕ) (number room : ℕ) : Whole → Type 0 where
   not-cut : {a p : ℕ} → RefusedCut s a p → ComesEntry s number room (refused a)
   no-entry : {es : List Entry} → CutInto s es → length es ≤ number → ComesEntry s number room (refused 8)
-  found : {es : List Entry} {w : Whole} → CutInto s es → number < length es → ComesValue s (getD es number noEntry) room w → ComesEntry s number room w
+  found : {es : List Entry} {w : Whole} → CutInto s es → number < length es → ComesValue s (span (getD es number noEntry)) room w → ComesEntry s number room w
 
 -- the reading of n bytes from a place on
 pub data ComesSpan (s : List ℕ) (place n room : ℕ) : Whole → Type 0 where
   over-limit : limit.bytes < length s → ComesSpan s place n room (refused 1)
   outside : length s ≤ limit.bytes → length s < place + n → ComesSpan s place n room (refused 8)
-  inside : {w : Whole} → length s ≤ limit.bytes → place + n ≤ length s → ComesValue s (entry 0 0 0 0 0 0 place n) room w → ComesSpan s place n room w
+  inside : {w : Whole} → length s ≤ limit.bytes → place + n ≤ length s → ComesValue s (spanAt place n) room w → ComesSpan s place n room w

@@ -1,7 +1,8 @@
 -- Copies by parts that meet or overlap.
-use Rattle.wire.proofs.Kit.{ℕ, zero, suc, _+_, _-_, _≤_, _<_, _≡_, refl, sym, ap, _∙_, List, [], _∷_, arith, length, getD, take, set, length-take}
-use Rattle.wire.proofs.Kit.{length-drop, sets, set-comm, set-set, take-length, drop-cons, length-take-le}
+use Rattle.wire.proofs.Kit.{ℕ, zero, suc, _+_, _-_, _*_, _≤_, _<_, _≡_, refl, sym, ap, _∙_, List, [], _∷_, arith, length, getD, take, set, length-take}
+use Rattle.wire.proofs.Kit.{length-drop, sets, set-comm, set-set, take-length, drop-cons, length-take-le, towards-suc}
 use lib.Seq.{take-add}
+use Rattle.wire.specs.Number.{number}
 use Rattle.wire.specs.Field.{bytesAt}
 use Rattle.wire.proofs.Laws.{then-sets}
 
@@ -53,3 +54,12 @@ module _ (row : List ℕ) where
   pub byte-on : (a b at : ℕ) (out : List ℕ) → b ≤ a → a ≤ b + 1 → b < length row
       → set (sets out at (take a row)) (at + b) (getD row b 0) ≡ sets out at (take (b + 1) row)
   byte-on a b at out h g k = rw (bytes-loads 1 b (omega arith)) at (laid-on 1 a b at out h g (omega arith))
+
+-- the number in four bytes, and in eight: sums of the bytes
+pub number-four : (s : List ℕ) (at : ℕ) → at + 4 ≤ length s
+    → number (bytesAt 4 s at) ≡ getD s at 0 * 0x1000000 + getD s (at + 1) 0 * 0x10000 + getD s (at + 2) 0 * 0x100 + getD s (at + 3) 0
+number-four s at h = rw (bytes-loads s 4 at h) (simp towards-suc (omega arith))
+
+pub number-eight : (s : List ℕ) (at : ℕ) → at + 8 ≤ length s
+    → number (bytesAt 8 s at) ≡ number (bytesAt 4 s at) * 0x100000000 + number (bytesAt 4 s (at + 4))
+number-eight s at h = rw (bytes-loads s 8 at h, bytes-loads s 4 at (omega arith), bytes-loads s 4 (at + 4) (omega arith)) (simp towards-suc (omega arith))

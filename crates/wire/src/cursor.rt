@@ -2,6 +2,7 @@
 use crate::answer::NOT_RIGHT;
 use crate::answer::NOT_WHOLE;
 use crate::number::number_at;
+use crate::number::number8_at;
 use crate::utf8::is_utf8;
 ghost use mathlib.Core.Path.{_≡_};
 ghost use Prim.Native.Nat.{_+_};
@@ -105,7 +106,7 @@ impl Cursor {
     {
         let at = self.at;
         if whole(s, at, 8) {
-            U64::Got(number_at(s, at, 8), Cursor { at: at + 8 })
+            U64::Got(number8_at(s, at), Cursor { at: at + 8 })
         } else {
             U64::Stop(NOT_WHOLE, at)
         }

@@ -1,7 +1,7 @@
 // Numbers in bytes, the highest first.
 ghost use mathlib.Core.Path.{_≡_};
 ghost use Prim.Native.Nat.{_+_, _^_, _≤_, _<_};
-ghost use lib.ListN.{length};
+ghost use lib.ListN.{length, getD};
 ghost use lib.Seq.{sets};
 ghost use lib.Dec.{leb};
 ghost use Rattle.wire.specs.Number.{digits, number, stored};
@@ -19,6 +19,32 @@ pub(crate) fn number_at(s: &[u8], at: usize, w: usize) -> u64
         i += 1;
     }
     n
+}
+
+// The number in one byte, in four and in eight. The loads come first and the sum is written out: so it is one load of the machine, and its bytes turned.
+fn number1_at(s: &[u8], at: usize) -> u64
+    requires { ⌜ at < length (now s) ⌝ }
+    ensures { λ r. ⌜ (r ≡ getD (now (s .entry)) at 0) × (r < 0x100) ⌝ }
+{
+    s[at] as u64
+}
+
+fn number4_at(s: &[u8], at: usize) -> u64
+    requires { ⌜ at + 4 ≤ length (now s) ⌝ }
+    ensures { λ r. ⌜ (r ≡ number (bytesAt 4 (now (s .entry)) at)) × (r < 0x100000000) ⌝ }
+{
+    let a = number1_at(s, at);
+    let b = number1_at(s, at + 1);
+    let c = number1_at(s, at + 2);
+    let d = number1_at(s, at + 3);
+    ((a * 0x100 + b) * 0x100 + c) * 0x100 + d
+}
+
+pub(crate) fn number8_at(s: &[u8], at: usize) -> u64
+    requires { ⌜ at + 8 ≤ length (now s) ⌝ }
+    ensures { λ r. ⌜ r ≡ number (bytesAt 8 (now (s .entry)) at) ⌝ }
+{
+    number4_at(s, at) * 0x1_0000_0000 + number4_at(s, at + 4)
 }
 
 // The widths that most fields have, without a loop.

@@ -10,29 +10,29 @@ use Rattle.amf0.proofs.read.parse_value.Tie as tie
 returns : tie.Need-returns
 returns c =
     let a = c .before .before .before .args in
-    (rw (part-over (a .how .base) (now (a .input)) (a .c .at) (omega arith)) (sym (run-stop _ _ _ _)), within-stop)
+    (rw (part-over (a .base) (now (a .input)) (a .c .at) (omega arith)) (sym (run-stop _ _ _ _)), within-stop)
 
 returns-2 : tie.Need-returns-2
 returns-2 c =
     let a = c .before .before .before .before .args in
-    (rw (part-over (a .how .base) (now (a .input)) (a .c .at) (omega arith)) (sym (run-stop _ _ _ _)), within-stop)
+    (rw (part-over (a .base) (now (a .input)) (a .c .at) (omega arith)) (sym (run-stop _ _ _ _)), within-stop)
 
 returns-3 : tie.Need-returns-3
 returns-3 c =
     let a = c .before .before .before .before .before .args in
-    (rw (part-past (a .how .base) (now (a .input)) (a .c .at) (omega arith) (omega arith)) (sym (run-stop _ _ _ _)), within-stop)
+    (rw (part-past (a .base) (now (a .input)) (a .c .at) (omega arith) (omega arith)) (sym (run-stop _ _ _ _)), within-stop)
 
 returns-4 : tie.Need-returns-4
 returns-4 c =
     let a = c .before .before .before .before .before .before .before .before .before .args in
     let s = now (a .input) in
     let e = value-cut s (a .c .at) levels (sym (c .before .before .before .be-u8 .ensures) ∙ c .before .a .given .1) in
-    (rw (part-read (a .how .base) s (a .c .at) (omega arith) (omega arith), e) (sym (run-stop _ _ _ _)), within-stop)
+    (rw (part-read (a .base) s (a .c .at) (omega arith) (omega arith), e) (sym (run-stop _ _ _ _)), within-stop)
 
 returns-5 : tie.Need-returns-5
 returns-5 c =
     let a = c .before .before .before .before .before .before .before .before .before .before .before .before .before .args in
-    (rw (part-read (a .how .base) (now (a .input)) (a .c .at) (omega arith) (omega arith)) (c .before .before .value .ensures .0), c .before .before .value .ensures .1)
+    (rw (part-read (a .base) (now (a .input)) (a .c .at) (omega arith) (omega arith)) (c .before .before .value .ensures .0), c .before .before .value .ensures .1)
 
 pub parse-value-spec : {M : Type 1} → statement M
 parse-value-spec =

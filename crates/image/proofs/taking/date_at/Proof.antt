@@ -1,5 +1,5 @@
 -- The fields in their order, and then the zone.
-use Rattle.wire.proofs.Kit.{sym, _∙_, needs, eq-eqb, ne-eqb}
+use Rattle.wire.proofs.Kit.{sym, _∙_, needs}
 use Rattle.image.specs.Taking.{bodyAt, u64, flag, u16, zoned}
 use Rattle.image.proofs.taking.date_at.Statement.{statement}
 use Rattle.image.proofs.taking.date_at.Tie as tie
@@ -8,10 +8,9 @@ pub date-at-spec : {M : Type 1} → statement M
 unfolding bodyAt u64 flag u16 zoned
 date-at-spec =
     tie.close (tie.spec (λ c κs. search needs) (λ c. search needs) (λ c κs. search needs) (λ c. search needs) (λ c κs. search needs)
-    (λ c. search needs) (λ c. search needs) (λ c. search needs) (λ c. search needs)
-    (λ c. rw (sym (c .before .before .before .before .before .before .before .before .before .before .before .before .be-u64 .ensures) ∙ c .before .before .before .before .before .before .before .before .before .before .n .given .1, sym (c .before .before .before .before .before .before .before .before .flag-at .ensures) ∙ c .before .before .before .before .before .before .present .given .1, sym (c .before .before .before .before .be-u16 .ensures) ∙ c .before .before .zone .given .1, c .if1 .taken))
-    (λ c. rw (sym (c .before .before .before .before .before .before .before .before .before .before .before .before .before .be-u64 .ensures) ∙ c .before .before .before .before .before .before .before .before .before .before .before .n .given .1, sym (c .before .before .before .before .before .before .before .before .before .flag-at .ensures) ∙ c .before .before .before .before .before .before .before .present .given .1, sym (c .before .before .before .before .before .be-u16 .ensures) ∙ c .before .before .before .zone .given .1, c .before .if1 .left, eq-eqb (c .before .before .before .zone .given .0 .0) 0 (c .if2 .taken)))
-    (λ c. rw (sym (c .before .before .before .before .before .before .before .before .before .before .before .before .before .be-u64 .ensures) ∙ c .before .before .before .before .before .before .before .before .before .before .before .n .given .1, sym (c .before .before .before .before .before .before .before .before .before .flag-at .ensures) ∙ c .before .before .before .before .before .before .before .present .given .1, sym (c .before .before .before .before .before .be-u16 .ensures) ∙ c .before .before .before .zone .given .1, c .before .if1 .left, ne-eqb (c .before .before .before .zone .given .0 .0) 0 (c .if2 .left)))
+    (λ c. search needs) (λ c κs. search needs) (λ c. search needs) (λ c. search needs) (λ c. search needs)
+    (λ c. rw (sym (c .before .before .before .before .before .before .before .before .before .before .before .before .before .be-u64 .ensures) ∙ c .before .before .before .before .before .before .before .before .before .before .before .n .given .1, sym (c .before .before .before .before .before .before .before .before .before .flag-at .ensures) ∙ c .before .before .before .before .before .before .before .present .given .1, sym (c .before .before .before .before .before .be-u16 .ensures) ∙ c .before .before .before .zone .given .1, sym (c .before .zone-fits .ensures) ∙ c .if1 .taken))
+    (λ c. rw (sym (c .before .before .before .before .before .before .before .before .before .before .before .before .before .be-u64 .ensures) ∙ c .before .before .before .before .before .before .before .before .before .before .before .n .given .1, sym (c .before .before .before .before .before .before .before .before .before .flag-at .ensures) ∙ c .before .before .before .before .before .before .before .present .given .1, sym (c .before .before .before .before .before .be-u16 .ensures) ∙ c .before .before .before .zone .given .1, sym (c .before .zone-fits .ensures) ∙ c .if1 .left))
     (λ c. rw (sym (c .before .before .before .before .before .before .before .before .before .before .be-u64 .ensures) ∙ c .before .before .before .before .before .before .before .before .n .given .1, sym (c .before .before .before .before .before .before .flag-at .ensures) ∙ c .before .before .before .before .present .given .1, sym (c .before .before .be-u16 .ensures) ∙ c .enum-told .given .1))
     (λ c. rw (sym (c .before .before .before .before .before .before .be-u64 .ensures) ∙ c .before .before .before .before .n .given .1, sym (c .before .before .flag-at .ensures) ∙ c .enum-told2 .given .1))
     (λ c. rw (sym (c .before .before .be-u64 .ensures) ∙ c .enum-told3 .given .1)))

@@ -1,8 +1,9 @@
 -- The body's elements, one after another: the whole from the start is what is left from here, with some fuel that is enough.
 use Rattle.wire.proofs.Kit.{ℕ, _+_, _-_, _≤_, _≡_, refl, sym, _∙_, inl, inr, le-refl, arith, length, now, needs}
 use Rattle.image.proofs.Laws.{within-stop, within-next}
+use Rattle.lso.specs.Reading.{bodyAt}
 use Rattle.lso.specs.Code.{runBody}
-use Rattle.lso.proofs.Laws.{body-next, body-ends, body-stops}
+use Rattle.lso.proofs.Body.{body-next, body-ends, body-stops}
 use Rattle.lso.proofs.read.parse_body.Statement.{statement}
 use Rattle.lso.proofs.read.parse_body.Tie as tie
 
@@ -14,7 +15,7 @@ Inv-loop image₀ s done c₀ made₀ image c made =
     (length image ≡ length image₀) ×
     (f : ℕ) ×
     (length s ≤ f + c .at) ×
-    (runBody s (length s) (c₀ .at) done image₀ ≡ runBody s f (c .at) made image)
+    (runBody (bodyAt s (length s) (c₀ .at)) done image₀ ≡ runBody (bodyAt s f (c .at)) made image)
 
 abbrev μ-loop : tie.MeasureT-loop
 μ-loop image₀ s done c₀ made₀ image c made = length s - c .at
@@ -36,7 +37,7 @@ loop-again c =
       omega arith,
       l .inv .4 - 1,
       omega arith,
-      l .inv .6 ∙ body-next s (l .c .at) (l .inv .4) (l .inv .5) _ _ e (omega arith),
+      l .inv .6 ∙ body-next s (l .c .at) (l .inv .4) (l .inv .5) _ _ e,
     )
 
 returns : tie.Need-returns Inv-loop μ-loop

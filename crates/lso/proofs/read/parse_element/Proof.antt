@@ -4,10 +4,10 @@ use Rattle.wire.proofs.Laws.{text-next, tag-next}
 use Rattle.image.specs.declared.record.Record.the-variants.{Key}
 use Rattle.image.specs.Due.{Due, due, end, _>>=_, run}
 use Rattle.image.proofs.Laws.{run-then, run-halt, run-stop, run-end, within-stop, within-next, based-zero}
-use Rattle.amf0.specs.Reading.{value, topValue}
+use Rattle.amf0.specs.Reading.{topValue}
 use Rattle.amf0.proofs.Laws.{part-read}
-use Rattle.lso.specs.Reading.{elementAt}
-use Rattle.lso.proofs.Laws.{closing, element-cut, element-key}
+use Rattle.lso.specs.Reading.{closing, elementAt}
+use Rattle.lso.proofs.Laws.{element-cut, element-key}
 use Rattle.lso.proofs.read.parse_element.Statement.{statement}
 use Rattle.lso.proofs.read.parse_element.Tie as tie
 

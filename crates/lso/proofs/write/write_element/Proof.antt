@@ -1,14 +1,13 @@
 -- A key, its value and a zero: what each puts out, and where the next goes on.
 use Rattle.wire.proofs.Kit.{ℕ, _+_, _*_, _≤_, _≡_, sym, ap, _∙_, List, arith, length, now, needs}
-use Rattle.image.specs.Taking.{recordAt}
 use Rattle.image.specs.Out.{Out, end, row, pour}
 use Rattle.image.proofs.Pouring.{pour-then, pour-halt, row-in}
 use Rattle.amf0.specs.Code.{longest, growth}
 use Rattle.amf0.specs.Writing.{value, topValue, valueIn}
 use Rattle.amf0.proofs.Putting.{ahead-stop, ahead-grown, in-value}
 use Rattle.lso.specs.Code.{keyOf}
-use Rattle.lso.specs.Writing.{element}
-use Rattle.lso.proofs.Putting.{padding, padded, element-key}
+use Rattle.lso.specs.Writing.{zero-byte, element}
+use Rattle.lso.proofs.Putting.{padded, element-key}
 use Rattle.lso.proofs.write.write_element.Statement.{statement}
 use Rattle.lso.proofs.write.write_element.Tie as tie
 
@@ -45,7 +44,7 @@ keyed-out c =
       from = b .0;
       fits = b .1;
       small = b .2;
-      same = rw (element-key i x (a .c .at)) (pour-then (keyOf (recordAt i (a .c .at)) x (a .c .at)) (padded i x (a .c .at)) (a .count) (now (a .out)) (rw (c .e .given .1) at (c .before .before .before .before .write-key .ensures .0)));
+      same = rw (element-key i x (a .c .at)) (pour-then (keyOf i x (a .c .at)) (padded i x (a .c .at)) (a .count) (now (a .out)) (rw (c .e .given .1) at (c .before .before .before .before .write-key .ensures .0)));
       inner = λ o. ap (λ (d : Out). pour d (v .1 .0) o) (in-value i x (v .1 .0) (v .0 .at) (p .0) (p .1) (b .1) (omega (arith, b, p)));
     }
 
@@ -54,7 +53,7 @@ returns c =
     let a = c .before .before .before .before .before .before .before .before .before .before .args in
     let i = now (a .image) in
     let x = now (a .text) in
-    (rw (element-key i x (a .c .at)) (sym (pour-halt (keyOf (recordAt i (a .c .at)) x (a .c .at)) (padded i x (a .c .at)) (a .count) (now (a .out)) (rw (c .before .a .given .1) at (c .before .before .before .before .before .write-key .ensures .0)))), ahead-stop)
+    (rw (element-key i x (a .c .at)) (sym (pour-halt (keyOf i x (a .c .at)) (padded i x (a .c .at)) (a .count) (now (a .out)) (rw (c .before .a .given .1) at (c .before .before .before .before .before .write-key .ensures .0)))), ahead-stop)
 
 returns-2 : tie.Need-returns-2
 returns-2 c =
@@ -63,7 +62,7 @@ returns-2 c =
     let x = now (a .text) in
     let k = keyed-out (c .before .before .before .before .before .before .before .before) in
     let v = c .before .before .before .before .before .before .before .before .e .given .0 in
-    let more : ℕ → Out = λ e. row x padding (a .c .at) (end e) in
+    let more : ℕ → Out = λ e. row x zero-byte (a .c .at) (end e) in
     (sym (k .same ∙ pour-halt (topValue i x (v .0 .at)) more (v .1 .0) (c .before .before .before .before .before .before .before .before .before .before .before .before .write-key .last .0) (rw (c .before .a2 .given .1) at (c .before .before .before .before .before .pour-value .ensures .0) ∙ k .inner _)), ahead-stop)
 
 returns-3 : tie.Need-returns-3
@@ -77,9 +76,9 @@ returns-3 c =
     let v = c .before .before .before .before .before .f .given .0 in
     let b = c .before .before .before .before .before .before .before .before .before .pour-value .ensures .1 .bounds (v .0) (v .1 .0) (c .before .before .before .before .before .f .given .1) in
     let o = c .before .before .before .before .before .before .before .before .before .pour-value .last .0 in
-    let more : ℕ → Out = λ e. row x padding (a .c .at) (end e) in
+    let more : ℕ → Out = λ e. row x zero-byte (a .c .at) (end e) in
     let s = k .same ∙ pour-then (topValue i x (u .0 .at)) more (u .1 .0) (c .before .before .before .before .before .before .before .before .before .before .before .before .before .before .before .before .write-key .last .0) (rw (c .before .before .before .before .before .f .given .1) at (c .before .before .before .before .before .before .before .before .before .pour-value .ensures .0) ∙ k .inner _) in (
-      c .before .before .emit-numbers .ensures .0 x (a .c .at) ∙ ap (λ (d : Out). pour d (v .1 .0) o) (row-in x padding (a .c .at) (v .0 .at) (v .1 .0) o (omega arith) (omega (arith, b, k .small, p))) ∙ sym s,
+      c .before .before .emit-numbers .ensures .0 x (a .c .at) ∙ ap (λ (d : Out). pour d (v .1 .0) o) (row-in x zero-byte (a .c .at) (v .0 .at) (v .1 .0) o (omega arith) (omega (arith, b, k .small, p))) ∙ sym s,
       ahead-grown (c .before .before .emit-numbers .ensures .1) (omega (arith, k .from, b .0)) (b .1) (omega (arith, k .small, b .2)),
     )
 

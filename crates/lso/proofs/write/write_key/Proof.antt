@@ -6,7 +6,8 @@ use Rattle.image.specs.Taking.{recordAt, bodyAt, short}
 use Rattle.image.proofs.Pouring.{pour-stop, row-in}
 use Rattle.amf0.proofs.Putting.{ahead-stop, ahead-grown, past}
 use Rattle.amf0.proofs.Begun.{record-body, record-none}
-use Rattle.lso.proofs.Putting.{keying, key-other}
+use Rattle.lso.specs.Writing.{keying}
+use Rattle.lso.proofs.Putting.{key-other}
 use Rattle.lso.proofs.write.write_key.Statement.{statement}
 use Rattle.lso.proofs.write.write_key.Tie as tie
 

@@ -3,20 +3,20 @@
 mod Lts
 mod Tie
 use Rattle.wire.proofs.Kit.{_-_, _≤_, _<_, _≡_, refl, sym, _∙_, true, arith, length, take, length-set, needs}
-use Rattle.packet.specs.Entry.{cutOf, listOf}
-use Rattle.packet.specs.Code.{goesOn, restOf, aheads}
-use Rattle.packet.proofs.Laws.{below-true, aheads-none, aheads-more, rest-short, listing}
+use Rattle.packet.specs.Entry.{puts, strict, cutOf, listOf}
+use Rattle.packet.specs.Code.{goesOn, restOf}
+use Rattle.packet.proofs.Laws.{below-true, strict-more, rest-some, rest-short, listing}
 use Rattle.packet.proofs.entry.cut.Statement.{statement}
 use Rattle.packet.proofs.entry.cut.Proof.Tie as tie
 
 abbrev Inv-loop : tie.InvT-loop
-Inv-loop s list₀ w₀ n₀ list w n = (length list ≡ length list₀) × (n ≤ length list₀) × (cutOf s ≡ aheads (take n list) (restOf s w))
+Inv-loop s list₀ w₀ n₀ list w n = (length list ≡ length list₀) × (n ≤ length list₀) × (cutOf s ≡ strict (puts (take n list) (restOf s w)))
 
 abbrev μ-loop : tie.MeasureT-loop
 μ-loop s list₀ w₀ n₀ list w n = length list₀ - n
 
 loop-holds : tie.Need-loop-holds Inv-loop μ-loop
-loop-holds c = (refl, omega arith, sym (aheads-none (c .before .before .args .list .now) (restOf (c .before .before .args .packet .now) (c .begin .result)) ∙ c .begin .ensures))
+loop-holds c = (refl, omega arith, sym (c .begin .ensures))
 
 -- there is an entry, and a place for it
 more : (c : tie.Then1 Inv-loop μ-loop) → let l = c .before .before .loop in (l .n < length (l .list)) × (goesOn (l .w) ≡ true)
@@ -26,11 +26,11 @@ loop-again : tie.Need-loop-again Inv-loop μ-loop
 loop-again c =
     let s = c .before .before .before .before .before .before .before .before .args .packet .now in
     let l = c .before .before .before .before .before .loop in
-    let x = c .before .before .step .result in
+    let t = restOf s (l .w) in
     let m = more (c .before .before .before) in (
       simp length-set (l .inv .0),
       omega (arith, m .0, l .inv .0),
-      l .inv .2 ∙ rw (c .before .before .step .ensures .0 (m .1), c .walk-in .ensures, c .before .entry-in .ensures) (aheads-more (l .list) (l .n) (x .entry) (restOf s (x .walk)) (m .0)),
+      l .inv .2 ∙ rw (c .walk-in .ensures, c .before .entry-in .ensures, c .before .before .step .ensures .0, c .before .before .step .ensures .1 .0) (strict-more (l .list) (l .n) t (λ z. rest-some s (l .w) (m .1)) (m .0)),
     )
 
 returns : tie.Need-returns Inv-loop μ-loop
@@ -41,7 +41,7 @@ returns c =
     let l = c .before .before .before .before .before .before .before .loop in
     let x = restOf s (l .w) in
     let b = sym (c .before .before .before .before .before .before .below .ensures) ∙ c .before .before .before .before .before .if1 .left in
-    let g = listing (l .list) (l .n) x (omega (arith, l .inv .0, l .inv .1)) (λ e es z h. rest-short s (l .w) (l .n) (length (l .list)) b h) in
+    let g = listing (l .list) (l .n) x (omega (arith, l .inv .0, l .inv .1)) (rest-short s (l .w) (l .n) (length (l .list)) b) in
     rw (sym (l .inv .0), l .inv .2) (
       c .before .before .before .before .counted .ensures ∙ g .cutting,
       c .before .clear .ensures ∙ rw (c .before .before .before .count-in .ensures, c .before .before .before .before .counted .ensures) (g .left),

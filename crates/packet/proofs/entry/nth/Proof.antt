@@ -1,7 +1,7 @@
 -- `nth` meets its contract: the cut goes over the whole packet.
 use Rattle.wire.proofs.Kit.{_∙_, now, needs}
-use Rattle.packet.specs.Entry.{cutOf}
-use Rattle.packet.proofs.Laws.{first-found}
+use Rattle.packet.specs.Code.{restOf}
+use Rattle.packet.proofs.Laws.{first-past}
 use Rattle.packet.proofs.entry.nth.Statement.{statement}
 use Rattle.packet.proofs.entry.nth.Tie as tie
 
@@ -17,7 +17,8 @@ first-requires c κs = search needs
 returns : tie.Need-returns
 returns c =
     let a = c .before .before .before .before .args in
-    c .first .ensures ∙ rw (c .before .skip .ensures, c .before .before .begin .ensures) (first-found (cutOf (now (a .packet))) (a .number))
+    let t = restOf (now (a .packet)) (c .before .before .begin .result) in
+    c .first .ensures ∙ rw (c .before .skip .ensures, ← c .before .before .begin .ensures) (first-past t (a .number))
 
 pub nth-spec : {M : Type 1} → statement M
 nth-spec = tie.close (tie.spec begin-requires skip-requires first-requires returns)

@@ -3,8 +3,8 @@ use Rattle.wire.proofs.Kit.{_+_, _≤_, sym, ap, _∙_, add-sub-cancel-left, ar
 use Rattle.wire.specs.Limit.{bytes}
 use Rattle.image.specs.declared.reading.Step.{Step}
 use Rattle.image.specs.Whole.{finished}
-use Rattle.packet.specs.Head.{entry}
-use Rattle.packet.proofs.Laws.{entry-read, span-read, span-over, span-out}
+use Rattle.amf0.specs.Span.{spanAt}
+use Rattle.packet.proofs.Laws.{span-answer, span-read, span-over, span-out}
 use Rattle.packet.proofs.entry.parse_span.Statement.{statement}
 use Rattle.packet.proofs.entry.parse_span.Tie as tie
 
@@ -22,14 +22,14 @@ returns-2 : tie.Need-returns-2
 returns-2 c =
     let a = c .before .before .before .before .before .before .before .before .before .before .before .before .before .before .before .args in
     let s = now (a .packet) in
-    let e = entry 0 0 0 0 0 0 (a .place) (a .size) in
+    let p = spanAt (a .place) (a .size) in
     let h = fits (c .before .before .before .before .before .before .before .before .before .before) in
     let v = c .before .before .before .before .before .before .before .parse-value in
     let l : length s ≤ bytes = omega arith in
     let j = rw add-sub-cancel-left at (c .before .before .before .judged .ensures) in
     let w =
-    span-read s e (length (now (a .image))) l h
-    ∙ sym (ap (λ (y : Step). finished y (v .last .0)) j ∙ entry-read s (now (a .image)) (v .last .0) e (v .result) l h (rw add-sub-cancel-left at (v .ensures .0)))
+    span-read s p (length (now (a .image))) l h
+    ∙ sym (ap (λ (y : Step). finished y (v .last .0)) j ∙ span-answer s (now (a .image)) (v .last .0) p (v .result) l h (rw add-sub-cancel-left at (v .ensures .0)))
     in
     (rw w (c .before .before .finish2 .ensures .0), rw (w, sym (v .kept .0)) (c .before .before .finish2 .ensures .1))
 

@@ -3,7 +3,7 @@ use Rattle.wire.proofs.Kit.{_+_, _*_, _-_, _/_, _≤_, _<_, _≡_, refl, sym, a
 use Rattle.packet.specs.declared.entry.Cutting.{Cutting}
 use Rattle.packet.specs.Entry.{cutOf, listOf}
 use Rattle.packet.specs.Code.{goesOn, restOf}
-use Rattle.packet.proofs.Laws.{below-true, rest-short}
+use Rattle.packet.proofs.Laws.{below-true, rest-some, rest-short}
 use Rattle.packet.specs.Row.{entryNumbers}
 use Rattle.packet.proofs.Rows.{Rowed, rowed-none, rowed-more, counted-most, rowing}
 use Rattle.packet.proofs.row.cut.Statement.{statement}
@@ -18,7 +18,7 @@ abbrev μ-loop : tie.MeasureT-loop
 loop-holds : tie.Need-loop-holds Inv-loop μ-loop
 loop-holds c =
     let a = c .before .before .before .args in
-    (refl, omega arith, rw (c .begin .ensures) (rowed-none (now (a .row)) (cutOf (now (a .packet)))))
+    (refl, omega arith, rowed-none (now (a .row)) (restOf (now (a .packet)) (c .begin .result)) (c .begin .ensures))
 
 -- there is an entry, and a place for it
 more : (c : tie.Then1 Inv-loop μ-loop) →
@@ -35,13 +35,13 @@ loop-again c =
     let s = c .before .before .before .before .before .before .before .before .before .before .before .before .before .args .packet .now in
     let l = c .before .before .before .before .before .before .before .before .before .loop in
     let m = more (c .before .before .before .before .before .before .before) in
-    let x = c .before .before .before .before .before .before .step .result in
+    let x = c .before .before .before .before .before .before .step in
     let h : 8 * l .n + 8 ≤ length (l .row) = omega (arith, m .0, l .inv .0) in
     let p = c .before .before .before .put .ensures in
-    let i = rw (c .before .before .before .before .before .before .step .ensures .0 (m .1)) at (l .inv .2) in (
+    let t = restOf s (l .w) in (
       rw p (length-sets (l .row) (8 * l .n) (entryNumbers (c .before .before .before .before .entry-in .result)) ∙ l .inv .0),
       omega (arith, m .0),
-      rw (p, c .walk-in .ensures, c .before .before .before .before .entry-in .ensures) (rowed-more (l .row) (l .n) (x .entry) (restOf s (x .walk)) h i),
+      rw (p, c .walk-in .ensures, c .before .before .before .before .entry-in .ensures, x .ensures .0, x .ensures .1 .0) (rowed-more (l .row) (l .n) t h (λ z. rest-some s (l .w) (m .1)) (l .inv .2)),
     )
 
 mul-clear : tie.Need-mul-clear Inv-loop μ-loop
@@ -59,7 +59,7 @@ returns c =
     let s = now (a .packet) in
     let l = c .before .before .before .before .before .before .before .before .loop in
     let b = sym (c .before .before .before .before .before .before .before .below .ensures) ∙ c .before .before .before .before .before .before .if1 .left in
-    let g = rowing (l .row) (l .n) (length (l .row) / 8) (restOf s (l .w)) (omega (arith, l .inv .0, l .inv .1)) (λ e es z h. let q = rest-short s (l .w) (l .n) (length (now (a .row)) / 8) b h in omega (arith, q, l .inv .0)) (l .inv .2) in
+    let g = rowing (l .row) (l .n) (length (l .row) / 8) (restOf s (l .w)) (omega (arith, l .inv .0, l .inv .1)) (λ h. let q = rest-short s (l .w) (l .n) (length (now (a .row)) / 8) b h in omega (arith, q, l .inv .0)) (l .inv .2) in
     rw (sym (l .inv .0)) (c .before .before .before .before .before .counted .ensures ∙ g .cutting, c .before .before .clear .ensures ∙ rw (c .before .before .before .before .before .counted .ensures) (g .left))
 
 pub cut-spec : {M : Type 1} → statement M
