@@ -1,18 +1,20 @@
 -- The records of a tree are put out as what the tree is written as.
-use Rattle.wire.proofs.Kit.{ℕ, zero, suc, _+_, _≤_, _<_, _≡_, refl, ap, _∙_, List, [], _∷_, _++_, append-assoc, true, false, arith, length, length-append}
+use Rattle.wire.proofs.Kit.{ℕ, zero, suc, _+_, _≤_, _<_, _≡_, refl, ap, _∙_, List, [], _∷_, _++_, append-assoc, true, false, arith, length, length-append, le-leb}
 use Rattle.wire.specs.Number.{digits}
 use Rattle.wire.specs.Bytes.{decimal}
-use Rattle.wire.specs.Field.{to}
+use Rattle.wire.specs.Field.{to, bytesAt}
+use Rattle.wire.specs.Utf8.{ends}
 use Rattle.wire.proofs.Stands.{Here, cut, skip, byte-at}
 use Rattle.image.specs.declared.record.Record.{Record}
+use Rattle.image.specs.declared.record.Field.{Field}
 use Rattle.image.specs.declared.taking.Taken.the-variants.{Found}
-use Rattle.image.specs.Record.{layoutOf, bytesOf, size}
+use Rattle.image.specs.Record.{layoutOf, bytesOf, fieldBytes, size}
 use Rattle.image.specs.Taking.{recordAt, Fits}
-use Rattle.image.specs.Out.{Out, end, stop, put, _>>=_, row}
+use Rattle.image.specs.Out.{Out, end, stop, put, _>>=_, rowOf, row, namedOf}
 use Rattle.image.proofs.Laws.{size-bytes, size-some}
 use Rattle.image.proofs.Found.{found-here}
 use Rattle.amf0.specs.Standard.{Item, Sort, Content, content, sortOf, Tree, depth, follows}
-use Rattle.amf0.specs.Shown.{Word, look, laid, Right}
+use Rattle.amf0.specs.Shown.{Word, look, laid, Stands, Right}
 use Rattle.amf0.specs.Writing.{kinds, among, valueAt, items, pairs, dense, rest, value}
 use Rattle.amf0.specs.Written.{write, writeItem, Lead, leadOf, lead, Spells}
 use Rattle.amf0.specs.Written.Lead.{keyed, keyless}
@@ -31,6 +33,22 @@ pub then : {D : Type 0} {d : Out} {x y : List ℕ} {m n : ℕ} (k : ℕ → Out)
 then k Puts.done q = q
 then {y} k (Puts.more {b} {x} p) q = rw (append-assoc b x y) (Puts.more (then k p q))
 then k (Puts.shut d) q = Puts.shut d
+
+-- ---- rows of a text that stands
+
+module _ (s : List ℕ) where
+  -- the empty one does
+  pub empty : Stands s 0 0
+  unfolding ends
+  empty = record { inside = omega arith; right = refl }
+
+  pub named : {p n : ℕ} (m a b : Field) → Stands s p n → namedOf s (rowOf m a b p n) ≡ true
+  named {p} {n} m a b h = rw (le-leb (p + n) (length s) (h .inside)) (h .right)
+
+  pub row-puts : {D : Type 0} {p n e : ℕ} {x : List ℕ} {d : Out} (at : ℕ) (m a b : Field) → Stands s p n → Puts D d x e
+      → Puts D (row s (rowOf m a b p n) at d) ((fieldBytes m ++ (fieldBytes a ++ (fieldBytes b ++ bytesAt n s p))) ++ x) e
+  unfolding row
+  row-puts {p} {n} at m a b h q = rw (named m a b h, le-leb (p + n) (length s) (h .inside)) (Puts.more q)
 
 -- ---- rows of records
 

@@ -1,42 +1,26 @@
 -- The image of a file is put out as what the file is written as.
 use Rattle.wire.proofs.Kit.{ℕ, zero, suc, _+_, _≤_, _<_, _≡_, refl, sym, ap, _∙_, List, [], _∷_, _++_, append-assoc, append-nil, true, arith, length, take, drop, le-leb}
 use Rattle.wire.specs.Number.{digits, number}
-use Rattle.wire.specs.Utf8.{ends}
 use Rattle.wire.specs.Field.{bytesAt}
 use Rattle.wire.specs.Limit as limit
 use Rattle.wire.proofs.Laws.{pick-yes, pick-no}
 use Rattle.wire.proofs.Stands.{Here, cut, skip, length-bytes}
 use Rattle.image.specs.declared.record.Record.{Record}
 use Rattle.image.specs.declared.record.Record.the-variants as R
-use Rattle.image.specs.declared.record.Field.{Field}
-use Rattle.image.specs.Record.{_bytes_, none, fieldBytes, size}
-use Rattle.image.specs.Out.{Out, end, _>>=_, rowOf, row, bytes as putOut, namedOf, sized}
+use Rattle.image.specs.Record.{_bytes_, none, size}
+use Rattle.image.specs.Out.{Out, end, _>>=_, row, bytes as putOut, sized}
 use Rattle.image.proofs.Laws.{size-some}
 use Rattle.amf0.specs.Standard.{Sort, Tree, depth}
-use Rattle.amf0.specs.Shown.{laid, Stands, Right}
+use Rattle.amf0.specs.Shown.{laid, Right}
 use Rattle.amf0.specs.Written as amf0
 use Rattle.amf0.specs.Written.Lead.{keyed}
-use Rattle.amf0_theorems.proofs.Puts.{Puts, then, first, others, puts, laid-append, laid-length, laid-size, right-left, right-right}
+use Rattle.amf0_theorems.proofs.Puts.{Puts, then, empty, row-puts, first, others, puts, laid-append, laid-length, laid-size, right-left, right-right}
 use Rattle.amf0_theorems.proofs.WriteOutcome.{puts-bytes, puts-settled}
 use Rattle.lso.specs.File.{Body, Lso, version, signature, padding, deepest}
 use Rattle.lso.specs.Writing.{zero-byte, element, body, file, lengthOf, writeOf}
 use Rattle.lso.specs.Written.{short, writeBody, write, Spells, Images, Writable}
 
--- ---- rows
-
 module _ (s : List ℕ) where
-  pub empty : Stands s 0 0
-  unfolding ends
-  empty = record { inside = omega arith; right = refl }
-
-  pub named : {p n : ℕ} (m a b : Field) → Stands s p n → namedOf s (rowOf m a b p n) ≡ true
-  named {p} {n} m a b h = rw (le-leb (p + n) (length s) (h .inside)) (h .right)
-
-  row-puts : {D : Type 0} {p n e : ℕ} {x : List ℕ} {d : Out} (at : ℕ) (m a b : Field) → Stands s p n → Puts D d x e
-      → Puts D (row s (rowOf m a b p n) at d) ((fieldBytes m ++ (fieldBytes a ++ (fieldBytes b ++ bytesAt n s p))) ++ x) e
-  unfolding row
-  row-puts {p} {n} at m a b h q = rw (named m a b h, le-leb (p + n) (length s) (h .inside)) (Puts.more q)
-
   -- ---- elements
 
   module _ (image : List ℕ) where
@@ -52,8 +36,8 @@ module _ (s : List ℕ) where
         let x = puts s image c (right-left s rs qs (g .2)) (laid qs ++ z) q (q + length (laid rs)) limit.levels (length (laid rs))
         (cut (laid rs) (laid qs) j) refl d (omega arith) in
         rw (first s image r (rs ++ qs) z h (g .0), same, sym e)
-        (row-puts at none (2 bytes n) none (g .1 .0)
-        (then (λ m. row s zero-byte at (end m)) x (row-puts at (1 bytes 0) none none empty Puts.done)))
+        (row-puts s at none (2 bytes n) none (g .1 .0)
+        (then (λ m. row s zero-byte at (end m)) x (row-puts s at (1 bytes 0) none none (empty s) Puts.done)))
 
     body-puts : {D : Type 0} {b : Body} {rs : List Record} → Spells s b rs → Right s rs → (fuel at : ℕ) → Here image at (laid rs) []
         → length image ≡ at + length (laid rs) → length (laid rs) ≤ fuel → (limit.levels < deepest b → D) → Puts D (body image s fuel at) (writeBody b) (length image)
@@ -103,9 +87,9 @@ module _ (s : List ℕ) where
           let z : ℕ = length (f .name) in
           rw (first s image lead (m .records) [] h (m .fits))
           (rw (m .names) at
-          (row-puts 0 (2 bytes number version) (4 bytes lengthOf z (length (putOut behind))) none empty
-          (row-puts 0 (4 bytes number (take 4 signature)) (6 bytes number (drop 4 signature)) (2 bytes z) (m .stands)
-          (row-puts 0 (4 bytes number padding) none none empty (behind-puts d)))))
+          (row-puts s 0 (2 bytes number version) (4 bytes lengthOf z (length (putOut behind))) none (empty s)
+          (row-puts s 0 (4 bytes number (take 4 signature)) (6 bytes number (drop 4 signature)) (2 bytes z) (m .stands)
+          (row-puts s 0 (4 bytes number padding) none none (empty s) (behind-puts d)))))
 
       pub write-puts : deepest (f .body) ≤ limit.levels → Puts ⊥ (file lengthOf image s) (write f) (length image)
       write-puts d = rw (puts-bytes (behind-puts λ i. omega arith)) at (file-puts {D = ⊥} λ i. omega arith)

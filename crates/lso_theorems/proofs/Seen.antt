@@ -11,11 +11,11 @@ use Rattle.image.specs.Record.{_bytes_, none}
 use Rattle.image.specs.Out.{Out, stop, put, row, rowBytes, namedOf}
 use Rattle.image.proofs.Kinded.{is}
 use Rattle.amf0.specs.Writing.{asked}
+use Rattle.amf0_theorems.proofs.Puts.{empty, named}
 use Rattle.amf0_theorems.specs.Unwritten.{Fronts}
 use Rattle.amf0_theorems.proofs.Seen.{Took, named-stands, Asking, asking}
 use Rattle.lso.specs.Writing.{opening, naming, keying, header}
 use Rattle.lso_theorems.specs.Unwritten.{NoFile, NoKey}
-use Rattle.lso_theorems.proofs.Puts.{empty, named}
 
 module _ (s image : List ℕ) (bs : Bytes image) (at : ℕ) where
   -- ---- a key's

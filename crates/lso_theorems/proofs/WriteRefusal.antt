@@ -6,11 +6,11 @@ use Rattle.wire.proofs.Laws.{picked}
 use Rattle.image.specs.Record.{_bytes_, none}
 use Rattle.image.specs.Out.{Out, end, _>>=_, row, bytes as putOut}
 use Rattle.amf0.specs.Writing.{topValue}
+use Rattle.amf0_theorems.proofs.Puts.{empty, named}
 use Rattle.amf0_theorems.specs.Unwritten.{Stops}
 use Rattle.amf0_theorems.proofs.WriteRefusal.{bind-stops, Reached, no-record, past-record, past-records, past-tree, value-halt}
 use Rattle.lso.specs.Writing.{zero-byte, element, body, file}
 use Rattle.lso_theorems.specs.Unwritten.{Slot, Elements, Opens, NoFile, NoKey, Refuses, Refused}
-use Rattle.lso_theorems.proofs.Puts.{empty, named}
 use Rattle.lso_theorems.proofs.WriteSound.{element-sound}
 use Rattle.lso_theorems.proofs.Seen.{SeenKey, see-key, SeenFile, see-file}
 

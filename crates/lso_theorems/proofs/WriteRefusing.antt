@@ -11,12 +11,12 @@ use Rattle.image.proofs.Laws.{size-some}
 use Rattle.amf0.specs.Shown.{laid, Right}
 use Rattle.amf0.specs.Writing.{topValue}
 use Rattle.amf0_theorems.specs.Unwritten.{Stops}
-use Rattle.amf0_theorems.proofs.Puts.{first, others, laid-append, laid-length, laid-size, right-right}
+use Rattle.amf0_theorems.proofs.Puts.{first, others, laid-append, laid-length, laid-size, right-right, empty, named}
 use Rattle.amf0_theorems.proofs.Seen.{took-fronts}
 use Rattle.amf0_theorems.proofs.WriteRefusing.{stops-first, stops-then, value-stops}
 use Rattle.lso.specs.Writing.{element, body, file}
 use Rattle.lso_theorems.specs.Unwritten.{Slot, Elements, Opens, NoFile, NoKey, Refuses, Refused}
-use Rattle.lso_theorems.proofs.Puts.{empty, named, element-puts}
+use Rattle.lso_theorems.proofs.Puts.{element-puts}
 use Rattle.lso_theorems.proofs.Seen.{SeenKey, see-key, SeenFile, see-file}
 
 module _ (s image : List ℕ) (bs : Bytes image) where

@@ -1,22 +1,20 @@
 -- The image of a packet is put out as what the packet is written as.
 use Rattle.wire.proofs.Kit.{ℕ, _+_, _<_, _≡_, refl, sym, ap, _∙_, List, [], _∷_, _++_, append-assoc, append-nil, Bool, true, false, arith, length, le-leb}
 use Rattle.wire.specs.Number.{digits}
-use Rattle.wire.specs.Utf8.{ends}
 use Rattle.wire.specs.Field.{bytesAt}
 use Rattle.wire.specs.Limit as limit
 use Rattle.wire.proofs.Laws.{pick-yes}
 use Rattle.wire.proofs.Stands.{Here, cut, skip, length-bytes}
 use Rattle.image.specs.declared.record.Record.{Record}
 use Rattle.image.specs.declared.record.Record.the-variants as R
-use Rattle.image.specs.declared.record.Field.{Field}
-use Rattle.image.specs.Record.{_bytes_, none, fieldBytes, size}
+use Rattle.image.specs.Record.{_bytes_, none, size}
 use Rattle.image.specs.Taking.{Fits}
-use Rattle.image.specs.Out.{Out, end, rowOf, row, bytes as putOut, namedOf, sized}
+use Rattle.image.specs.Out.{Out, end, rowOf, row, bytes as putOut, sized}
 use Rattle.amf0.specs.Standard.{depth}
-use Rattle.amf0.specs.Shown.{laid, Stands, Named, Right}
+use Rattle.amf0.specs.Shown.{laid, Named, Right}
 use Rattle.amf0.specs.Written as amf0
 use Rattle.amf0.specs.Writing.{topValue, whole}
-use Rattle.amf0_theorems.proofs.Puts.{Puts, then, first, others, puts, laid-append, laid-length, laid-size, right-both}
+use Rattle.amf0_theorems.proofs.Puts.{Puts, then, empty, row-puts, first, others, puts, laid-append, laid-length, laid-size, right-both}
 use Rattle.amf0_theorems.proofs.WriteOutcome.{puts-bytes, puts-settled, puts-whole}
 use Rattle.packet.specs.Packet.{Label, Item, Packet, IsHeader, IsMessage}
 use Rattle.packet.specs.Shown.{Names, counts, Shallow, Within}
@@ -53,18 +51,6 @@ pub record Put (D : Type 0) (d : Out) (Fine : Type 0) (x : List ℕ) (n : ℕ) :
   pub same : Fine → out ≡ x
 
 module _ (s : List ℕ) where
-  pub empty : Stands s 0 0
-  unfolding ends
-  empty = record { inside = omega arith; right = refl }
-
-  pub named : {p n : ℕ} (m a : Field) → Stands s p n → namedOf s (rowOf m a none p n) ≡ true
-  named {p} {n} m a h = rw (le-leb (p + n) (length s) (h .inside)) (h .right)
-
-  pub row-puts : {D : Type 0} {p n e : ℕ} {x : List ℕ} {d : Out} (at : ℕ) (m a : Field) → Stands s p n → Puts D d x e
-      → Puts D (row s (rowOf m a none p n) at d) ((fieldBytes m ++ (fieldBytes a ++ bytesAt n s p)) ++ x) e
-  unfolding row
-  row-puts {p} {n} at m a h q = rw (named m a h, le-leb (p + n) (length s) (h .inside)) (Puts.more q)
-
   module _ (image : List ℕ) where
     -- ---- entries
 
@@ -73,17 +59,17 @@ module _ (s : List ℕ) where
     unfolding label
     label-puts qs z at f (Names.header {name} {p} {n} true h e) g =
         let same : length name ≡ n = rw e at (length-bytes n s p (h .inside)) in
-        rw (first s image (R.Header p n true) qs z g f, same, sym e) (row-puts at none (2 bytes n) h (row-puts at (1 bytes 1) none empty Puts.done))
+        rw (first s image (R.Header p n true) qs z g f, same, sym e) (row-puts s at none (2 bytes n) none h (row-puts s at (1 bytes 1) none none (empty s) Puts.done))
     label-puts qs z at f (Names.header {name} {p} {n} false h e) g =
         let same : length name ≡ n = rw e at (length-bytes n s p (h .inside)) in
-        rw (first s image (R.Header p n false) qs z g f, same, sym e) (row-puts at none (2 bytes n) h (row-puts at (1 bytes 0) none empty Puts.done))
+        rw (first s image (R.Header p n false) qs z g f, same, sym e) (row-puts s at none (2 bytes n) none h (row-puts s at (1 bytes 0) none none (empty s) Puts.done))
     label-puts {D} qs z at f (Names.message {target} {response} {p} {n} {q} {m} h i e o) g =
         let same : length target ≡ n = rw e at (length-bytes n s p (h .inside)) in
         let too : length response ≡ m = rw o at (length-bytes m s q (i .inside)) in
         let k : ℕ = at + size (R.Message p n q m) in
-        let y : Puts D (row s (rowOf none (2 bytes m) none q m) at (end k)) ((digits 2 m ++ bytesAt m s q) ++ []) k = row-puts at none (2 bytes m) i Puts.done in
+        let y : Puts D (row s (rowOf none (2 bytes m) none q m) at (end k)) ((digits 2 m ++ bytesAt m s q) ++ []) k = row-puts s at none (2 bytes m) none i Puts.done in
         rw (first s image (R.Message p n q m) qs z g f, same, too, sym e, sym o)
-        (row-puts at none (2 bytes n) h (rw (append-nil (digits 2 m ++ bytesAt m s q)) at y))
+        (row-puts s at none (2 bytes n) none h (rw (append-nil (digits 2 m ++ bytesAt m s q)) at y))
 
     pub items-puts : {D : Type 0} {kind : ℕ} {Kind : Label → Type 0} {is : List Item} {rs : List Record} (exact : Bool) → ((l : Label) → Kind l → kindOf l ≡ kind)
         → Spells s Kind is rs → (z : List ℕ) (at : ℕ) → Here image at (laid rs) z → ((Shallow limit.levels is → ⊥) → D)
@@ -104,7 +90,7 @@ module _ (s : List ℕ) where
         let o = items-puts exact k y z e (skip (laid rs) (laid qs) j) (λ i. d λ w. i (w .1)) in
         let a : Puts D (label kind image s at) (writeLabel l) q = rw (k l t) at (label-puts {D = D} (rs ++ qs) z at f n h) in
         let b : Puts D (row s (rowOf (4 bytes m) none none 0 0) at u) (digits 4 m ++ amf0.write v) e =
-        row-puts at (4 bytes m) none empty (x D λ i. d λ w. omega (arith, w .0)) in
+        row-puts s at (4 bytes m) none none (empty s) (x D λ i. d λ w. omega (arith, w .0)) in
         record {
           out = (writeLabel l ++ (digits 4 m ++ amf0.write v)) ++ o .out;
           puts = rw ends (then (entries kind exact image s (length is)) (then _ a b) (o .puts));
@@ -131,8 +117,8 @@ module _ (s : List ℕ) where
           out = 0 ∷ 0 ∷ digits 2 (length (p .headers)) ++ (a .out ++ (digits 2 (length (p .messages)) ++ b .out));
           puts =
               rw (first s image r (hs ++ ms) z h f, ends)
-              (row-puts 0 (2 bytes 0) (2 bytes length (p .headers)) empty
-              (then _ (a .puts) (row-puts 0 none (2 bytes length (p .messages)) empty (b .puts))));
+              (row-puts s 0 (2 bytes 0) (2 bytes length (p .headers)) none (empty s)
+              (then _ (a .puts) (row-puts s 0 none (2 bytes length (p .messages)) none (empty s) (b .puts))));
           same = λ w. rw (a .same (w .0), b .same (w .1));
         }
 

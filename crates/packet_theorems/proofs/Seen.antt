@@ -11,6 +11,7 @@ use Rattle.image.specs.Record.{_bytes_, none, layoutOf}
 use Rattle.image.specs.Out.{Out, end, stop, put, row, rowBytes, namedOf}
 use Rattle.image.proofs.Kinded.{is}
 use Rattle.amf0.specs.Writing.{texted, asked}
+use Rattle.amf0_theorems.proofs.Puts.{empty, named}
 use Rattle.amf0_theorems.specs.Unwritten.{Stops, Fronts}
 use Rattle.amf0_theorems.proofs.WriteSound.{Ends}
 use Rattle.amf0_theorems.proofs.Seen.{Took, named-stands, Asking, asking}
@@ -18,7 +19,7 @@ use Rattle.packet.specs.Shown.{Names}
 use Rattle.packet.specs.Packet.{Label, IsHeader, IsMessage}
 use Rattle.packet.specs.Writing.{labelled, label}
 use Rattle.packet_theorems.specs.Unwritten.{NoPacket, NoEntry}
-use Rattle.packet_theorems.proofs.Puts.{kindOf, header-kind, message-kind, empty, named}
+use Rattle.packet_theorems.proofs.Puts.{kindOf, header-kind, message-kind}
 
 -- ---- the packet's own
 
@@ -79,11 +80,11 @@ module _ (s image : List ℕ) (bs : Bytes image) (at : ℕ) where
       by {p} {n} {q} {f} t one =
           picked (SeenLabel IsHeader) (namedOf s (texted none 2 p n)) _ (stop 6 at)
           (λ h. SeenLabel.seen {q = q} {l = Label.header (bytesAt n s p) f} t tt (Names.header f (named-stands s none 0 p n h) refl)
-          (rw (named s none none (empty s)) refl))
+          (rw (named s none none none (empty s)) refl))
           (λ h. SeenLabel.unseen (no-header one λ u k b g w.
           let a : u ≡ p = cc in
           let c : k ≡ n = cc in
-          false-true (sym h ∙ named s none (2 bytes n) (rw (a, c) at w))) (refl, refl))
+          false-true (sym h ∙ named s none (2 bytes n) none (rw (a, c) at w))) (refl, refl))
 
       go : {d : Out} → Asking s image bs at kind.header (λ l q. labelled s kind.header at l (end q)) d → SeenLabel IsHeader d
       go (Asking.asks {r} t e one) = let i = is r kind.header e in rw (i .3) (by (rw (i .3) at t) (λ x f. one x f ∙ i .3))
@@ -105,11 +106,11 @@ module _ (s image : List ℕ) (bs : Bytes image) (at : ℕ) where
           (λ o. SeenLabel.unseen (no-message one λ u k v j g w x.
           let a : v ≡ y = cc in
           let c : j ≡ m = cc in
-          false-true (sym o ∙ named s none (2 bytes m) (rw (a, c) at x))) (refl, refl)))
+          false-true (sym o ∙ named s none (2 bytes m) none (rw (a, c) at x))) (refl, refl)))
           (λ h. SeenLabel.unseen (no-message one λ u k v j g w x.
           let a : u ≡ p = cc in
           let c : k ≡ n = cc in
-          false-true (sym h ∙ named s none (2 bytes n) (rw (a, c) at w))) (refl, refl))
+          false-true (sym h ∙ named s none (2 bytes n) none (rw (a, c) at w))) (refl, refl))
 
       go : {d : Out} → Asking s image bs at kind.message (λ l q. labelled s kind.message at l (end q)) d → SeenLabel IsMessage d
       go (Asking.asks {r} t e one) = let i = is r kind.message e in rw (i .4) (by (rw (i .4) at t) (λ x f. one x f ∙ i .4))

@@ -7,6 +7,7 @@ use Rattle.image.specs.declared.record.Field.{Field}
 use Rattle.image.specs.Record.{_bytes_, none}
 use Rattle.image.specs.Out.{Out, _>>=_, rowOf, row, bytes as putOut}
 use Rattle.amf0.specs.Writing.{topValue, whole}
+use Rattle.amf0_theorems.proofs.Puts.{empty, named}
 use Rattle.amf0_theorems.specs.Unwritten.{Stops}
 use Rattle.amf0_theorems.proofs.Seen.{Took}
 use Rattle.amf0_theorems.proofs.WriteReasons.{stops-once}
@@ -14,7 +15,7 @@ use Rattle.amf0_theorems.proofs.WriteRefusal.{bind-stops, ends-not, Reached, no
 use Rattle.packet.specs.Packet.{Label, Packet, IsHeader, IsMessage}
 use Rattle.packet.specs.Writing.{label, declared, entry, entries, packet}
 use Rattle.packet_theorems.specs.Unwritten.{Slot, Entries, Opens, NoEntry, Refuses, Refused}
-use Rattle.packet_theorems.proofs.Puts.{empty, named, names-named, spells-right}
+use Rattle.packet_theorems.proofs.Puts.{names-named, spells-right}
 use Rattle.packet_theorems.proofs.Seen.{SeenPacket, see-packet, SeenLabel, see-header, see-message}
 use Rattle.packet_theorems.proofs.WriteSound.{label-at, StoodItems, entry-sound, items-sound, packet-sound, behind, front}
 
@@ -22,7 +23,7 @@ module _ (s image : List ℕ) (bs : Bytes image) (exact : Bool) where
   -- a row of numbers is not refused
   numbers-go : (m a : Field) (at x p : ℕ) (d : Out) → Stops (row s (rowOf m a none 0 0) at d) x p → Stops d x p
   unfolding row
-  numbers-go m a at x p d e = rw (named s m a (empty s)) at e
+  numbers-go m a at x p d e = rw (named s m a none (empty s)) at e
 
   -- the records from `at` to p begin so many entries, and what stands at p, where something is due, refuses the image with a
   record Halted (Kind : Label → Type 0) (own : Slot) (count at a p : ℕ) : Type 0 where

@@ -12,14 +12,14 @@ use Rattle.image.specs.Out.{Out, end, stop, rowOf, row, bytes as putOut}
 use Rattle.amf0.specs.Shown.{laid, Right}
 use Rattle.amf0.specs.Writing.{value, topValue, whole}
 use Rattle.amf0_theorems.specs.Unwritten.{Stops}
-use Rattle.amf0_theorems.proofs.Puts.{Puts, then, first, others, puts, laid-append, laid-length, laid-size, right-left, right-right}
+use Rattle.amf0_theorems.proofs.Puts.{Puts, then, first, others, puts, laid-append, laid-length, laid-size, right-left, right-right, empty, named, row-puts}
 use Rattle.amf0_theorems.proofs.Seen.{took-fronts}
 use Rattle.amf0_theorems.proofs.WriteRefusing.{stops-first, stops-then, value-stops}
 use Rattle.packet.specs.Shown.{counts}
 use Rattle.packet.specs.Packet.{Label, Packet}
 use Rattle.packet.specs.Writing.{label, declared, entry, entries, packet}
 use Rattle.packet_theorems.specs.Unwritten.{Slot, Entries, Opens, NoPacket, NoEntry, Refuses, Refused}
-use Rattle.packet_theorems.proofs.Puts.{kindOf, header-kind, message-kind, empty, named, names-named, row-puts, label-puts, items-puts, packet-here}
+use Rattle.packet_theorems.proofs.Puts.{kindOf, header-kind, message-kind, names-named, label-puts, items-puts, packet-here}
 use Rattle.packet.proofs.Putting.{heading, contents}
 use Rattle.packet_theorems.proofs.Seen.{SeenPacket, see-packet, SeenLabel, see-header, see-message}
 
@@ -50,7 +50,7 @@ module _ (s image : List ℕ) (bs : Bytes image) (exact : Bool) where
   -- a row of numbers is not refused
   numbers-stop : (m a : Field) (at x p : ℕ) (d : Out) → Stops d x p → Stops (row s (rowOf m a none 0 0) at d) x p
   unfolding row
-  numbers-stop m a at x p d e = rw (named s m a (empty s)) e
+  numbers-stop m a at x p d e = rw (named s m a none (empty s)) e
 
   -- the length of the value at a place
   abbrev long : ℕ → Field
@@ -78,7 +78,7 @@ module _ (s image : List ℕ) (bs : Bytes image) (exact : Bool) where
         let j : Here image q (laid rs ++ laid qs) z = rw (laid-append rs qs) at (others s image c (rs ++ qs) z h) in
         let o : Puts ⊥ (label kind image s at) _ q = rw (of l k) at (label-puts s image {D = ⊥} (rs ++ qs) z at (g .0) w h) in
         let y = puts s image {D = ⊥} t (right-left s rs qs (g .2)) (laid qs ++ z) q e limit.levels (length (laid rs)) (cut (laid rs) (laid qs) j) refl (λ i. omega arith) (omega arith) in
-        stops-then (then (λ q. row s (rowOf (long q) none none 0 0) at (topValue image s q)) o (row-puts s at (long q) none (empty s) y)) (entries kind exact image s n) a p
+        stops-then (then (λ q. row s (rowOf (long q) none none 0 0) at (topValue image s q)) o (row-puts s at (long q) none none (empty s) y)) (entries kind exact image s n) a p
         (entries-stop b (right-right s rs qs (g .2)) r e p (skip (laid rs) (laid qs) j) (omega (arith, laid-size c (rs ++ qs), laid-length rs qs)))
 
   -- ---- from the start of the image
