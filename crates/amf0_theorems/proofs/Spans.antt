@@ -1,5 +1,5 @@
 -- Spans of an input, with no word of what holds them: what a span answers by any sober reader of its bytes, and what a change inside spans leaves as it was.
-use Rattle.wire.proofs.Kit.{ℕ, zero, suc, _+_, _≤_, _<_, _≡_, refl, sym, ap, _∙_, _≢_, _⊎_, inl, inr, List, [], _∷_, _++_, append-assoc, append-nil, map, Bool}
+use Rattle.wire.proofs.Kit.{ℕ, zero, suc, _+_, _≤_, _<_, _≡_, refl, sym, ap, _∙_, _≢_, _⊎_, inl, inr, List, [], _∷_, _++_, append-nil, map, Bool}
 use Rattle.wire.proofs.Kit.{true, false, arith, add-zero, le-refl, length, getD, take, drop, length-append, length-take, length-drop, length-take-le}
 use Rattle.wire.proofs.Kit.{take-append-drop, drop-append-seam, leb, leb-true, leb-false, le-leb, lt-leb, ap₂, take-length, take-append-seam}
 use lib.Seq.{ext-getD, getD-take, getD-drop}
@@ -9,7 +9,7 @@ use Rattle.wire.specs.Number.{Bytes}
 use Rattle.wire.specs.Field.{bytesAt}
 use Rattle.wire.proofs.Laws.{picked, pick-yes}
 use Rattle.wire.proofs.Stands.{Here, bytes-here, length-bytes, stood}
-use Rattle.image.specs.Record.{bytesOf, moved}
+use Rattle.image.specs.Record.{moved}
 use Rattle.image.specs.Due.{Due, end, stop, due, _>>=_, based, Ends, Stops}
 use Rattle.image.specs.Whole.{Whole, bytes, accepted, refused, ended, settled}
 use Rattle.image.proofs.Settle.{bytes-bind}

@@ -4,7 +4,7 @@ use Rattle.wire.specs.Number.{Bytes}
 use Rattle.wire.specs.Limit as limit
 use Rattle.wire.proofs.Laws.{picked}
 use Rattle.image.specs.Kind as kind
-use Rattle.image.specs.Out.{Out, end, row}
+use Rattle.image.specs.Out.{end, row}
 use Rattle.amf0.specs.Writing.{topValue}
 use Rattle.amf0_theorems.proofs.WriteReasons.{Refuses, bind-refuses, asked-refuses, row-refuses, value-refuses, stops-deep, call-reasons}
 use Rattle.amf0_theorems.proofs.WriteOutcome.{puts-bytes}

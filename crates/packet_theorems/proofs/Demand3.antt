@@ -1,5 +1,5 @@
 -- Demand 3, sentence by sentence, over what the public calls come to.
-use Rattle.wire.proofs.Kit.{ℕ, _≤_, _<_, _≡_, refl, sym, _∙_, _≢_, List, [], _∷_, append-nil, arith, length, getD, length-take, length-drop, lt-ltb, le-ltb}
+use Rattle.wire.proofs.Kit.{ℕ, _≤_, _<_, _≡_, refl, sym, _∙_, _≢_, List, [], _∷_, append-nil, arith, length, getD, lt-ltb, le-ltb}
 use Rattle.wire.proofs.Kit.{map}
 use Rattle.wire.specs.Number.{Bytes}
 use Rattle.wire.specs.Field.{bytesAt}

@@ -1,5 +1,5 @@
 -- The image of a packet is put out as what the packet is written as.
-use Rattle.wire.proofs.Kit.{ℕ, _+_, _<_, _≡_, refl, sym, ap, _∙_, List, [], _∷_, _++_, append-assoc, append-nil, Bool, true, false, arith, length, le-leb}
+use Rattle.wire.proofs.Kit.{ℕ, _+_, _<_, _≡_, refl, sym, ap, _∙_, List, [], _∷_, _++_, append-assoc, append-nil, Bool, true, false, arith, length}
 use Rattle.wire.specs.Number.{digits}
 use Rattle.wire.specs.Field.{bytesAt}
 use Rattle.wire.specs.Limit as limit

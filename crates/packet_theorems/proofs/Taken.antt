@@ -1,5 +1,5 @@
 -- What a reading accepts: a reading that ends inside the packet, within the limit and the room.
-use Rattle.wire.proofs.Kit.{ℕ, _≤_, _≡_, refl, List, arith, length, le-leb, subst}
+use Rattle.wire.proofs.Kit.{ℕ, _≤_, _≡_, List, arith, length, subst}
 use Rattle.wire.specs.Limit as limit
 use Rattle.image.specs.Whole.{bytes, ended}
 use Rattle.amf0_theorems.proofs.Call.{Taken, call-roomy, call-takes}

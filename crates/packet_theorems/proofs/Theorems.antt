@@ -1,5 +1,5 @@
 -- The theorems on the packet calls, over what they come to.
-use Rattle.wire.proofs.Kit.{ℕ, _*_, _≤_, _<_, _≡_, refl, sym, ap, _∙_, _≢_, _↔_, List, arith, length, leb, ltb, leb-true, lt-leb}
+use Rattle.wire.proofs.Kit.{ℕ, _*_, _≤_, _<_, _≡_, refl, sym, ap, _∙_, _≢_, _↔_, List, arith, length, ltb, lt-leb}
 use Rattle.wire.specs.Limit as limit
 use Rattle.wire.proofs.Laws.{picked, pick-no}
 use Rattle.image.specs.Whole.{Whole, bytes, refused, all}

@@ -22,7 +22,7 @@ use Rattle.packet_theorems.proofs.Heads.{headers, messages}
 use Rattle.packet_theorems.proofs.Agree.{count-after, Exacts}
 use Rattle.packet_theorems.proofs.Items.{ExactItems, Told, items-told, Exacted, items-found, items-unique, ofItems}
 use Rattle.amf0_theorems.proofs.Spans.{ends-bind}
-use Rattle.image.proofs.Settle.{one-end, bytes-bind}
+use Rattle.image.proofs.Settle.{bytes-bind}
 use Rattle.image.specs.declared.record.Record.the-variants as R
 use Rattle.image.specs.Record.{bytesOf, unplaced}
 use Rattle.image.specs.Taking.{Fits}

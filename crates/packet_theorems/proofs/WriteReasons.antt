@@ -7,7 +7,7 @@ use Rattle.image.specs.declared.record.Layout.{Layout}
 use Rattle.image.specs.Kind as kind
 use Rattle.image.specs.Out.{Out, end}
 use Rattle.amf0.specs.Writing.{whole}
-use Rattle.amf0_theorems.proofs.WriteReasons.{Refuses, six, bind-refuses, asked-refuses, row-refuses, value-refuses, whole-refuses, call-reasons}
+use Rattle.amf0_theorems.proofs.WriteReasons.{Refuses, bind-refuses, asked-refuses, row-refuses, value-refuses, whole-refuses, call-reasons}
 use Rattle.amf0_theorems.proofs.WriteOutcome.{puts-bytes}
 use Rattle.packet.specs.Written.{write, Writable}
 use Rattle.packet.specs.Writing.{labelled, label, entry, entries, packet, writeOf}

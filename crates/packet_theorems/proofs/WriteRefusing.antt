@@ -10,7 +10,7 @@ use Rattle.image.specs.declared.record.Field.{Field}
 use Rattle.image.specs.Record.{_bytes_, none, size}
 use Rattle.image.specs.Out.{Out, end, stop, rowOf, row, bytes as putOut}
 use Rattle.amf0.specs.Shown.{laid, Right}
-use Rattle.amf0.specs.Writing.{value, topValue, whole}
+use Rattle.amf0.specs.Writing.{topValue, whole}
 use Rattle.amf0_theorems.specs.Unwritten.{Stops}
 use Rattle.amf0_theorems.proofs.Puts.{Puts, then, first, others, puts, laid-append, laid-length, laid-size, right-left, right-right, empty, named, row-puts}
 use Rattle.amf0_theorems.proofs.Seen.{took-fronts}
