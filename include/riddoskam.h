@@ -34,6 +34,21 @@ enum {
     RIDDOSKAM_DAMAGED = 9        /* the entry's value is short, malformed or not used to the end */
 };
 
+/* Places. A refused reading tells where it broke: in `*used`, in place of the bytes used, is the place of the first byte of the field that caused the refusal,
+   counted from the first byte of the input. A text's length and its bytes are two fields.
+   - 1: 0.
+   - 2: where the field that isn't whole begins, also where some of its bytes are there: this may be the input's length. For a strict array's count that is too
+     large the count, for a declared length that is too large that length.
+   - 3: the first byte of the field that is wrong, whichever of its bytes is: a marker, a fixed row of bytes, the bytes of a text. For bytes left over the first of
+     them; in a file that is where the first element begins that could not be read, whatever broke inside it.
+   - 4: the marker of the value whose record doesn't fit; for a key's record the first byte of its length, for an end's the end marker, for a header's or a
+     message's the first byte of its first text's length; for the record of the file or of the packet, and for a row of entries too short, 0.
+   - 5: the marker of the value.
+   - 7: the version byte, 1.
+   - 8: 0.
+   - 9: the place inside the packet of what broke in the entry's value, or of the first byte that the value left unused; an empty value's own place.
+   In an entry all places count from the packet's start. Where a place is 0, the answer and the input tell what it means. */
+
 /* Limits: bytes of an input, a text or an output; bytes of an image that is written or indexed; levels. An image of three times the input's length always has
    room, and an index of twice the image's. */
 enum { RIDDOSKAM_BYTES = 1048576, RIDDOSKAM_IMAGE = 3145728, RIDDOSKAM_LEVELS = 32 };
@@ -64,27 +79,30 @@ enum {
 /* ---- Readings
 
    Each reads `input` into `image`. Accepted: `*used` bytes of the input were used and `*made` bytes of the image made; the image past them is zero.
-   Refused: `*used` and `*made` are 0, and the whole image is zero. */
+   Refused: `*used` is the place of the refusal (see "Places"), `*made` is 0, and the whole image is zero. */
 
-/* One value at the front of the input. Answers 0 to 5. */
+/* One value at the front of the input. Answers 0 to 5; refused, `*used` is the place. */
 uint8_t riddoskam_parse_single_element(const uint8_t *input, size_t input_length, uint8_t *image, size_t image_length, size_t *used, size_t *made);
 
-/* A file that is the whole input; a file as far as it can be read. Answers 0 to 5. */
+/* A file that is the whole input; a file as far as it can be read. Answers 0 to 5; refused, `*used` is the place. Where the first gives 3 for bytes left over, its
+   place is the number of bytes that the second uses. */
 uint8_t riddoskam_lso_parse(const uint8_t *input, size_t input_length, uint8_t *image, size_t image_length, size_t *used, size_t *made);
 uint8_t riddoskam_lso_parse_incomplete(const uint8_t *input, size_t input_length, uint8_t *image, size_t image_length, size_t *used, size_t *made);
 
-/* A packet that is the whole input; a packet at the front of the input. Declared lengths are not looked at. Answers 0 to 5 and 7. */
+/* A packet that is the whole input; a packet at the front of the input. Declared lengths are not looked at. Answers 0 to 5 and 7; refused,
+   `*used` is the place. */
 uint8_t riddoskam_packet_parse(const uint8_t *input, size_t input_length, uint8_t *image, size_t image_length, size_t *used, size_t *made);
 uint8_t riddoskam_packet_parse_incomplete(const uint8_t *input, size_t input_length, uint8_t *image, size_t image_length, size_t *used, size_t *made);
 
 /* The value of entry `number`, from 0, headers first, of a packet that its declared lengths cut exactly: read as that part of the packet alone, so no other
-   entry's value has a say. Places count from the packet's start. Answers 0 to 5 and 7 to 9. */
+   entry's value has a say. Places count from the packet's start. Accepted, `*used` is the value's length. Answers 0 to 5 and 7 to 9; refused, `*used` is the
+   place. */
 uint8_t riddoskam_packet_parse_entry(const uint8_t *packet, size_t packet_length, size_t number, uint8_t *image, size_t image_length, size_t *used,
                                      size_t *made);
 
 /* The value that is the part of a packet at `place` with `length` bytes, read and answered for as the value of an entry whose place and length are these:
    for an entry of a cut this is riddoskam_packet_parse_entry by its number, without cutting again. 8 where the part isn't inside the packet. The entries of
-   the packet have no say. Answers 0, 1, 4, 5, 8, 9. */
+   the packet have no say. Answers 0, 1, 4, 5, 8, 9; refused, `*used` is the place, counted from the packet's start. */
 uint8_t riddoskam_packet_parse_span(const uint8_t *packet, size_t packet_length, size_t place, size_t length, uint8_t *image, size_t image_length,
                                     size_t *used, size_t *made);
 
@@ -150,12 +168,14 @@ enum {
     RIDDOSKAM_ENTRY_NUMBERS
 };
 
-/* Entry `number` of a packet that its declared lengths cut exactly; values are not looked into. Refused, all eight numbers are 0. Answers 0 to 3, 7, 8. */
+/* Entry `number` of a packet that its declared lengths cut exactly; values are not looked into. Refused, all eight numbers are 0; no place is told,
+   but where the cut is refused riddoskam_packet_cut tells it. Answers 0 to 3, 7, 8. */
 uint8_t riddoskam_packet_nth(const uint8_t *packet, size_t packet_length, size_t number, size_t entry[8]);
 
 /* All entries of a packet that its declared lengths cut exactly, in one walk: eight numbers each, in a row that has room for numbers_length / 8 of them.
    Accepted: `*used` is the packet's length and `*count` the number of its entries, which stand at the front of the row; every number behind them is 0. 4 where
-   the packet is cut, but into more entries than there is room for. Refused: both counts and all numbers are 0. Answers 0 to 4 and 7. */
+   the packet is cut, but into more entries than there is room for. Refused: `*used` is the place of the refusal (see "Places"), 0 where there is no room;
+   `*count` and all numbers are 0. Answers 0 to 4 and 7. */
 uint8_t riddoskam_packet_cut(const uint8_t *packet, size_t packet_length, size_t *numbers, size_t numbers_length, size_t *used, size_t *count);
 
 /* The record at a place of an image: fields[0] is its kind, the others are its body, field by field, and 0 where it has none. `*next` is the place behind it.

@@ -4,18 +4,22 @@
    side stand 256 bytes that must stay. So a byte that is read or written outside a buffer ends the program, or is seen. After each call:
    - the answer is one of the call's, and the same in both places, with the same counts and the same bytes;
    - what was only lent to be read is as it was;
-   - a reading that is refused leaves zeros and counts of 0; an accepted one has counts inside its buffers, zeros behind what is made, and an image that is
-     records from its first byte to its last;
+   - a reading that is refused leaves zeros, a count of 0 and a place that its answer can have: 0 for 1 and 8, 1 for 7, else one in the input, or behind it for 2,
+     and in the span for an entry; an accepted one has counts inside its buffers, zeros behind what is made, and an image that is records from its first byte to
+     its last;
+   - what stands before a place is whole and right: of the bytes up to it and the one there, the same call says the same, or 2 at the place or at a count or a
+     length before it. A whole reading is refused as the other is, or at the first byte that the other leaves;
    - a writing that is refused leaves the output as it was; an accepted one changes no byte past its count, and what it wrote reads back as an image of the
      same length, in no more bytes than were read where the image was read;
-   - an entry's places lie inside the packet, and its value, read alone, gives what reading the entry gives;
-   - a cut that is refused leaves zeros; an accepted one has the entries that they are by number, and zeros behind them, and the span of each reads as the
+   - an entry's places lie inside the packet, and its value, read alone, gives what reading the entry gives, with its place moved by the span's where it is
+     refused;
+   - a cut that is refused leaves zeros and the place that reading an entry tells, 0 where the row is too short; an accepted one has the entries that they are by number, and zeros behind them, and the span of each reads as the
      entry does by its number, to the last byte of the image; any other span reads as its bytes alone;
    - an index that is refused is zero; an accepted one has a record for each key of the image, in order, and zeros behind them; it is refused where a writing
      of the image is, and for want of room;
    - a lookup that finds nothing leaves 0; in its image's index it finds what looking through the records one by one finds; in any other, a value's record
      behind a record of the key, or the first record.
-   A call that doesn't end is ended by the clock after a minute. The same SEED gives the same cases. SHAM, a number from 1 to 13, plants a fault between the
+   A call that doesn't end is ended by the clock after a minute. The same SEED gives the same cases. SHAM, a number from 1 to 16, plants a fault between the
    library and the checks, so that one sees them fail. */
 #include <signal.h>
 #include <stdio.h>
@@ -165,6 +169,18 @@ struct result {
     size_t used, made;
 };
 
+/* Whether a refused reading of n bytes can have a place. The least that 32 levels take is 96 bytes: objects with empty keys. */
+static int can_be(int call, const uint8_t *s, size_t n, struct asked a, struct result r) {
+    size_t from = call == SPAN ? a.place : 0, to = call == SPAN ? a.place + a.length : n;
+    switch (r.answer) {
+    case 1: case 8: return r.used == 0;
+    case 7: return r.used == 1;
+    case 2: case 9: return from <= r.used && r.used <= to;
+    case 5: return from + 96 <= r.used && r.used < to && !memchr("\x04\x09\x0E", s[r.used], 3);
+    default: return from <= r.used && r.used < to;
+    }
+}
+
 /* A reading of the bytes s, in both places. The image is left in `image` where it is accepted. */
 static struct result reading(int call, const uint8_t *s, size_t n, struct asked a, size_t room, uint8_t *image) {
     static const char *const right[] = {"012345", "012345", "012345", "0123457", "0123457", "012345789", "014589"};
@@ -184,6 +200,8 @@ static struct result reading(int call, const uint8_t *s, size_t n, struct asked 
             for (;;) pause();
         if (sham == 6 && n > 0) in[n - 1] ^= 1;
         if (sham == 10 && call == SPAN && r.answer == 9) r.answer = 8;
+        if (sham == 14 && r.answer == 3) r.used = 0;
+        if (sham == 15 && (call == SPAN || call == ENTRY) && r.answer == 9 && r.used > 0) r.used--;
         left_alone(0, side, n);
         left_alone(2, side, room);
         MUST(memcmp(in, s, n) == 0, "the input changed");
@@ -196,7 +214,8 @@ static struct result reading(int call, const uint8_t *s, size_t n, struct asked 
             MUST(r.made > 0 && r.made <= 3 * n, "three times the input is too little");
             if (side == 0) records(im, r.made);
         } else {
-            MUST(r.used == 0 && r.made == 0, "counts on a refusal");
+            MUST(r.made == 0, "a count on a refusal");
+            MUST(can_be(call, s, n, a, r), "a place that no such refusal has");
             MUST(all(im, room, 0), "a refused reading left something");
         }
         MUST(r.answer != 4 || room < 3 * n, "4 with three times the input");
@@ -616,8 +635,26 @@ static void lookups(const uint8_t *image, size_t made, size_t n) {
     lookup(STEP, t, index, room, below(4) ? at : any(), path + 2, size > 2 ? size - 2 : 0, &place);
 }
 
+static int same(struct result a, struct result b) { return a.answer == b.answer && a.used == b.used && a.made == b.made; }
+
+/* The place of a refusal of `input`, by what the same call says of the bytes up to it and the one there: the same, or 2 there or earlier. Where the record of a
+   value has no room, and where a fault is an entry's, its first byte may be read past. In a file an element that is cut short is dropped, and 4 and 5 with it. */
+static void nearby(int call, struct asked a, struct result r, size_t room) {
+    if (r.answer == 0 || r.answer == 1 || r.answer == 8 || r.used >= length || length > 5000) return;
+    if ((call == FILE_WHOLE || call == FILE_START) && (r.answer == 4 || r.answer == 5)) return;
+    size_t past = r.answer == 4 || r.answer == 9 || (call == ENTRY && r.answer == 5);
+    struct result q = reading(call, input, r.used + 1, a, room, again);
+    MUST(same(q, r) || (q.answer == 2 && q.used <= r.used + past), "what stands before a place is refused otherwise");
+}
+
 static void read_and_write(int read, int write) {
-    struct result r = reading(read, input, length, nothing, some_room(length), tree);
+    size_t room = some_room(length);
+    struct result r = reading(read, input, length, nothing, room, tree);
+    nearby(read, nothing, r, room);
+    if (read == FILE_WHOLE || read == PACKET_WHOLE) {
+        struct result f = reading(read == FILE_WHOLE ? FILE_START : PACKET_FRONT, input, length, nothing, room, again);
+        MUST(same(r, f) || (r.answer == 3 && f.answer == 0 && r.used == f.used), "a whole reading is refused otherwise, or elsewhere");
+    }
     if (r.answer == 0 && length < 5000) {
         round_trip(read, write, r, length);
         lookups(tree, r.made, length);
@@ -630,16 +667,17 @@ static void read_and_write(int read, int write) {
     }
 }
 
-/* What the bytes of a value answer by themselves, with room for all: 2, 3 and unused bytes are damage. The image is left in `again`. */
+/* What the bytes of a value answer by themselves, with room for all: 2, 3 and unused bytes are damage, and places count from the packet's start. The image is left
+   in `again`. */
 static struct result alone(size_t place, size_t n) {
     const char *call = now_call;
     struct result v = reading(VALUE, input + place, n, nothing, 3 * length, again);
     now_call = call;
-    if (v.answer == 2 || v.answer == 3 || (v.answer == 0 && v.used < n)) return (struct result){9, 0, 0};
+    if (v.answer == 0 && v.used < n) return (struct result){9, place + v.used, 0};
+    if (v.answer == 2 || v.answer == 3) v.answer = 9;
+    if (v.answer != 0) v.used += place;
     return v;
 }
-
-static int same(struct result a, struct result b) { return a.answer == b.answer && a.used == b.used && a.made == b.made; }
 
 static void entries(void) {
     size_t e[8];
@@ -656,7 +694,9 @@ static void entries(void) {
         MUST(strchr("012378", '0' + answer), "it has no such answer");
         told(NTH, answer);
         struct asked entry = {.number = k};
-        struct result r = reading(ENTRY, input, length, entry, some_room(length), tree);
+        size_t room = some_room(length);
+        struct result r = reading(ENTRY, input, length, entry, room, tree);
+        nearby(ENTRY, entry, r, room);
         if (answer != 0) {
             MUST(r.answer == answer, "an entry that is not there is read");
             for (int i = 0; i < 8; i++) MUST(e[i] == 0, "a refused entry left something");
@@ -674,7 +714,7 @@ static void entries(void) {
 /* The cut, in both places; then each of its entries by number and by its span. */
 static void cut(void) {
     static size_t row[96];
-    size_t room = below(4) ? 80 + below(16) : below(40), count = 0;
+    size_t room = below(4) ? 80 + below(16) : below(40), count = 0, place = 0;
     uint8_t answer = 0;
     now_call = names[CUT];
     for (int side = 0; side < 2; side++) {
@@ -686,6 +726,7 @@ static void cut(void) {
         uint8_t a = riddoskam_packet_cut(p, length, numbers, room, &used, &n);
         if (sham == 8 && a == 0 && n > 0) numbers[8 * n - 1] ^= 1;
         if (sham == 9) numbers[room] = 0;
+        if (sham == 16 && a == 4) used = length;
         left_alone(0, side, length);
         left_alone(2, side, room * sizeof *row);
         MUST(memcmp(p, input, length) == 0, "the packet changed");
@@ -694,14 +735,15 @@ static void cut(void) {
         if (a == 0)
             MUST(used == length && n <= room / 8, "counts lead out of the buffers");
         else
-            MUST(used == 0 && n == 0, "counts on a refusal");
+            MUST(n == 0 && (a != 4 || used == 0), "a count on a refusal, or a place of a row too short");
         MUST(all((uint8_t *)(numbers + 8 * n), (room - 8 * n) * sizeof *row, 0), "the row isn't zero behind the entries");
         if (side == 0) {
             answer = a;
             count = n;
+            place = used;
             memcpy(row, numbers, room * sizeof *row);
         } else {
-            MUST(a == answer && n == count, "another result in another place");
+            MUST(a == answer && n == count && used == place, "another result in another place");
             MUST(memcmp(numbers, row, room * sizeof *row) == 0, "another row in another place");
         }
     }
@@ -710,6 +752,11 @@ static void cut(void) {
     size_t e[8];
     uint8_t behind = riddoskam_packet_nth(input, length, answer == 4 ? room / 8 : count, e);
     MUST(behind == (answer == 0 ? 8 : answer == 4 ? 0 : answer), "the cut ends elsewhere than the numbers");
+    if (answer != 0 && answer != 4) {
+        struct result r = reading(ENTRY, input, length, (struct asked){.number = 0}, 0, again);
+        now_call = names[CUT];
+        MUST(r.answer == answer && r.used == place, "the cut is refused elsewhere than an entry");
+    }
     for (size_t k = 0; k < count; k++) {
         now_call = names[CUT];
         MUST(riddoskam_packet_nth(input, length, k, e) == 0 && memcmp(e, row + 8 * k, sizeof e) == 0, "an entry is another by its number");

@@ -1,26 +1,34 @@
 """The rules of docs/DEMANDS.md on readings, writings and the key index, written down once more in Python: plain and slow. It shares no code with the
 library, but it has the same author, who read the rules in the same way: it finds slips, and no misreading.
 
-read_value(input, room) gives (answer, used, made, image), the image as it stands after the call; write_value(image, text, out) gives
-(answer, count, output), likewise; make_index(image, text, room) gives (answer, count, index), likewise. find(image, text, index, path) and
-step(image, text, index, container, key) give a place of the image, or None."""
+read_value(input, room) gives (answer, used, made, image), the image as it stands after the call; where it is refused, `used` is the place of the refusal.
+write_value(image, text, out) gives (answer, count, output), likewise; make_index(image, text, room) gives (answer, count, index), likewise. find(image, text,
+index, path) and step(image, text, index, container, key) give a place of the image, or None."""
 
 LIMIT, LEVELS, IMAGE_LIMIT = 1048576, 32, 3145728
 
 
 class Refused(Exception):
-    pass
+    """A refusal: its answer, and its place, where it is one of a reading."""
+
+    def __init__(self, answer, place=0):
+        super().__init__(answer, place)
+        self.answer, self.place = answer, place
 
 
 class Reading:
-    """A place in an input, and an image that records are laid into."""
+    """A place in an input, and an image that records are laid into. Places that are told count from `base` on."""
 
     def __init__(self, data, room, base=0):
         self.data, self.room, self.base, self.at, self.image = data, room, base, 0, b""
 
+    def place(self):
+        return self.at + self.base
+
     def take(self, n):
+        """A field of n bytes. One that isn't whole is refused at the place where it begins."""
         if len(self.data) - self.at < n:
-            raise Refused(2)
+            raise Refused(2, self.place())
         self.at += n
         return self.data[self.at - n : self.at]
 
@@ -29,16 +37,17 @@ class Reading:
 
     def text(self, width):
         n = self.number(width)
-        place = self.at
+        place = self.place()
         try:
             self.take(n).decode("utf-8", "strict")
         except UnicodeDecodeError:
-            raise Refused(3)
-        return place + self.base, n
+            raise Refused(3, place)
+        return place, n
 
-    def due(self, record):
+    def due(self, record, place):
+        """A record is due; where it doesn't fit, `place` is what is named."""
         if self.room < len(self.image) + len(record):
-            raise Refused(4)
+            raise Refused(4, place)
         self.image += record
 
 
@@ -46,57 +55,65 @@ def big(n, width):
     return n.to_bytes(width, "big")
 
 
-def value(r, depth, marker=None):
-    if marker is None:
-        marker = r.number(1)
+def value(r, depth):
+    begun = r.place()
+    marker = r.number(1)
     if marker in (4, 9, 14):
-        raise Refused(3)
+        raise Refused(3, begun)
     if depth > LEVELS:
-        raise Refused(5)
+        raise Refused(5, begun)
     if marker == 0:
-        r.due(b"\0" + r.take(8))
+        r.due(b"\0" + r.take(8), begun)
     elif marker == 1:
-        r.due(b"\1" + (b"\1" if r.number(1) else b"\0"))
+        r.due(b"\1" + (b"\1" if r.number(1) else b"\0"), begun)
     elif marker in (2, 12, 15):
         place, n = r.text(2 if marker == 2 else 4)
-        r.due(bytes([15 if marker == 15 else 2]) + big(place, 3) + big(n, 3))
+        r.due(bytes([15 if marker == 15 else 2]) + big(place, 3) + big(n, 3), begun)
     elif marker in (5, 6):
-        r.due(bytes([marker]))
+        r.due(bytes([marker]), begun)
     elif marker == 7:
-        r.due(b"\7" + r.take(2))
+        r.due(b"\7" + r.take(2), begun)
     elif marker == 11:
         time, zone = r.take(8), r.take(2)
-        r.due(b"\x0b" + time + b"\1" + zone)
+        r.due(b"\x0b" + time + b"\1" + zone, begun)
     elif marker == 3:
-        r.due(b"\3")
+        r.due(b"\3", begun)
         pairs(r, depth)
     elif marker == 8:
-        r.due(b"\x08" + r.take(4))
+        r.due(b"\x08" + r.take(4), begun)
         pairs(r, depth)
     elif marker == 16:
         place, n = r.text(2)
-        r.due(b"\x10" + big(place, 3) + big(n, 2))
+        r.due(b"\x10" + big(place, 3) + big(n, 2), begun)
         pairs(r, depth)
     elif marker == 10:
+        field = r.place()
         count = r.number(4)
         if count > len(r.data) - r.at:
-            raise Refused(2)
-        r.due(b"\x0a" + big(count, 4))
+            raise Refused(2, field)
+        r.due(b"\x0a" + big(count, 4), begun)
         for _ in range(count):
             value(r, depth + 1)
     else:
-        r.due(b"\x0d")
+        r.due(b"\x0d", begun)
 
 
 def pairs(r, depth):
     while True:
+        key = r.place()
         place, n = r.text(2)
-        marker = r.number(1)
-        if marker == 9:
-            r.due(b"\x09")
+        behind = r.place()
+        if r.number(1) == 9:
+            r.due(b"\x09", behind)
             return
-        r.due(b"\x20" + big(place, 3) + big(n, 2))
-        value(r, depth + 1, marker)
+        r.at -= 1
+        r.due(b"\x20" + big(place, 3) + big(n, 2), key)
+        value(r, depth + 1)
+
+
+def refused(why, room):
+    """What a refused reading comes to: answer, place, no image bytes, and zeros."""
+    return why.answer, why.place, 0, bytes(room)
 
 
 def outcome(data, room, read, whole=False):
@@ -107,9 +124,9 @@ def outcome(data, room, read, whole=False):
             raise Refused(1)
         read(r)
         if whole and r.at < len(data):
-            raise Refused(3)
+            raise Refused(3, r.place())
     except Refused as why:
-        return why.args[0], 0, 0, bytes(room)
+        return refused(why, room)
     return 0, r.at, len(r.image), r.image + bytes(room - len(r.image))
 
 
@@ -218,7 +235,7 @@ def written(image, text, out, write):
         if len(done) > len(out):
             raise Refused(4)
     except Refused as why:
-        return why.args[0], 0, out
+        return why.answer, 0, out
     return 0, len(done), done + out[len(done) :]
 
 
@@ -231,8 +248,9 @@ SIGNATURE = b"TCSO\0\x04\0\0\0\0"
 
 
 def fixed(r, want):
+    field = r.place()
     if r.take(len(want)) != want:
-        raise Refused(3)
+        raise Refused(3, field)
 
 
 def file(r):
@@ -242,16 +260,16 @@ def file(r):
     place, n = r.text(2)
     for _ in range(4):
         fixed(r, b"\0")
-    r.due(b"\x33" + length + big(place, 3) + big(n, 2))
+    r.due(b"\x33" + length + big(place, 3) + big(n, 2), 0)
     while True:
-        at, image = r.at, r.image
+        at, image, key = r.at, r.image, r.place()
         try:
             place, n = r.text(2)
-            r.due(b"\x20" + big(place, 3) + big(n, 2))
+            r.due(b"\x20" + big(place, 3) + big(n, 2), key)
             value(r, 1)
             fixed(r, b"\0")
         except Refused as why:
-            if why.args[0] not in (2, 3):
+            if why.answer not in (2, 3):
                 raise
             r.at, r.image = at, image
             return
@@ -286,27 +304,28 @@ def write_file(image, text, out):
 
 
 def head(r, kind):
-    """An entry's fields before its value: its texts, its flag and the length that it declares."""
+    """An entry's fields before its value: its texts, its flag, and the place of the length that it declares and that length."""
     first = r.text(2)
     second, flag = (0, 0), 0
     if kind == 0x31:
         flag = int(r.number(1) != 0)
     else:
         second = r.text(2)
-    return first, second, flag, r.number(4)
+    return first, second, flag, (r.place(), r.number(4))
 
 
 def opening(r):
     fixed(r, b"\0")
+    field = r.place()
     version = r.number(1)
     if version:
-        raise Refused(7 if version == 3 else 3)
+        raise Refused(7 if version == 3 else 3, field)
 
 
 def packet(r):
     opening(r)
     headers = r.number(2)
-    r.due(b"\x30" + big(headers, 2) + b"\0\0")
+    r.due(b"\x30" + big(headers, 2) + b"\0\0", 0)
     entries(r, 0x31, headers)
     messages = r.number(2)
     r.image = r.image[:3] + big(messages, 2) + r.image[5:]
@@ -315,9 +334,10 @@ def packet(r):
 
 def entries(r, kind, count):
     for _ in range(count):
+        begun = r.place()
         first, second, flag, _ = head(r, kind)
         named = big(first[0], 3) + big(first[1], 2)
-        r.due(bytes([kind]) + named + (bytes([flag]) if kind == 0x31 else big(second[0], 3) + big(second[1], 2)))
+        r.due(bytes([kind]) + named + (bytes([flag]) if kind == 0x31 else big(second[0], 3) + big(second[1], 2)), begun)
         value(r, 1)
 
 
@@ -334,13 +354,17 @@ def cut(data):
     found = []
     for kind in (0x31, 0x32):
         for _ in range(r.number(2)):
-            first, second, flag, length = head(r, kind)
-            place = r.at
+            first, second, flag, (field, length) = head(r, kind)
+            if length > len(data) - r.at:
+                raise Refused(2, field)
+            found.append((kind, flag, first, second, (r.at, length)))
             r.take(length)
-            found.append((kind, flag, first, second, (place, length)))
     if r.at < len(data):
-        raise Refused(3)
+        raise Refused(3, r.place())
     return found
+
+
+NO_ENTRY = (0, 0, (0, 0), (0, 0), (0, 0))
 
 
 def cut_list(data, room):
@@ -349,26 +373,47 @@ def cut_list(data, room):
         if len(found) > room:
             raise Refused(4)
     except Refused as why:
-        return why.args[0], 0, 0, [(0, 0, (0, 0), (0, 0), (0, 0))] * room
-    return 0, len(data), len(found), found + [(0, 0, (0, 0), (0, 0), (0, 0))] * (room - len(found))
+        return why.answer, why.place, 0, [NO_ENTRY] * room
+    return 0, len(data), len(found), found + [NO_ENTRY] * (room - len(found))
+
+
+def find_entry(data, number):
+    found = cut(data)
+    if number >= len(found):
+        raise Refused(8)
+    return found[number]
+
+
+def nth(data, number):
+    """Answer, place of the refusal, and the entry."""
+    try:
+        return 0, 0, find_entry(data, number)
+    except Refused as why:
+        return why.answer, why.place, NO_ENTRY
+
+
+def read_span(data, place, length, room):
+    """Reads the value of a part of a packet: what stands there alone, with places that count from the packet's start."""
+    try:
+        if len(data) > LIMIT:
+            raise Refused(1)
+        if place + length > len(data):
+            raise Refused(8)
+        r = Reading(data[place : place + length], room, place)
+        value(r, 1)
+        if r.at < length:
+            raise Refused(3, r.place())
+    except Refused as why:
+        return refused(Refused({2: 9, 3: 9}.get(why.answer, why.answer), why.place), room)
+    return 0, length, len(r.image), r.image + bytes(room - len(r.image))
 
 
 def read_entry(data, number, room):
     try:
-        found = cut(data)
-        if number >= len(found):
-            raise Refused(8)
+        _, _, _, _, (place, length) = find_entry(data, number)
     except Refused as why:
-        return why.args[0], 0, 0, bytes(room)
-    place, length = found[number][4]
-    r = Reading(data[place : place + length], room, place)
-    try:
-        value(r, 1)
-        if r.at < length:
-            raise Refused(3)
-    except Refused as why:
-        return {2: 9, 3: 9}.get(why.args[0], why.args[0]), 0, 0, bytes(room)
-    return 0, length, len(r.image), r.image + bytes(room - len(r.image))
+        return refused(why, room)
+    return read_span(data, place, length, room)
 
 
 BODIES.update({48: 4, 49: 6, 50: 10})
@@ -477,7 +522,7 @@ def make_index(image, text, room):
         if 13 * len(found) > room:
             raise Refused(4)
     except Refused as why:
-        return why.args[0], 0, bytes(room)
+        return why.answer, 0, bytes(room)
     # By container, then by the key's bytes, then by place; Python compares rows of bytes as the request says.
     rows = [big(depth, 1) + big(container, 4) + big(key, 4) + big(place, 4) for container, _, key, place, depth in sorted(found)]
     return 0, len(found), b"".join(rows) + bytes(room - 13 * len(found))

@@ -6,10 +6,11 @@ error; or `panic`. Its trees:
 
     n:BITS b:0 b:1 s:TEXT o{PAIRS} t:TEXT{PAIRS} e:LENGTH[VALUES]{PAIRS} a[VALUES] z u x r:INDEX d:BITS:ZONE d:BITS:- m:TEXT
     a file: {PAIRS}; a packet: [NAME:FLAG:TREE,..][TARGET:RESPONSE:TREE,..]; PAIRS: TEXT=TREE,..; all texts and numbers in hex"""
+import functools
 import subprocess
 import tempfile
 
-from common import Fault, run
+from common import Fault, load, run
 
 
 def replay(frames):
@@ -65,6 +66,16 @@ def reading_line(operation, b, row, answer, used=0, image=b""):
     """A line of a list (see tools/frames) for a reading of a row in a buffer of three times its length."""
     room = 3 * len(row)
     return "%02X %d %d %s - = %d %d %d %s" % (operation, room, b, row.hex() or "-", answer, used, len(image), filled(image, room, 0))
+
+
+@functools.cache
+def lists():
+    return load("lists")
+
+
+def refusal_line(operation, b, row, answer):
+    """A line of a list for a reading that is refused. Where it is refused neither the Rust nor any other program tells: the place is that of tools/model.py."""
+    return reading_line(operation, b, row, answer, int(lists().said(operation, 3 * len(row), b, row, b"").split()[1]))
 
 
 def writing_line(operation, b, image, text, out, spare=3):

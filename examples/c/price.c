@@ -1,4 +1,5 @@
-/* price FILE.sol SHELF: the price of a shelf, in cents, out of an LSO of prices, and then out of a packet of new prices, one message a shelf.
+/* price FILE.sol SHELF: the price of a shelf, in cents, out of an LSO of prices, and then out of a packet of new prices, one message a shelf. Between them the
+   file is read once more without its last bytes, to show what is told of a refusal: the answer, and the place where the reading broke.
 
    The price in the file, where there are many keys, is looked up by an index; the few records of a message are walked. A text is compared where it stands in
    the input, and copied nowhere. Nothing here takes memory. */
@@ -88,22 +89,26 @@ static size_t add_key(uint8_t path[PATH], size_t n, const char *key) {
 }
 
 /* A file is read and its index made once; any number of prices can then be looked up, each by halving the index a few times. */
-static void from_file(size_t length, const char *shelf) {
+static void from_file(const char *name, size_t length, const char *shelf) {
     uint8_t path[PATH];
     size_t used, made, count, value, n;
     double price;
     uint8_t answer = riddoskam_lso_parse(input, length, image, sizeof image, &used, &made);
-    if (answer == RIDDOSKAM_ACCEPTED) answer = riddoskam_index(image, made, input, length, keys, sizeof keys, &count);
-    struct tree t = {image, made, input, length};
     if (answer != RIDDOSKAM_ACCEPTED) {
-        printf("file: answer %u\n", answer);
+        printf("%s: answer %u at byte %zu\n", name, answer, used);
         return;
     }
+    answer = riddoskam_index(image, made, input, length, keys, sizeof keys, &count);
+    if (answer != RIDDOSKAM_ACCEPTED) {
+        printf("%s: no index, answer %u\n", name, answer);
+        return;
+    }
+    struct tree t = {image, made, input, length};
     if ((n = add_key(path, 0, shelf)) && (n = add_key(path, n, "cents")) &&
         riddoskam_find(image, made, input, length, keys, sizeof keys, path, n, &value) && number(t, value, &price))
-        printf("file: shelf %s costs %.0f\n", shelf, price);
+        printf("%s: shelf %s costs %.0f\n", name, shelf, price);
     else
-        printf("file: no price for shelf %s\n", shelf);
+        printf("%s: no price for shelf %s\n", name, shelf);
 }
 
 /* One cut finds all entries, and then each is read by itself: a damaged one costs its own shelf the new price and no other. */
@@ -111,7 +116,7 @@ static void from_packet(const uint8_t *packet, size_t length) {
     static size_t numbers[ENTRIES * RIDDOSKAM_ENTRY_NUMBERS];
     size_t used, made, count, from;
     uint8_t answer = riddoskam_packet_cut(packet, length, numbers, sizeof numbers / sizeof *numbers, &used, &count);
-    if (answer != RIDDOSKAM_ACCEPTED) printf("packet: answer %u\n", answer);
+    if (answer != RIDDOSKAM_ACCEPTED) printf("packet: answer %u at byte %zu\n", answer, used);
     for (size_t k = 0; k < count; k++) {
         const size_t *e = numbers + k * RIDDOSKAM_ENTRY_NUMBERS;
         size_t n = riddoskam_part(packet, length, e[RIDDOSKAM_ENTRY_PLACE1], e[RIDDOSKAM_ENTRY_LENGTH1], &from);
@@ -119,7 +124,7 @@ static void from_packet(const uint8_t *packet, size_t length) {
         answer = riddoskam_packet_parse_span(packet, length, e[RIDDOSKAM_ENTRY_PLACE], e[RIDDOSKAM_ENTRY_LENGTH], image, sizeof image, &used, &made);
         struct tree t = {image, made, packet, length};
         if (answer != RIDDOSKAM_ACCEPTED)
-            printf("packet: shelf %.*s: answer %u\n", (int)n, packet + from, answer);
+            printf("packet: shelf %.*s: answer %u at byte %zu\n", (int)n, packet + from, answer, used);
         else if (cents(t, 0, &price))
             printf("packet: shelf %.*s costs %.0f\n", (int)n, packet + from, price);
         else
@@ -144,7 +149,9 @@ int main(int count, char **words) {
     }
     size_t length = fread(input, 1, sizeof input, file);
     fclose(file);
-    from_file(length, words[2]);
+    from_file("file", length, words[2]);
+    /* What is left is refused by 3, and the place is where the element begins that isn't whole: what stands before it could be read. */
+    from_file("file broken off", length - length / 10, words[2]);
     from_packet(packet, sizeof packet);
     return 0;
 }

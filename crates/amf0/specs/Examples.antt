@@ -3,13 +3,13 @@
 use Rattle.wire.specs.Kit.{ℕ, zero, suc, _≡_, refl, List, [], _∷_, map}
 use Rattle.wire.specs.Utf8.{ends}
 use Rattle.wire.specs.Field.{u8At, u16At, u32At, u64At, strAt, textAt}
-use Rattle.image.specs.Record.{bytesOf}
-use Rattle.image.specs.Whole.{Whole, accepted, refused, bytes, ended, settled}
+use Rattle.image.specs.Record.{bytesOf, size}
+use Rattle.image.specs.Whole.{Whole, accepted, refused, inRoom}
 use Rattle.amf0.specs.Marker.{markerOf}
 use Rattle.amf0.specs.Fields.{fieldsAt}
 use Rattle.amf0.specs.Reading.{items, pair, pairs, follow, value, readOf}
 
--- an input, and what the public call comes to on it in a room of 160 bytes: the bytes used and the image's bytes, or an answer that refuses
+-- an input, and what the public call comes to on it in a room of 160 bytes: the bytes used and the image's bytes, or an answer that refuses and its place
 record Example : Type 0 where
   input : List ℕ
   result : Whole
@@ -29,12 +29,12 @@ arrays (suc n) v = 0x0A ∷ 0x00 ∷ 0x00 ∷ 0x00 ∷ 0x01 ∷ arrays n v
 
 abbrev table : List Example
 table =
-    0x02 ∷ 0x00 ∷ 0x02 ∷ 0x68 ∷ [] gives refused 2
+    0x02 ∷ 0x00 ∷ 0x02 ∷ 0x68 ∷ [] gives refused 2 3
     and arrays 31 (0x05 ∷ []) gives accepted 156 (arrays 31 (0x05 ∷ []))
-    and arrays 32 (0x05 ∷ []) gives refused 5
-    and arrays 32 (0x04 ∷ []) gives refused 3
+    and arrays 32 (0x05 ∷ []) gives refused 5 160
+    and arrays 32 (0x04 ∷ []) gives refused 3 160
     and []
 
 pub examples : map (λ e. readOf (e .input) 160) table ≡ map (λ e. e .result) table
-unfolding settled ended bytes bytesOf value items pair pairs follow fieldsAt markerOf u8At u16At u32At u64At textAt strAt ends
+unfolding inRoom bytesOf size value items pair pairs follow fieldsAt markerOf u8At u16At u32At u64At textAt strAt ends
 examples = refl

@@ -55,4 +55,4 @@ valueIn base s at =
 
 -- what the public call comes to, in a room
 abbrev pub readOf : List ℕ → ℕ → Whole
-readOf s room = pick (leb (length s) limit.bytes) (settled (topValue s 0) room) (refused 1)
+readOf s room = pick (leb (length s) limit.bytes) (settled (topValue s 0) room) (refused 1 0)

@@ -35,12 +35,13 @@ pub record Sober (x : List ℕ) (d : Due) : Type 0 where
   pub within : (n : ℕ) → Ends d n → n ≤ length x
   pub faults : (a p : ℕ) → Stops d a p → Fault a
 
--- 2, 3 and unused bytes are damage; 4 and 5 stand
-abbrev pub judge : ℕ → Whole → Whole
-judge n w =
+-- 2, 3 and unused bytes are damage, at the place of the fault or of the first unused byte; 4 and 5 stand. Places count from the input's start, and the bytes
+-- used of a span from its own.
+abbrev pub judge : Span → Whole → Whole
+judge p w =
     pick (eqb (w .reading .answer) 0)
-    (pick (leb n (w .reading .used)) w (refused 9))
-    (pick (eqb (w .reading .answer) 2) (refused 9) (pick (eqb (w .reading .answer) 3) (refused 9) w))
+    (pick (leb (p .length) (w .reading .used)) w (refused 9 (p .place + w .reading .used)))
+    (pick (eqb (w .reading .answer) 2) (refused 9 (w .reading .used)) (pick (eqb (w .reading .answer) 3) (refused 9 (w .reading .used)) w))
 
 -- a reading of a span's bytes alone, its places counted from the input's start
 abbrev pub inSpan : (List ℕ → Due) → List ℕ → Span → Due
@@ -48,7 +49,7 @@ inSpan read s p = based (p .place) (read (held s p))
 
 -- what the span answers by it, in a room
 abbrev pub answerOf : (List ℕ → Due) → List ℕ → Span → ℕ → Whole
-answerOf read s p room = judge (p .length) (settled (inSpan read s p) room)
+answerOf read s p room = judge p (settled (inSpan read s p) room)
 
 -- a span with one value
 abbrev pub oneValue : List ℕ → Due
@@ -66,13 +67,13 @@ pub record Judged (place : ℕ) (x : List ℕ) (w r : Whole) : Type 0 where
   pub known : (w .reading .answer ≤ 5) × (w .reading .answer ≢ 1)
   -- what uses every byte is accepted, with the same counts, and the same image but for the places, which count from the input's start
   pub accepted : w .reading .answer ≡ 0 → w .reading .used ≡ length x → (r .reading ≡ w .reading) × Shifted place (w .bytes) (r .bytes)
-  -- unused bytes, and what is short or malformed, are damage
-  pub unused : w .reading .answer ≡ 0 → w .reading .used ≢ length x → r ≡ refused 9
-  pub short : w .reading .answer ≡ 2 → r ≡ refused 9
-  pub malformed : w .reading .answer ≡ 3 → r ≡ refused 9
-  -- refusals for room and depth stand
-  pub no-room : w .reading .answer ≡ 4 → r ≡ refused 4
-  pub too-deep : w .reading .answer ≡ 5 → r ≡ refused 5
+  -- unused bytes, and what is short or malformed, are damage, at the reader's place, further on in the input; of unused bytes that is the first
+  pub unused : w .reading .answer ≡ 0 → w .reading .used ≢ length x → r ≡ refused 9 (place + w .reading .used)
+  pub short : w .reading .answer ≡ 2 → r ≡ refused 9 (place + w .reading .used)
+  pub malformed : w .reading .answer ≡ 3 → r ≡ refused 9 (place + w .reading .used)
+  -- refusals for room and depth stand, at the reader's place, further on in the input
+  pub no-room : w .reading .answer ≡ 4 → r ≡ refused 4 (place + w .reading .used)
+  pub too-deep : w .reading .answer ≡ 5 → r ≡ refused 5 (place + w .reading .used)
 
 -- ---- a change inside spans
 

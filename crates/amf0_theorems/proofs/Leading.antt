@@ -5,7 +5,8 @@ use Rattle.wire.proofs.Stands.{Here, cut, skip, byte-at}
 use Rattle.amf0.specs.Reading.{value}
 use Rattle.amf0.specs.Standard.{Sort, Tree, depth, Encodes}
 use Rattle.amf0_theorems.specs.Refusal.{Field, Bars, Refuses, Leads}
-use Rattle.amf0_theorems.proofs.Refused.{refuse, onward, reworded, either}
+use Rattle.amf0_theorems.proofs.Refused.{refuse, onward, reworded}
+use Rattle.image.proofs.Settle.{either}
 use Rattle.amf0_theorems.proofs.Complete.{begun, held}
 use Rattle.amf0_theorems.proofs.Telling.{reads}
 use Rattle.amf0_theorems.proofs.Stopped.{RefusedPart}

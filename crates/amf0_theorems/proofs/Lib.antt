@@ -1,5 +1,6 @@
--- `Theorems` has what is proved of the reading, `Refusals` what is proved of readings that are refused, `WriteTheorems` what is proved of the writing and of the
--- round trip, `Room` the round trip in every room, and `Spans` and `SpanTrip` what is proved of spans, whatever holds them. The files below each are what it is proved by.
+-- `Theorems` has what is proved of the reading, `Refusals` and `Dues` what is proved of readings that are refused, by a field and for room, `WriteTheorems` what is
+-- proved of the writing and of the round trip, `Room` the round trip in every room, and `Spans` and `SpanTrip` what is proved of spans, whatever holds them. The files
+-- below each are what it is proved by.
 pub mod Theorems
 pub mod Marked
 pub mod Complete
@@ -10,6 +11,7 @@ pub mod Refusals
 pub mod Refused
 pub mod Stopped
 pub mod Refusing
+pub mod Dues
 pub mod Leading
 pub mod Bytes
 pub mod WriteTheorems

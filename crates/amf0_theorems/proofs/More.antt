@@ -1,26 +1,21 @@
 -- More room changes nothing, and bytes left over change one answer: the laws for any call that settles a reading in a room.
-use Rattle.wire.proofs.Kit.{ℕ, _+_, _≤_, _≡_, refl, sym, ap, _∙_, subst, _≢_, _↔_, List, Bool, true, false, arith, length, leb, leb-true, le-leb}
+use Rattle.wire.proofs.Kit.{ℕ, _+_, _≤_, _≡_, refl, sym, ap, _∙_, subst, _≢_, _↔_, List, [], Bool, true, false, arith, length}
 use Rattle.wire.specs.Choice.{pick}
 use Rattle.image.specs.Due.{Due, end, stop, due, onEnd}
-use Rattle.image.specs.Whole.{Whole, bytes, ended, refused, settled, all}
-use Rattle.image.proofs.Settle.{all-cases}
+use Rattle.image.specs.Whole.{Whole, bytes, refused, inRoom, all}
+use Rattle.image.proofs.Settle.{either, over-lacks, in-room-fits, in-room-lacks, all-cases, answer-of}
 
 -- where a room does, every larger room gives the same
 abbrev pub More : (ℕ → Whole) → Type 0
 More of = (room more : ℕ) → room ≤ more → of room .reading .answer ≢ 4 → of more ≡ of room
 
--- what needs so much room
-pub fits-more : (n : ℕ) (w : Whole) → More (λ room. pick (leb n room) w (refused 4))
-fits-more n w room more h = go (leb n room) refl
-  where
-    go : (t : Bool) → leb n room ≡ t → pick t w (refused 4) .reading .answer ≢ 4 → pick (leb n more) w (refused 4) ≡ pick t w (refused 4)
-    go true e ne = rw (le-leb n more (omega (arith, leb-true n room e)))
-    go false e ne = absurd (ne refl)
-
--- a reading that is settled in a room
-pub settled-more : (d : Due) → More (settled d)
-unfolding settled
-settled-more d = fits-more (length (bytes d)) (ended d (bytes d))
+-- a reading in a room
+pub in-room-more : (d : Due) (f : ℕ → List ℕ → Whole) (g : ℕ → ℕ → Whole) → More (λ room. inRoom room [] d f g)
+in-room-more d f g room more h ne =
+    either (length (bytes d)) room (λ l. in-room-fits f g more [] d (omega arith) ∙ sym (in-room-fits f g room [] d (omega arith)))
+    (λ l.
+    let x = over-lacks d 0 room (omega arith) (omega arith) in
+    absurd (ne (ap (λ (w : Whole). w .reading .answer) (in-room-lacks f g room [] d (x .1)))))
 
 -- what follows from where a reading ends
 pub end-more : (d : Due) {f : ℕ → ℕ → Whole} (g : ℕ → ℕ → Whole) → ((n : ℕ) → More (f n)) → More (λ room. onEnd d (λ n. f n room) g)
@@ -47,3 +42,9 @@ any-room of larger P n f room ne = subst P (larger room (room + n) (omega arith)
 pub all-iff : (s : List ℕ) (w : Whole) (a : ℕ) {Q : Type 0} → a ≢ 0 → a ≢ 3 → w .reading .answer ≡ a ↔ Q → all s w .reading .answer ≡ a ↔ Q
 all-iff s w a {Q} zero three x =
     all-cases s w (λ v. v .reading .answer ≡ a ↔ Q) (λ n. x) (λ e l. (λ f. absurd (three (sym f)), λ q. absurd (zero (sym (x .1 q) ∙ e)))) (λ e l. x)
+
+-- so has a refusal with it, at a place
+pub all-refusal : (s : List ℕ) (w : Whole) (a p : ℕ) {Q : Type 0} → a ≢ 0 → a ≢ 3 → w ≡ refused a p ↔ Q → all s w ≡ refused a p ↔ Q
+all-refusal s w a p {Q} zero three x =
+    all-cases s w (λ v. v ≡ refused a p ↔ Q) (λ n. x)
+    (λ e l. (λ f. absurd (three (sym (ap answer-of f))), λ q. absurd (zero (sym (ap answer-of (x .1 q)) ∙ e)))) (λ e l. x)

@@ -1,24 +1,19 @@
 -- The laws of a refusal by a field, whatever fields lead to it.
-use Rattle.wire.proofs.Kit.{ℕ, _+_, _^_, _≤_, _<_, _≡_, refl, sym, ap, _∙_, _≢_, List, [], _∷_, _++_, append-assoc, true, arith, leb, length, take, drop}
-use Rattle.wire.proofs.Kit.{length-append, length-drop, take-append-le, drop-append-le, le-leb, lt-leb, leb-true, leb-false, eqb, ne-eqb}
+use Rattle.wire.proofs.Kit.{ℕ, _+_, _^_, _≤_, _<_, _≡_, refl, sym, ap, _∙_, _≢_, List, [], _∷_, _++_, append-assoc, true, arith, length, take, drop}
+use Rattle.wire.proofs.Kit.{length-append, length-drop, take-append-le, drop-append-le, le-leb, lt-leb, eqb, ne-eqb}
 use lib.Seq.{take-nil}
 use Rattle.wire.specs.Number.{digits, number, Bytes}
 use Rattle.wire.specs.Utf8.{utf8, ends}
 use Rattle.wire.specs.Field.{bytesAt, strAt, textAt, gotText}
 use Rattle.wire.specs.declared.cursor.Text.the-variants as Text
-use Rattle.wire.proofs.Laws.{picked, false-true, length-digits, number-digits}
+use Rattle.wire.proofs.Laws.{false-true, length-digits, number-digits}
 use Rattle.wire.proofs.Stands.{Here, after, join, behind, inside, there, number-stood, text-stood, goText}
 use Rattle.image.specs.Due.{Due, end, stop, due, _>>=_, Ends, Stops}
-use Rattle.image.specs.Whole.{Whole, accepted, refused, ended}
 use Rattle.amf0_theorems.specs.Refusal.{Field, Refuses, InText, Refused}
 use Rattle.wire.specs.Choice.{pick}
 use Rattle.amf0.specs.Marker.{markerOf}
 use Rattle.amf0.specs.Fields.{shut}
 use Rattle.amf0.proofs.Rows.{_▸_, each-marker}
-
--- a number is at most another, or not
-pub either : {P : Type 0} (a b : ℕ) → (a ≤ b → P) → (b < a → P) → P
-either {P} a b f g = picked {A = ℕ} (λ n. P) (leb a b) 0 0 (λ h. f (leb-true a b h)) (λ h. g (leb-false a b h))
 
 -- where no level is left, by a marker's number
 pub shut-number : (m : ℕ) → shut (markerOf m) ≡ pick (eqb m 4) 3 (pick (eqb m 9) 3 (pick (eqb m 14) 3 5))
@@ -53,21 +48,6 @@ told-stops R (end n) a p t h = absurd h
 told-stops R (stop b q) a p t h = rw (h .0, h .1) t
 told-stops R (due r q d) a p t h = told-stops R d a p t h
 
--- a reading ends, or is refused
-pub ended-either : (P : Whole → Type 0) (d : Due) (b : List ℕ) → ((n : ℕ) → Ends d n → P (accepted n b)) → ((a p : ℕ) → Stops d a p → P (refused a))
-    → P (ended d b)
-unfolding ended
-ended-either P (end n) b f g = f n refl
-ended-either P (stop a p) b f g = g a p (refl, refl)
-ended-either P (due r p d) b f g = ended-either P d b f g
-
--- one that is refused
-pub ended-stop : (d : Due) (b : List ℕ) (a p : ℕ) → Stops d a p → ended d b ≡ refused a
-unfolding ended
-ended-stop (end n) b a p h = absurd h
-ended-stop (stop w q) b a p h = ap refused (sym (h .0))
-ended-stop (due r q d) b a p h = ended-stop d b a p h
-
 -- one reading and then another is refused where the first is
 pub stops-first : (d : Due) (k : ℕ → Due) (a p : ℕ) → Stops d a p → Stops (d >>= k) a p
 stops-first (end n) k a p h = absurd h
@@ -75,6 +55,10 @@ stops-first (stop b q) k a p h = h
 stops-first (due r q d) k a p h = stops-first d k a p h
 
 -- ---- the field that refuses an input
+
+-- it is inside the input
+pub refused-inside : {L : List ℕ → List ℕ → Field → Type 0} {s : List ℕ} {at a p : ℕ} → Refused L s at a p → at ≤ length s → p ≤ length s
+refused-inside {s = s} {at} r l = omega (arith, r .here, ap length (r .stands), length-drop at s, length-append (r .before) (r .rest))
 
 -- what is left behind a row that stands at a place of an input
 pub left-over : {s x r : List ℕ} {at : ℕ} → Here s at x r → at ≤ length s → length s ≡ at + length x + length r

@@ -1,18 +1,17 @@
 -- Spans of an input, with no word of what holds them: what a span answers by any sober reader of its bytes, and what a change inside spans leaves as it was.
-use Rattle.wire.proofs.Kit.{ℕ, zero, suc, _+_, _≤_, _<_, _≡_, refl, sym, ap, _∙_, _≢_, _⊎_, inl, inr, List, [], _∷_, _++_, append-nil, map, Bool}
-use Rattle.wire.proofs.Kit.{true, false, arith, add-zero, le-refl, length, getD, take, drop, length-append, length-take, length-drop, length-take-le}
+use Rattle.wire.proofs.Kit.{ℕ, zero, suc, _+_, _≤_, _<_, _≡_, refl, sym, ap, _∙_, _≢_, _⊎_, inl, inr, ⊎-elim, List, [], _∷_, _++_, append-nil, map}
+use Rattle.wire.proofs.Kit.{arith, add-zero, le-refl, length, getD, take, drop, length-append, length-take, length-drop, length-take-le}
 use Rattle.wire.proofs.Kit.{take-append-drop, drop-append-seam, leb, leb-true, leb-false, le-leb, lt-leb, ap₂, take-length, take-append-seam}
 use lib.Seq.{ext-getD, getD-take, getD-drop}
-use Rattle.wire.specs.Choice.{pick}
 use Rattle.wire.specs.Limit as limit
 use Rattle.wire.specs.Number.{Bytes}
 use Rattle.wire.specs.Field.{bytesAt}
 use Rattle.wire.proofs.Laws.{picked, pick-yes}
 use Rattle.wire.proofs.Stands.{Here, bytes-here, length-bytes, stood}
-use Rattle.image.specs.Record.{moved}
-use Rattle.image.specs.Due.{Due, end, stop, due, _>>=_, based, Ends, Stops}
-use Rattle.image.specs.Whole.{Whole, bytes, accepted, refused, ended, settled}
-use Rattle.image.proofs.Settle.{bytes-bind}
+use Rattle.image.specs.Record.{moved, size}
+use Rattle.image.specs.Due.{Due, end, stop, due, _>>=_, based, Ends, Stops, Lacks}
+use Rattle.image.specs.Whole.{Whole, bytes, accepted, refused, settled}
+use Rattle.image.proofs.Settle.{on-ends, on-stops, bytes-bind, settled-fits, settled-lacks}
 use Rattle.image.proofs.Laws.{size-bytes, size-placed}
 use Rattle.amf0.specs.Reading.{topValue, readOf}
 use Rattle.amf0.specs.Shown.{laid}
@@ -20,7 +19,7 @@ use Rattle.amf0.specs.Span.{Span, held, Fault, Sober, judge, inSpan, answerOf, 
 use Rattle.amf0_theorems.proofs.Theorems as amf0
 use Rattle.amf0_theorems.proofs.Sound.{bind-ends}
 use Rattle.amf0_theorems.proofs.Telling.{recordsOf, bytes-laid}
-use Rattle.amf0_theorems.proofs.Call.{ended-at, settled-either, value-sober}
+use Rattle.amf0_theorems.proofs.Call.{settled-either, value-sober, value-bounded}
 use Rattle.amf0_theorems.specs.Refusal.{RefusedValue}
 use Rattle.amf0_theorems.specs.Spans.{Value, LeftOver, ComesValue}
 use Rattle.amf0_theorems.proofs.Refusals.{value-refused}
@@ -34,36 +33,41 @@ length-based a (end n) = refl
 length-based a (stop w p) = refl
 length-based a (due r p d) = simp (length-append, size-bytes, size-placed, length-based a d)
 
-ended-based : (a : ℕ) (d : Due) (b : List ℕ) → ended (based a d) b ≡ ended d b
-unfolding ended
-ended-based a (end n) b = refl
-ended-based a (stop w p) b = refl
-ended-based a (due r p d) b = ended-based a d b
-
 bytes-based : (a : ℕ) (d : Due) → bytes (based a d) ≡ laid (map (moved a) (recordsOf d))
 unfolding bytes
 bytes-based a (end n) = refl
 bytes-based a (stop w p) = refl
 bytes-based a (due r p d) = rw (bytes-based a d)
 
-settled-based : (a : ℕ) (d : Due) (room : ℕ)
-    → settled (based a d) room ≡ pick (leb (length (bytes d)) room) (ended d (bytes (based a d))) (refused 4)
-unfolding settled
-settled-based a d room = rw (length-based a d, ended-based a d)
+pub ends-based : (a : ℕ) (d : Due) (n : ℕ) → Ends d n → Ends (based a d) n
+ends-based a (end m) n e = e
+ends-based a (stop w p) n e = absurd e
+ends-based a (due r p d) n e = ends-based a d n e
 
 pub based-ends : (a : ℕ) (d : Due) (n : ℕ) → Ends (based a d) n → Ends d n
 based-ends a (end m) n e = e
 based-ends a (stop w p) n e = absurd e
 based-ends a (due r p d) n e = based-ends a d n e
 
-pub based-stops : (b : ℕ) (d : Due) (a p : ℕ) → Stops (based b d) a p → (q : ℕ) × Stops d a q
+pub based-stops : (b : ℕ) (d : Due) (a p : ℕ) → Stops (based b d) a p → (q : ℕ) × (p ≡ b + q) × Stops d a q
 based-stops b (end n) a p t = absurd t
-based-stops b (stop c q) a p t = (q, (t .0, refl))
+based-stops b (stop c q) a p t = (q, t .1, (t .0, refl))
 based-stops b (due r q d) a p t = based-stops b d a p t
+
+pub based-lacks : (b : ℕ) (d : Due) (made room p : ℕ) → Lacks (based b d) made room p → (q : ℕ) × (p ≡ b + q) × Lacks d made room q
+unfolding size
+based-lacks b (end n) made room p h = absurd h
+based-lacks b (stop c q) made room p h = absurd h
+based-lacks b (due r w d) made room p h =
+    let same = size-placed (λ q. b + q) r in
+    ⊎-elim (λ x. (w, x .1, inl (omega (arith, x .0, same), refl)))
+    (λ x.
+    let g = based-lacks b d (made + size r) room p (rw same at (x .1)) in
+    (g .0, g .1, inr (omega (arith, x .0, same), g .2))) h
 
 pub based-sober : (a : ℕ) {x : List ℕ} {d : Due} → Sober x d → Sober x (based a d)
 based-sober a {d = d} r =
-    record { within = λ n e. r .within n (based-ends a d n e); faults = λ w p t. let q = based-stops a d w p t in r .faults w (q .0) (q .1) }
+    record { within = λ n e. r .within n (based-ends a d n e); faults = λ w p t. let q = based-stops a d w p t in r .faults w (q .0) (q .2) }
 
 -- ---- what a span answers
 
@@ -80,13 +84,13 @@ pub record Takes (read : List ℕ → Due) (s : List ℕ) (p : Span) (room : ℕ
 module _ (read : List ℕ → Due) (s : List ℕ) (p : Span) (inside : p .place + p .length ≤ length s) (sober : Sober (held s p) (read (held s p))) (room : ℕ) where
   -- the ways in which the reading of a span can end
   pub answer-either : (P : Whole → Type 0) → let d = inSpan read s p in
-      (room < length (bytes d) → P (refused 4))
-      → (length (bytes d) ≤ room → (q : ℕ) → Stops d 5 q → P (refused 5))
-      → (length (bytes d) ≤ room → (a q : ℕ) → Stops d a q → (a ≡ 2) ⊎ (a ≡ 3) → P (refused 9))
-      → (length (bytes d) ≤ room → (n : ℕ) → Ends d n → n < p .length → P (refused 9))
+      ((q : ℕ) → Lacks d 0 room q → P (refused 4 q))
+      → (length (bytes d) ≤ room → (q : ℕ) → Stops d 5 q → P (refused 5 q))
+      → (length (bytes d) ≤ room → (a q : ℕ) → Stops d a q → (a ≡ 2) ⊎ (a ≡ 3) → P (refused 9 q))
+      → (length (bytes d) ≤ room → (n : ℕ) → Ends d n → n < p .length → P (refused 9 (p .place + n)))
       → (length (bytes d) ≤ room → Ends d (p .length) → P (accepted (p .length) (bytes d)))
       → P (answerOf read s p room)
-  answer-either P small deep wrong left good = settled-either (λ w. P (judge (p .length) w)) (inSpan read s p) room small
+  answer-either P small deep wrong left good = settled-either (λ w. P (judge p w)) (inSpan read s p) room small
       (λ h n t. picked P (leb (p .length) n) _ _
       (λ i.
       let g : p .length ≡ n = omega (arith, leb-true (p .length) n i, held-length s p inside, based-sober (p .place) sober .within n t) in
@@ -94,7 +98,7 @@ module _ (read : List ℕ → Due) (s : List ℕ) (p : Span) (inside : p .place 
       (λ i. left h n t (leb-false _ _ i)))
       (λ h a q t. refusal (based-sober (p .place) sober .faults a q t) h q t)
     where
-      refusal : {a : ℕ} → Fault a → let d = inSpan read s p in length (bytes d) ≤ room → (q : ℕ) → Stops d a q → P (judge (p .length) (refused a))
+      refusal : {a : ℕ} → Fault a → let d = inSpan read s p in length (bytes d) ≤ room → (q : ℕ) → Stops d a q → P (judge p (refused a q))
       refusal Fault.short h q t = wrong h 2 q t (inl refl)
       refusal Fault.malformed h q t = wrong h 3 q t (inr refl)
       refusal Fault.too-deep h q t = deep h q t
@@ -102,87 +106,104 @@ module _ (read : List ℕ → Due) (s : List ℕ) (p : Span) (inside : p .place 
   -- It is accepted, or refused with 4, 5 or 9,
   pub answer-known : (P : ℕ → Type 0) → P 0 → P 4 → P 5 → P 9 → P (answerOf read s p room .reading .answer)
   answer-known P none four five nine =
-      answer-either (λ w. P (w .reading .answer)) (λ r. four) (λ r q t. five) (λ r a q t k. nine) (λ r n t k. nine) (λ r t. none)
+      answer-either (λ w. P (w .reading .answer)) (λ q r. four) (λ r q t. five) (λ r a q t k. nine) (λ r n t k. nine) (λ r t. none)
 
-  -- and a refusal counts 0 and 0, and has no byte of an image.
-  pub answer-refused : answerOf read s p room .reading .answer ≢ 0 → answerOf read s p room ≡ refused (answerOf read s p room .reading .answer)
-  answer-refused = answer-either (λ w. w .reading .answer ≢ 0 → w ≡ refused (w .reading .answer))
-      (λ r ne. refl) (λ r q t ne. refl) (λ r a q t k ne. refl) (λ r n t k ne. refl) (λ r t ne. absurd (ne refl))
+  -- and a refusal has a place for the bytes used, makes none, and has no byte of an image.
+  pub answer-refused : answerOf read s p room .reading .answer ≢ 0
+      → answerOf read s p room ≡ refused (answerOf read s p room .reading .answer) (answerOf read s p room .reading .used)
+  answer-refused = answer-either (λ w. w .reading .answer ≢ 0 → w ≡ refused (w .reading .answer) (w .reading .used))
+      (λ q r ne. refl) (λ r q t ne. refl) (λ r a q t k ne. refl) (λ r n t k ne. refl) (λ r t ne. absurd (ne refl))
 
   -- What it accepts uses every byte, and the image is that of those bytes alone, and has room.
   pub answer-takes : answerOf read s p room .reading .answer ≡ 0 → Takes read s p room (answerOf read s p room)
   answer-takes = answer-either (λ w. w .reading .answer ≡ 0 → Takes read s p room w)
-      (λ r e. absurd (omega arith)) (λ r q t e. absurd (omega arith)) (λ r a q t k e. absurd (omega arith)) (λ r n t k e. absurd (omega arith))
+      (λ q r e. absurd (omega arith)) (λ r q t e. absurd (omega arith)) (λ r a q t k e. absurd (omega arith)) (λ r n t k e. absurd (omega arith))
       (λ r t e. record { ends = t; fits = r; same = refl })
 
 -- a span whose reading uses every byte, and has room
 pub answer-all : (read : List ℕ → Due) (s : List ℕ) (p : Span) (room : ℕ) → Ends (read (held s p)) (p .length) → length (bytes (inSpan read s p)) ≤ room
     → answerOf read s p room ≡ accepted (p .length) (bytes (inSpan read s p))
 answer-all read s p room e h =
-    let d = read (held s p) in
-    rw (
-      settled-based (p .place) d room,
-      le-leb (length (bytes d)) room (omega (arith, length-based (p .place) d)),
-      ended-at d (bytes (inSpan read s p)) (p .length) e,
-      le-leb (p .length) (p .length) (le-refl (p .length)),
-    )
+    let d = inSpan read s p in
+    rw (settled-fits d room h, on-ends d (p .length) (λ n. accepted n (bytes d)) refused (ends-based (p .place) (read (held s p)) (p .length) e), le-leb (p .length) (p .length) (le-refl (p .length)))
 
--- a result of an answer and two counts, with an image
-abbrev result : ℕ → ℕ → ℕ → List ℕ → Whole
-result k u m b = record { reading = record { answer = k; used = u; made = m }; bytes = b }
-
--- what is judged where the same was found with its places further on
-judge-judged : (a n : ℕ) (x : List ℕ) (k u m : ℕ) (b c : List ℕ) → length x ≡ n → Shifted a b c → u ≤ n → (k ≤ 5) × (k ≢ 1)
-    → (k ≢ 0 → result k u m c ≡ refused k) → Judged a x (result k u m b) (judge n (result k u m c))
-judge-judged a n x k u m b c long shift used known none =
-    record {
-      known = known;
-      accepted = λ e f. rw (e, le-leb n u (omega arith)) (refl, shift);
-      unused = λ e f. rw (e, lt-leb n u (omega arith));
-      short = λ e. rw e;
-      malformed = λ e. rw e;
-      no-room = λ e. rw e (rw e at (none λ z. omega arith));
-      too-deep = λ e. rw e (rw e at (none λ z. omega arith));
-    }
-
--- a reading that ends, or is refused, with one image or another
-ended-both : (P : Whole → Whole → Type 0) (d : Due) (b c : List ℕ) → ((n : ℕ) → Ends d n → P (accepted n b) (accepted n c))
-    → ((w q : ℕ) → Stops d w q → P (refused w) (refused w)) → P (ended d b) (ended d c)
-unfolding ended
-ended-both P (end n) b c f g = f n refl
-ended-both P (stop w q) b c f g = g w q (refl, refl)
-ended-both P (due r q d) b c f g = ended-both P d b c f g
-
--- what a part of an input answers by a sober reading
-pub judged : (a n : ℕ) (x : List ℕ) (d : Due) (room : ℕ) → length x ≡ n → Sober x d → Judged a x (settled d room) (judge n (settled (based a d) room))
-unfolding settled
-judged a n x d room long sober = rw (settled-based a d room) (go (leb (length (bytes d)) room))
+-- a reading in a room, alone and as that of a part
+settled-both : (P : Whole → Whole → Type 0) (a : ℕ) (d : Due) (room : ℕ) → ((q : ℕ) → P (refused 4 q) (refused 4 (a + q)))
+    → ((n : ℕ) → Ends d n → P (accepted n (bytes d)) (accepted n (bytes (based a d))))
+    → ((w q : ℕ) → Stops d w q → P (refused w q) (refused w (a + q))) → P (settled d room) (settled (based a d) room)
+settled-both P a d room f g h =
+    settled-either (λ v. P (settled d room) v) (based a d) room (λ p l. let x = based-lacks a d 0 room p l in tight p (x .0) (x .1) (x .2))
+    (λ l n e.
+    let t = based-ends a d n e in
+    rw (settled-fits d room (omega (arith, length-based a d)), on-ends d n (λ m. accepted m (bytes d)) refused t) (g n t))
+    (λ l w p t. let x = based-stops a d w p t in wrong l w p (x .0) (x .1) (x .2))
   where
-    nothing : Shifted a [] []
-    nothing = record { records = []; before = refl; after = refl }
+    tight : (p q : ℕ) → p ≡ a + q → Lacks d 0 room q → P (settled d room) (refused 4 p)
+    tight p q e l = rw (settled-lacks d room l, e) (f q)
 
-    refusal : {w : ℕ} → Fault w → Judged a x (refused w) (judge n (refused w))
-    refusal {w} f = judge-judged a n x w 0 0 [] [] long nothing (omega arith) (known f) (λ ne. refl)
-      where
-        known : {w : ℕ} → Fault w → (w ≤ 5) × (w ≢ 1)
-        known Fault.short = (omega arith, λ e. omega arith)
-        known Fault.malformed = (omega arith, λ e. omega arith)
-        known Fault.too-deep = (omega arith, λ e. omega arith)
+    wrong : length (bytes (based a d)) ≤ room → (w p q : ℕ) → p ≡ a + q → Stops d w q → P (settled d room) (refused w p)
+    wrong l w p q e t = rw (settled-fits d room (omega (arith, length-based a d)), on-stops d w q (λ m. accepted m (bytes d)) refused t, e) (h w q t)
 
-    go : (t : Bool) → Judged a x (pick t (ended d (bytes d)) (refused 4)) (judge n (pick t (ended d (bytes (based a d))) (refused 4)))
-    go false = judge-judged a n x 4 0 0 [] [] long nothing (omega arith) (omega arith, λ e. omega arith) (λ ne. refl)
-    go true =
-        ended-both (λ w v. Judged a x w (judge n v)) d (bytes d) (bytes (based a d))
-        (λ u e. rw (length-based a d)
-        (judge-judged a n x 0 u (length (bytes d)) (bytes d) (bytes (based a d)) long (record { records = recordsOf d; before = bytes-laid d; after = bytes-based a d })
-        (omega (arith, sober .within u e)) (omega arith, λ e. omega arith) (λ ne. absurd (ne refl))))
-        (λ w q t. refusal (sober .faults w q t))
+module _ (p : Span) (x : List ℕ) where
+  -- a refusal
+  refusal-judged : (k q : ℕ) → (k ≤ 5) × (k ≢ 1) → k ≢ 0 → Judged (p .place) x (refused k q) (judge p (refused k (p .place + q)))
+  refusal-judged k q known some =
+      record {
+        known = known;
+        accepted = λ e f. absurd (some e);
+        unused = λ e f. absurd (some e);
+        short = λ e. rw e;
+        malformed = λ e. rw e;
+        no-room = λ e. rw e;
+        too-deep = λ e. rw e;
+      }
+
+  fault-judged : {w : ℕ} → Fault w → (q : ℕ) → Judged (p .place) x (refused w q) (judge p (refused w (p .place + q)))
+  fault-judged Fault.short q = refusal-judged 2 q (omega arith, λ e. omega arith) (λ e. omega arith)
+  fault-judged Fault.malformed q = refusal-judged 3 q (omega arith, λ e. omega arith) (λ e. omega arith)
+  fault-judged Fault.too-deep q = refusal-judged 5 q (omega arith, λ e. omega arith) (λ e. omega arith)
+
+  -- and what is not refused
+  taken-judged : (u : ℕ) (b c : List ℕ) → length x ≡ p .length → length c ≡ length b → Shifted (p .place) b c → u ≤ p .length
+      → Judged (p .place) x (accepted u b) (judge p (accepted u c))
+  taken-judged u b c long same shift used =
+      record {
+        known = (omega arith, λ e. omega arith);
+        accepted = λ e f. rw (le-leb (p .length) u (omega arith), same) (refl, shift);
+        unused = λ e f. rw (lt-leb (p .length) u (omega arith));
+        short = λ e. absurd (omega arith);
+        malformed = λ e. absurd (omega arith);
+        no-room = λ e. absurd (omega arith);
+        too-deep = λ e. absurd (omega arith);
+      }
+
+  -- what a part of an input answers by a sober reading
+  pub judged : (d : Due) (room : ℕ) → length x ≡ p .length → Sober x d → Judged (p .place) x (settled d room) (judge p (settled (based (p .place) d) room))
+  judged d room long sober =
+      settled-both (λ w v. Judged (p .place) x w (judge p v)) (p .place) d room
+      (λ q. refusal-judged 4 q (omega arith, λ e. omega arith) (λ e. omega arith))
+      (λ u e.
+      taken-judged u (bytes d) (bytes (based (p .place) d)) long (length-based (p .place) d)
+      (record { records = recordsOf d; before = bytes-laid d; after = bytes-based (p .place) d }) (omega (arith, sober .within u e)))
+      (λ w q t. fault-judged (sober .faults w q t) q)
+
+-- the bytes of a span that were used, or the place of its refusal, are inside the input
+pub value-inside : (s : List ℕ) (p : Span) (room : ℕ) → p .place + p .length ≤ length s → answerOf oneValue s p room .reading .used ≤ length s
+value-inside s p room i =
+    let b = value-bounded (held s p) in
+    let l = held-length s p i in
+    let d : Due = oneValue (held s p) in
+    answer-either oneValue s p i (value-sober (held s p)) room (λ w. w .reading .used ≤ length s)
+    (λ q h. let o = based-lacks (p .place) d 0 room q h in omega (arith, o .1, b .due-at room (o .0) (o .2)))
+    (λ r q t. let o = based-stops (p .place) d 5 q t in omega (arith, o .1, b .inside 5 (o .0) (o .2)))
+    (λ r a q t k. let o = based-stops (p .place) d a q t in omega (arith, o .1, b .inside a (o .0) (o .2)))
+    (λ r n t k. omega arith) (λ r t. omega arith)
 
 -- A span answers as the reader does on those bytes alone, places shifted: refusals for room or depth stand, and anything malformed, short or not used to the
 -- end is damaged.
 pub span-judged : (read : List ℕ → Due) (s : List ℕ) (p : Span) (room : ℕ) → p .place + p .length ≤ length s → Sober (held s p) (read (held s p))
     → Judged (p .place) (held s p) (settled (read (held s p)) room) (answerOf read s p room)
-span-judged read s p room h sober = judged (p .place) (p .length) (held s p) (read (held s p)) room (held-length s p h) sober
+span-judged read s p room h sober = judged p (held s p) (read (held s p)) room (held-length s p h) sober
 
 -- so does one with a value
 pub value-judged : (s : List ℕ) (p : Span) (room : ℕ) → length s ≤ limit.bytes → p .place + p .length ≤ length s
@@ -358,8 +379,11 @@ all-value s p bs inside t =
 -- what the reading of the value in a span comes to
 pub comes-value : (s : List ℕ) (p : Span) (room : ℕ) → Bytes s → p .place + p .length ≤ length s → ComesValue s p room (answerOf oneValue s p room)
 comes-value s p room bs inside =
-    answer-either oneValue s p inside (value-sober x) room (ComesValue s p room) ComesValue.no-room (λ h q t. ComesValue.deep h (refusal 5 q t .1))
-    (λ h a q t. ComesValue.damaged h (refusal a q t .1)) unused (λ h t. ComesValue.read h (all-value s p bs inside t))
+    answer-either oneValue s p inside (value-sober x) room (ComesValue s p room)
+    (λ q l. let o = based-lacks (p .place) (oneValue x) 0 room q l in there 4 (o .0) (o .1) (ComesValue.no-room (o .0) (o .2)))
+    (λ h q t. let o = refusal 5 q t in there 5 (o .0) (o .1) (ComesValue.deep h (o .2)))
+    (λ h a q t k. let o = refusal a q t in there 9 (o .0) (o .1) (ComesValue.damaged h (o .2) k)) unused
+    (λ h t. ComesValue.read h (all-value s p bs inside t))
   where
     x : List ℕ
     x = held s p
@@ -367,14 +391,19 @@ comes-value s p room bs inside =
     xs : Bytes x
     xs = bytes-here (stood (p .length) s (p .place)) bs
 
-    refusal : (a q : ℕ) → Stops (inSpan oneValue s p) a q → (o : ℕ) × RefusedValue limit.levels x 0 a o
-    refusal a q t = let o = based-stops (p .place) (oneValue x) a q t in (o .0, value-refused limit.levels x 0 a (o .0) xs (omega arith) .0 (o .1))
+    there : (a o : ℕ) {q : ℕ} → q ≡ p .place + o → ComesValue s p room (refused a (p .place + o)) → ComesValue s p room (refused a q)
+    there a o e c = rw e c
 
-    unused : length (bytes (inSpan oneValue s p)) ≤ room → (n : ℕ) → Ends (inSpan oneValue s p) n → n < p .length → ComesValue s p room (refused 9)
+    refusal : (a q : ℕ) → Stops (inSpan oneValue s p) a q → (o : ℕ) × (q ≡ p .place + o) × RefusedValue limit.levels x 0 a o
+    refusal a q t = let o = based-stops (p .place) (oneValue x) a q t in (o .0, o .1, value-refused limit.levels x 0 a (o .0) xs (omega arith) .0 (o .2))
+
+    unused : length (bytes (inSpan oneValue s p)) ≤ room → (n : ℕ) → Ends (inSpan oneValue s p) n → n < p .length
+        → ComesValue s p room (refused 9 (p .place + n))
     unused h n t k =
         let f = soundness.sound limit.levels x 0 n xs (based-ends (p .place) (oneValue x) n t) in
         let v : Value (f .row) = record { tree = f .tree; encodes = f .encodes; deep = f .deep } in
-        ComesValue.unused h (left-behind Value x (f .row) (f .rest) v (f .here .same) (omega (arith, f .next, held-length s p inside)))
+        let e : n ≡ length (f .row) = omega (arith, f .next) in
+        rw e (ComesValue.unused h (left-behind Value x (f .row) (f .rest) v (f .here .same) (omega (arith, f .next, held-length s p inside))))
 
 -- an acceptance of the value in n bytes of an input that is within the limit
 pub record TakesSpan (s : List ℕ) (place n room : ℕ) (w : Whole) : Type 0 where

@@ -4,14 +4,14 @@ use Rattle.wire.proofs.Kit.{length-append, take-append-drop, length-take-le, ta
 use Rattle.wire.specs.Number.{Bytes}
 use Rattle.wire.specs.Limit as limit
 use Rattle.wire.proofs.Stands.{here-front}
-use Rattle.image.specs.Due.{Due, end, _>>=_, based, shifted, Ends}
-use Rattle.image.specs.Whole.{Whole, bytes, accepted, refused, ended}
+use Rattle.image.specs.Due.{Due, end, _>>=_, based, shifted, Ends, Lacks}
+use Rattle.image.specs.Whole.{Whole, bytes, accepted, refused}
 use Rattle.amf0.specs.Reading.{value, topValue, readOf}
 use Rattle.amf0.specs.Standard.{Sort, Tree, depth, Encodes}
 use Rattle.amf0.specs.Shown.{Shows}
 use Rattle.amf0.specs.Span.{Fault}
-use Rattle.amf0_theorems.proofs.Call.{ended-at, value-sober, value-bounded, call-roomy, call-answers, call-refused, call-over-limit, call-room-exact, call-room, call-takes}
-use Rattle.amf0_theorems.proofs.More.{settled-more, pick-more}
+use Rattle.amf0_theorems.proofs.Call.{value-sober, value-bounded, call-roomy, call-answers, call-refused, call-over-limit, call-room-exact, call-room-place, call-room, call-inside, call-takes}
+use Rattle.amf0_theorems.proofs.More.{in-room-more, pick-more}
 use Rattle.amf0_theorems.proofs.Complete as completeness
 use Rattle.amf0_theorems.proofs.Sound as soundness
 use Rattle.amf0_theorems.proofs.Sound.{Found}
@@ -19,7 +19,7 @@ use Rattle.amf0_theorems.proofs.Telling.{same-tree, Reads, reads}
 use Rattle.amf0_theorems.proofs.Spelling.{shown}
 use Rattle.amf0_theorems.proofs.Shifting as shifting
 use Rattle.amf0_theorems.proofs.Bytes.{encoding}
-use Rattle.image.proofs.Settle.{one-end}
+use Rattle.image.proofs.Settle.{one-end, on-ends, ended}
 
 -- ---- the reading and the standard
 
@@ -64,7 +64,7 @@ pub complete : (t : Tree Sort.value) (x r : List ℕ) (room : ℕ) → Encodes S
 complete t x r room e l h i =
     let y = reads limit.levels (x ++ r) r 0 e (record { same = refl }) l in
     let d : Due = topValue (x ++ r) 0 in
-    rw (call-roomy (x ++ r) d room h (omega (arith, value-bounded (x ++ r) .small)), ended-at d (bytes d) (0 + length x) (y .ends))
+    rw (call-roomy (x ++ r) d room h (omega (arith, value-bounded (x ++ r) .small)), on-ends d (0 + length x) _ _ (y .ends))
     (record { answer = refl; used = omega arith; shows = shown (x ++ r) r 0 e (record { same = refl }) l h })
 
 -- Within the limit, and where the room is three times the input, a call accepts exactly where the input begins with a value of the standard's.
@@ -104,9 +104,13 @@ room-enough s room = call-room s (topValue s 0) room (value-bounded s)
 pub room-exact : (s : List ℕ) (room : ℕ) → length s ≤ limit.bytes → readOf s room .reading .answer ≡ 4 ↔ room < length (bytes (topValue s 0))
 room-exact s room = call-room-exact s (topValue s 0) room (value-bounded s)
 
+-- And its place is then that of the first record that has no room.
+pub room-place : (s : List ℕ) (room p : ℕ) → length s ≤ limit.bytes → readOf s room ≡ refused 4 p ↔ Lacks (topValue s 0) 0 room p
+room-place s room p = call-room-place s (topValue s 0) room (value-bounded s) p
+
 -- Where a room does, every larger room gives the same.
 pub room-more : (s : List ℕ) (room more : ℕ) → room ≤ more → readOf s room .reading .answer ≢ 4 → readOf s more ≡ readOf s room
-room-more s = pick-more (leb (length s) limit.bytes) (refused 1) (settled-more (topValue s 0))
+room-more s = pick-more (leb (length s) limit.bytes) (refused 1 0) (in-room-more (topValue s 0) accepted refused)
 
 -- ---- the answers
 
@@ -123,9 +127,14 @@ answers s room = call-answers s (topValue s 0) room (λ a. a ≤ 5) (omega arith
 pub over-limit : (s : List ℕ) (room : ℕ) → readOf s room .reading .answer ≡ 1 ↔ limit.bytes < length s
 over-limit s room = call-over-limit s (topValue s 0) room (value-bounded s)
 
--- A refusal uses no byte of the input and makes none of the image.
-pub refused-empty : (s : List ℕ) (room : ℕ) → readOf s room .reading .answer ≢ 0 → readOf s room ≡ refused (readOf s room .reading .answer)
+-- A refusal returns a place for the bytes used, and makes no byte of the image.
+pub refused-empty : (s : List ℕ) (room : ℕ) → readOf s room .reading .answer ≢ 0
+    → readOf s room ≡ refused (readOf s room .reading .answer) (readOf s room .reading .used)
 refused-empty s room = call-refused s (topValue s 0) room
+
+-- The bytes used, or the place of a refusal, are inside the input.
+pub place-inside : (s : List ℕ) (room : ℕ) → readOf s room .reading .used ≤ length s
+place-inside s room = call-inside s (topValue s 0) room (value-bounded s)
 
 -- ---- places
 

@@ -7,6 +7,7 @@ use Rattle.wire.proofs.Stands.{Here}
 use Rattle.image.specs.Due.{Due}
 use Rattle.image.specs.Whole.{Whole, accepted}
 use Rattle.image.specs.Whole as read
+use Rattle.image.proofs.Settle.{on-ends}
 use Rattle.image.specs.Out.{Out, end, stop, bytes, ended, settled, Written, written, sized}
 use Rattle.amf0.specs.Standard.{Sort, Tree, depth, Encodes}
 use Rattle.amf0.specs.Reading as reading
@@ -14,7 +15,7 @@ use Rattle.amf0.specs.Reading.{readOf}
 use Rattle.amf0.specs.Writing.{value, whole, writeOf}
 use Rattle.amf0.specs.Written.{write, Images}
 use Rattle.amf0_theorems.proofs.Telling.{reads}
-use Rattle.amf0_theorems.proofs.Call.{ended-at, value-bounded, call-roomy, call-takes}
+use Rattle.amf0_theorems.proofs.Call.{value-bounded, call-roomy, call-takes}
 use Rattle.amf0_theorems.proofs.Puts.{Puts, then, puts}
 use Rattle.amf0_theorems.proofs.Spelling.{images, shown}
 
@@ -87,7 +88,7 @@ pub read-all : {b : List ℕ} {t : Tree Sort.value} (room : ℕ) → Encodes Sor
 read-all {b} room e d l h =
     let g : Due = reading.topValue b 0 in
     let r = reads limit.levels b [] 0 e (record { same = sym (append-nil b) }) d in
-    call-roomy b g room l (omega (arith, value-bounded b .small)) ∙ ended-at g (read.bytes g) (length b) (rw zero-add at (r .ends))
+    call-roomy b g room l (omega (arith, value-bounded b .small)) ∙ on-ends g (length b) _ _ (rw zero-add at (r .ends))
 
 -- ---- bytes in a room
 

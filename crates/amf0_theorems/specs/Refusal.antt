@@ -4,6 +4,7 @@ use Rattle.wire.specs.Kit.{ℕ, suc, _+_, _^_, _<_, _≤_, _≡_, _≢_, List, 
 use Rattle.wire.specs.Number.{digits, number as numberOf}
 use Rattle.wire.specs.Utf8.{utf8}
 use Rattle.wire.specs.Limit as limit
+use Rattle.image.specs.Due.{Lacks}
 use Rattle.image.specs.Whole.{Whole, bytes, accepted, refused}
 use Rattle.amf0.specs.Reading as reading
 use Rattle.amf0.specs.Standard.{Item, Sort, many, Tree, depth, follows, UTF-8, Row, Encodes}
@@ -109,12 +110,13 @@ RefusedValue left s at answer place = Refused (λ r x f. Leads r left value x f)
 abbrev pub records : List ℕ → List ℕ
 records s = bytes (reading.topValue s 0)
 
--- What the public call comes to in a room, and when: a room too small refuses before any other reason but the limit.
+-- What the public call comes to in a room, and when: a room too small refuses before any other reason but the limit. A refusal has the place of the field, or of
+-- the record, that is its reason.
 pub data Comes (s : List ℕ) (room : ℕ) : Whole → Type 0 where
-  over-limit : limit.bytes < length s → Comes s room (refused 1)
-  no-room : length s ≤ limit.bytes → room < length (records s) → Comes s room (refused 4)
+  over-limit : limit.bytes < length s → Comes s room (refused 1 0)
+  no-room : {p : ℕ} → length s ≤ limit.bytes → Lacks (reading.topValue s 0) 0 room p → Comes s room (refused 4 p)
   -- a field refuses the input
-  not-read : {a p : ℕ} → length s ≤ limit.bytes → length (records s) ≤ room → RefusedValue limit.levels s 0 a p → Comes s room (refused a)
+  not-read : {a p : ℕ} → length s ≤ limit.bytes → length (records s) ≤ room → RefusedValue limit.levels s 0 a p → Comes s room (refused a p)
   -- the input begins with a value
   read : {t : Tree value} {x : List ℕ} (r : List ℕ) → length s ≤ limit.bytes → length (records s) ≤ room → Encodes value t x → depth t ≤ limit.levels
       → s ≡ x ++ r → Comes s room (accepted (length x) (records s))

@@ -45,6 +45,7 @@ value-rules =
     record {
       answers = law.answers reads (λ a. a ≤ 5) values.answers;
       reasons = law.reasons reads value-why.Comes values-why.reasons;
+      inside = law.inside reads λ s room bs. values.place-inside s room;
       zeros = law.zeros reads values.refused-empty;
       past = law.past reads;
     }
@@ -62,6 +63,7 @@ file-rules =
     record {
       answers = law.answers reads (λ a. a ≤ 5) files.answers-whole;
       reasons = law.reasons reads file-why.ComesWhole files-why.reasons-whole;
+      inside = law.inside reads files.place-inside-whole;
       zeros = law.zeros reads files.refused-empty-whole;
       past = law.past reads;
     }
@@ -79,6 +81,7 @@ file-incomplete-rules =
     record {
       answers = law.answers reads (λ a. a ≤ 5) files.answers-incomplete;
       reasons = law.reasons reads file-why.Comes files-why.reasons-incomplete;
+      inside = law.inside reads files.place-inside-incomplete;
       zeros = law.zeros reads files.refused-empty-incomplete;
       past = law.past reads;
     }
@@ -96,6 +99,7 @@ packet-rules =
     record {
       answers = law.answers reads calls.Answer calls.parse-answers;
       reasons = law.reasons reads packet-why.ComesWhole packets-why.parse-reasons;
+      inside = law.inside reads λ s room bs. calls.parse-inside s room;
       zeros = law.zeros reads calls.parse-refused;
       past = law.past reads;
     }
@@ -113,6 +117,7 @@ packet-incomplete-rules =
     record {
       answers = law.answers reads calls.Answer calls.incomplete-answers;
       reasons = law.reasons reads packet-why.Comes packets-why.reasons;
+      inside = law.inside reads λ s room bs. calls.incomplete-inside s room;
       zeros = law.zeros reads calls.incomplete-refused;
       past = law.past reads;
     }
@@ -130,6 +135,7 @@ entry-rules k =
     record {
       answers = law.answers (reads k) calls.EntryAnswer λ s. calls.entry-answers s k;
       reasons = law.reasons (reads k) (λ s. packet-why.ComesEntry s k) λ s. packets-why.entry-reasons s k;
+      inside = law.inside (reads k) λ s. packets-why.entry-inside s k;
       zeros = law.zeros (reads k) λ s. calls.entry-refused s k;
       past = law.past (reads k);
     }
@@ -147,6 +153,7 @@ span-rules p n =
     record {
       answers = law.answers (reads p n) (OneOf 0 (1 ∷ 4 ∷ 5 ∷ 8 ∷ 9 ∷ [])) λ s. spans.span-answers s p n;
       reasons = law.reasons (reads p n) (λ s. packet-why.ComesSpan s p n) λ s. packets-why.span-reasons s p n;
+      inside = law.inside (reads p n) λ s room bs. spans.span-inside s p n room;
       zeros = law.zeros (reads p n) λ s. spans.span-refused s p n;
       past = law.past (reads p n);
     }
@@ -221,7 +228,7 @@ cuts-row = record { told = told }
     told _ _ _ _ (CPacketCut.call κs a o) =
         (length (now (a .1 .0)) / 8, λ j. record { answer = o .ensures .0 j; used = o .ensures .1 .0 j; count = o .ensures .1 .1 .0 j })
 
--- A refused `riddoskam_packet_cut` gives 0 and 0, and leaves a row of zeros.
+-- A refused `riddoskam_packet_cut` counts 0, and leaves a row of zeros.
 pub cut-zeros : CutZeros 0 CPacketCut
 cut-zeros _ _ _ _ (CPacketCut.call κs a o) =
     row-uncut (now (a .0)) (now (a .1 .0)) _ (o .last .1 .0)

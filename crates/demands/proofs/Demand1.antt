@@ -27,7 +27,7 @@ use Rattle.index.specs.Index.{indexOf, indexing}
 use Rattle.index_theorems.proofs.Answers as indexes
 use Rattle.index_theorems.proofs.Determined.{Holding, index-zero}
 use Rattle.demands.specs.Inputs.{IsCut, Cuttable, TightCut}
-use Rattle.demands.specs.Forms.{Cutter, listed, OneOf, CutAnswers, CutJust, CutShort, Uncut, CutZeros, CutExactly}
+use Rattle.demands.specs.Forms.{Cutter, listed, OneOf, CutAnswers, CutJust, CutJustAt, CutInside, CutShort, Uncut, CutZeros, CutExactly}
 use Rattle.demands.proofs.Calls.{Nth, Cut, RowCut, MakeIndex}
 use Rattle.demands.proofs.Told.{nth-told, cut-told, row-told, index-told}
 use Rattle.demands.proofs.Tight as tight
@@ -36,25 +36,25 @@ use Rattle.demands.proofs.Tight as tight
 
 -- in a list of any size
 
--- it is refused, but for a short list, just where a field refuses the packet
-refused-just : (s : List ℕ) (room a : ℕ) → Bytes s → a ≢ 0 → a ≢ 4 → listOf s room .cutting .answer ≡ a ↔ (p : ℕ) × RefusedCut s a p
-refused-just s room a bs some other = go (listOf s room) (comes-list s room)
+-- it is refused, but for a short list, at a place just where a field there refuses the packet
+refused-just : (s : List ℕ) (room a p : ℕ) → Bytes s → a ≢ 0 → a ≢ 4 → (listOf s room .cutting .answer ≡ a) × (listOf s room .cutting .used ≡ p) ↔ RefusedCut s a p
+refused-just s room a p bs some other = go (listOf s room) (comes-list s room)
   where
-    stopped : {p : ℕ} → RefusedCut s a p → cutOf s ≡ stops a p
-    stopped {p} t = cut-refused-exactly s a p bs .1 t
+    stopped : RefusedCut s a p → cutOf s ≡ stops a p
+    stopped t = cut-refused-exactly s a p bs .1 t
 
-    go : (w : Listed) → Outcome.ComesList s room w → w .cutting .answer ≡ a ↔ (p : ℕ) × RefusedCut s a p
-    go w (Outcome.ComesList.not-cut {a = b} {p} e) = (
-      λ z. (p, rw z at (cut-refused-exactly s b p bs .0 e)),
-      λ t. let f = stopped (t .1) in cc,
+    go : (w : Listed) → Outcome.ComesList s room w → (w .cutting .answer ≡ a) × (w .cutting .used ≡ p) ↔ RefusedCut s a p
+    go w (Outcome.ComesList.not-cut {a = b} {p = q} e) = (
+      λ z. rw (z .0, z .1) at (cut-refused-exactly s b q bs .0 e),
+      λ t. let f = stopped t in (cc, cc),
     )
     go w (Outcome.ComesList.too-short e h) = (
-      λ z. absurd (other (sym z)),
-      λ t. let f = stopped (t .1) in let z : _≡_ {A = ℕ} 0 1 = cc in absurd (omega arith),
+      λ z. absurd (other (sym (z .0))),
+      λ t. let f = stopped t in let z : _≡_ {A = ℕ} 0 1 = cc in absurd (omega arith),
     )
     go w (Outcome.ComesList.cut e h) = (
-      λ z. absurd (some (sym z)),
-      λ t. let f = stopped (t .1) in let z : _≡_ {A = ℕ} 0 1 = cc in absurd (omega arith),
+      λ z. absurd (some (sym (z .0))),
+      λ t. let f = stopped t in let z : _≡_ {A = ℕ} 0 1 = cc in absurd (omega arith),
     )
 
 -- and it accepts, but for a short list, just what the declared lengths cut exactly
@@ -82,8 +82,12 @@ module _ {A : Type 0} {Call : Cutter A} (k : Cuts-by Call) where
   cutter-answers s list c left a = let (room, e) = k .told s list c left a in rw e (cuts.cut-answers s room)
 
   -- what it refuses,
-  pub cutter-refused : (a : ℕ) → a ≢ 0 → a ≢ 4 → CutJust a (λ s. (p : ℕ) × RefusedCut s a p) Call
-  cutter-refused a some other s list c left bs b = let (room, e) = k .told s list c left b in rw e (refused-just s room a bs some other)
+  pub cutter-refused : (a : ℕ) → a ≢ 0 → a ≢ 4 → CutJustAt a (λ s. RefusedCut s a) Call
+  cutter-refused a some other s list c left p bs b = let (room, e) = k .told s list c left b in rw e (refused-just s room a p bs some other)
+
+  -- where,
+  pub cutter-inside : CutInside Call
+  cutter-inside s list c left bs b = let (room, e) = k .told s list c left b in rw e (why.cut-inside s room bs)
 
   -- what it refuses with 7,
   pub cutter-seven : CutJust 7 (λ s. (length s ≤ limit.bytes) × Seven s) Call
@@ -93,7 +97,7 @@ module _ {A : Type 0} {Call : Cutter A} (k : Cuts-by Call) where
   pub cutter-short : CutShort Cuttable Call
   cutter-short s q list c left i l h a =
       let (room, e) = k .told s list c left a in
-      rw e (ap (λ (w : Listed). w .cutting .answer) (beginnings.cut-beginning s q (i .0) (i .3) l h room))
+      rw e (ap (λ (w : Listed). w .cutting .answer) (beginnings.cut-beginning s q (i .0) (i .3) l h room .1))
 
   -- and what it accepts
   pub cutter-exactly : CutExactly IsCut Call
@@ -144,6 +148,10 @@ nth-refused s k a p f bs ne b = rw (nth-told b) (go (cutOf s) refl)
 pub nth-seven : (s : List ℕ) (k : ℕ) (f : Found) → Bytes s → Nth s k f → ((p : ℕ) × (f ≡ Found.Stop 7 p)) ↔ (length s ≤ limit.bytes) × Seven s
 nth-seven s k f bs a = rw (nth-told a) (why.nth-seven s k bs)
 
+-- at a place inside the packet,
+pub nth-inside : (s : List ℕ) (k a p : ℕ) → Bytes s → Nth s k (Found.Stop a p) → p ≤ length s
+nth-inside s k a p bs c = why.nth-inside s k a p bs (sym (nth-told c))
+
 -- and with 2 for a proper beginning.
 pub nth-short : (s q : List ℕ) (k : ℕ) (f : Found) → Cuttable (s ++ q) → 1 ≤ length q → length s ≤ limit.bytes → Nth s k f → (p : ℕ) × (f ≡ Found.Stop 2 p)
 nth-short s q k f i l h a = rw (nth-told a) (beginnings.nth-beginning s q (i .0) (i .3) l h k)
@@ -172,16 +180,16 @@ cut-reasons s list c left bs a = rw (listed-is s list c left a) (why.cut-reasons
 
 -- where a cut comes to a refusal
 refused : {A : Type 0} (zero : A) (list left : List A) (c : Cutting) (s : List ℕ) (room : ℕ) → c ≡ listOf s room .cutting
-    → (listOf s room ≡ uncut (listOf s room .cutting .answer) → left ≡ replicate (length list) zero) → c .answer ≢ 0 → Uncut zero list c left
+    → (listOf s room ≡ uncut (listOf s room .cutting .answer) (listOf s room .cutting .used) → left ≡ replicate (length list) zero) → c .answer ≢ 0
+    → Uncut zero list c left
 refused zero list left c s room t h ne =
     let e = cuts.cut-refused s room λ z. ne (ap (λ (q : Cutting). q .answer) t ∙ z) in
     record {
-      used = ap (λ (q : Cutting). q .used) t ∙ ap (λ (x : Listed). x .cutting .used) e;
       count = ap (λ (q : Cutting). q .count) t ∙ ap (λ (x : Listed). x .cutting .count) e;
       zeros = h e;
     }
 
--- A refused cut returns 0 and 0, and leaves a list of zero entries,
+-- A refused cut counts 0, and leaves a list of zero entries,
 pub cut-zeros : CutZeros noEntry Cut
 cut-zeros s list c left a =
     refused noEntry list left c s (length list) (cut-told a .0) λ e. cut-told a .1 ∙ rw e (ap (λ n. replicate n noEntry) (sub-zero (length list)))

@@ -165,7 +165,7 @@ module _ (s t : List ℕ) (list left : List Entry) (c : Cutting) (call : Cut s l
       nth-told a ∙ rw (packets.same-cut s t es n cut change, cut, le-ltb k (length es) l) refl
 
   -- and so it is for the value.
-  pub past : (k : ℕ) (j : List ℕ) (q : Reading) (y : List ℕ) → c .count ≤ k → ParseEntry t k j q y → (q ≡ refused 8 .reading) × (y ≡ replicate (length j) 0)
+  pub past : (k : ℕ) (j : List ℕ) (q : Reading) (y : List ℕ) → c .count ≤ k → ParseEntry t k j q y → (q ≡ refused 8 0 .reading) × (y ≡ replicate (length j) 0)
   past k j q y h a =
       let e = packets.past s t es n cut change k (length j) (omega (arith, length-take (c .count) left)) in
       let b = entry-reads k .told t j q y a in

@@ -2,13 +2,16 @@
 -- its arguments, its result and what it left: `ParseSingleElement s i r x` is a call of `parse_single_element` on the input s and the image i, which returned r
 -- and left x in the image (`Calls.antt`). What is said of every reader, or of every writer, has a form with a name (`specs/Forms.antt`). `Bytes s`
 -- says that s is a row of bytes, as what stands in a slice of bytes is.
-use Rattle.wire.proofs.Kit.{ℕ, _*_, _/_, _≤_, _<_, _≡_, _≢_, _↔_, List, [], _∷_, _++_, Bool, true, arith, length, getD, take, replicate}
+use Rattle.wire.proofs.Kit.{ℕ, _*_, _/_, _≤_, _<_, _≡_, ap, _∙_, _≢_, _↔_, inl, List, [], _∷_, _++_, Bool, true, arith, length, getD, take, replicate}
 use Rattle.wire.specs.Number.{Bytes}
 use Rattle.wire.specs.Field.{bytesAt}
 use Rattle.wire.specs.Limit as limit
 use Rattle.image.specs.declared.reading.Reading.{Reading}
 use Rattle.image.specs.declared.writing.Writing.{Writing}
+use Rattle.image.specs.declared.record.Record.{Record}
+use Rattle.image.specs.Due.{Lacks}
 use Rattle.image.specs.Whole.{Whole, bytes, refused}
+use Rattle.amf0.specs.Reading.{topValue}
 use Rattle.amf0.specs.Standard.{Sort, Tree, depth, Encodes}
 use Rattle.amf0_theorems.specs.Refusal as value-why
 use Rattle.amf0_theorems.specs.Unwritten as value-unwritten
@@ -50,15 +53,23 @@ use Rattle.packet_theorems.proofs.Room as packets-room
 use Rattle.packet_theorems.proofs.EntryTrip as trips
 use Rattle.packet_theorems.proofs.WriteOutcome.{read-whole, read-incomplete}
 use Rattle.index.specs.declared.make.Indexing.{Indexing}
-use Rattle.demands.specs.Inputs.{IsValue, HasValue, IsFile, IsHeader, IsPacket, IsCut, Cuttable, WrongFile, TightFile, TightCut, HoldsValue, HoldsFile, HoldsPacket}
+use Rattle.demands.specs.Inputs.{IsValue, HasValue, IsFile, IsHeader, IsPacket, IsCut, Cuttable, WrongFile, TightFile, FullFile, TightCut, HoldsValue, HoldsFile, HoldsPacket}
 use Rattle.demands.specs.Examples.{table}
-use Rattle.demands.specs.Forms.{made, sent, listed, OneOf, Answers, WriteAnswers, CutAnswers, Reasons, WriteReasons, OverLimit, Just, JustInRoom, Roomy, Short, ShortInRoom, CutJust, CutShort, WriteJust, Zeros, Past, CutZeros, Untouching, Keeping, ReaderRules, WriterRules, Sound, Exactly, Writes, Wider, Returns, CutExactly, Same}
+use Rattle.demands.specs.Forms.{made, sent, listed, OneOf, Answers, WriteAnswers, CutAnswers, Reasons, WriteReasons, OverLimit, Just, JustAt, JustAtInRoom, Inside, Roomy, Short, ShortInRoom, CutJust, CutJustAt, CutInside, CutShort, WriteJust, Zeros, Past, CutZeros, Untouching, Keeping, ReaderRules, WriterRules, Sound, Exactly, Writes, AsBefore, Wider, Returns, CutExactly, Same}
 use Rattle.demands.proofs.Calls.{Part, ParseSingleElement, LsoParse, LsoParseIncomplete, PacketParse, PacketParseIncomplete, ParseEntry, ParseSpan, WriteValue, LsoWrite, PacketWrite, Nth, Cut, RowCut, MakeIndex}
 use Rattle.demands.proofs.Determined.{EveryCall, every-call}
 use Rattle.demands.proofs.Told.{value-reads, file-reads, file-incomplete-reads, packet-reads, packet-incomplete-reads, entry-reads, span-reads, value-puts, file-puts, packet-puts}
 use Rattle.demands.proofs.Laws as law
 use Rattle.demands.proofs.Agree.{Changes, Alone, Agrees}
 use Rattle.demands.proofs.CCalls.{CParseSingleElement, CLsoParse, CLsoParseIncomplete, CPacketParse, CPacketParseIncomplete, CParseEntry, CParseSpan, CWriteValue, CLsoWrite, CPacketWrite, CPacketCut, CPacketNth, CIndex}
+use Rattle.demands.specs.Before as then
+use Rattle.demands.proofs.Before as before
+use Rattle.amf0_theorems.specs.Due as value-place
+use Rattle.lso_theorems.specs.Due as file-place
+use Rattle.packet_theorems.specs.Due as packet-place
+use Rattle.amf0_theorems.proofs.Dues as values-place
+use Rattle.lso_theorems.proofs.Dues as files-place
+use Rattle.packet_theorems.proofs.Dues as packets-place
 use Rattle.demands.proofs.Demand1 as one
 use Rattle.demands.proofs.Short as short
 use Rattle.demands.proofs.Tight as tight
@@ -115,7 +126,7 @@ pub record Demand1 : Type 0 where
   pub packet-over : OverLimit PacketParse
   pub packet-incomplete-over : OverLimit PacketParseIncomplete
   pub entry-over : (k : ℕ) → OverLimit λ s. ParseEntry s k
-  -- 4 is given just where the room is too small for the records that fall due, or a list for the entries.
+  -- 4 is given just where the room is too small for the records that fall due, or a list for the entries;
   pub value-tight : Just 4 (λ s room. room < length (value-why.records s)) ParseSingleElement
   pub file-tight : Just 4 TightFile LsoParse
   pub file-incomplete-tight : Just 4 TightFile LsoParseIncomplete
@@ -123,6 +134,16 @@ pub record Demand1 : Type 0 where
   pub packet-incomplete-tight : Just 4 (λ s room. room < length (bytes (packetAt s))) PacketParseIncomplete
   pub cut-tight : (s : List ℕ) (list : List Entry) (c : Cutting) (left : List Entry) → Bytes s → Cut s list c left → c .answer ≡ 4 ↔ TightCut s (length list)
   pub row-tight : (s row : List ℕ) (c : Cutting) (left : List ℕ) → Bytes s → RowCut s row c left → c .answer ≡ 4 ↔ TightCut s (length row / 8)
+  -- and, for records, at the place of the first that has no room.
+  pub value-full : JustAt 4 (λ s room. Lacks (topValue s 0) 0 room) ParseSingleElement
+  pub file-full : JustAt 4 FullFile LsoParse
+  pub file-incomplete-full : JustAt 4 FullFile LsoParseIncomplete
+  pub packet-full : JustAt 4 (λ s room. Lacks (packetAt s) 0 room) PacketParse
+  pub packet-incomplete-full : JustAt 4 (λ s room. Lacks (packetAt s) 0 room) PacketParseIncomplete
+  -- There stands what that record says: a value's marker, a key's length or an end marker, in a file also its front, in a packet its front or an entry's first text.
+  pub value-due : (s : List ℕ) (room p : ℕ) → Bytes s → Lacks (topValue s 0) 0 room p → (r : Record) × value-place.DueAt s r p
+  pub file-due : (s : List ℕ) (room p : ℕ) → Bytes s → FullFile s room p → (r : Record) × file-place.DueAt s r p
+  pub packet-due : (s : List ℕ) (room p : ℕ) → Bytes s → Lacks (packetAt s) 0 room p → (r : Record) × packet-place.DueAt s r p
   -- A room of three times the input is never too small, nor is one of three times the part or the value that is read.
   pub value-roomy : Roomy ParseSingleElement
   pub file-roomy : Roomy LsoParse
@@ -132,21 +153,22 @@ pub record Demand1 : Type 0 where
   pub span-roomy : (p n : ℕ) (s i : List ℕ) (r : Reading) (x : List ℕ) → ParseSpan s p n i r x → 3 * n ≤ length i → r .answer ≢ 4
   pub entry-roomy : (k : ℕ) (e : Entry) (s i : List ℕ) (r : Reading) (x : List ℕ) → Nth s k (Found.Is e) → ParseEntry s k i r x → 3 * e .length ≤ length i
       → r .answer ≢ 4
-  -- A value that is not refused for room is refused with an answer just where a field refuses it so, and with 5 just where the marker of a value stands where no
-  -- level is left. A proper beginning of a value is 2, and a value deeper than the limit is 5.
-  pub value-refused : (a : ℕ) → a ≢ 0 → JustInRoom a (λ s. (p : ℕ) × value-why.RefusedValue limit.levels s 0 a p) ParseSingleElement
-  pub value-deep : JustInRoom 5 (values-why.Deep limit.levels) ParseSingleElement
+  -- A value that is not refused for room is refused with an answer at a place just where a field there refuses it so, and with 5 just where the marker of a value
+  -- stands there and no level is left. A proper beginning of a value is 2, and a value deeper than the limit is 5.
+  pub value-refused : (a : ℕ) → a ≢ 0 → JustAtInRoom a (λ s. value-why.RefusedValue limit.levels s 0 a) ParseSingleElement
+  pub value-deep : JustAtInRoom 5 (values-why.Deep limit.levels) ParseSingleElement
   pub value-short : ShortInRoom IsValue ParseSingleElement
   pub value-too-deep : (t : Tree Sort.value) (x q i : List ℕ) (r : Reading) (left : List ℕ) → Encodes Sort.value t x → limit.levels < depth t
       → length (x ++ q) ≤ limit.bytes → ParseSingleElement (x ++ q) i r left → r .answer ≢ 4 → r .answer ≡ 5
-  -- A file is 2 or 3 just where a field of its header is refused so, and, read whole, 3 also where no further element can be read before its end. It is 5 just
-  -- where the element that stops the reading is too deep. A proper beginning of a header is 2; one of a file, behind its header, is read as far as it is whole.
-  pub file-two : Just 2 (λ s room. (p : ℕ) × file-why.RefusedHeader s 2 p) LsoParse
-  pub file-incomplete-two : Just 2 (λ s room. (p : ℕ) × file-why.RefusedHeader s 2 p) LsoParseIncomplete
-  pub file-three : Just 3 WrongFile LsoParse
-  pub file-incomplete-three : Just 3 (λ s room. (p : ℕ) × file-why.RefusedHeader s 3 p) LsoParseIncomplete
-  pub file-five : Just 5 file-why.TooDeep LsoParse
-  pub file-incomplete-five : Just 5 file-why.TooDeep LsoParseIncomplete
+  -- A file is 2 or 3 at a place just where a field of its header there is refused so, and, read whole, 3 also where no further element can be read from there on,
+  -- before its end. It is 5 just where the element that stops the reading is too deep, at the marker. A proper beginning of a header is 2; one of a file, behind
+  -- its header, is read as far as it is whole.
+  pub file-two : JustAt 2 (λ s room. file-why.RefusedHeader s 2) LsoParse
+  pub file-incomplete-two : JustAt 2 (λ s room. file-why.RefusedHeader s 2) LsoParseIncomplete
+  pub file-three : JustAt 3 WrongFile LsoParse
+  pub file-incomplete-three : JustAt 3 (λ s room. file-why.RefusedHeader s 3) LsoParseIncomplete
+  pub file-five : JustAt 5 file-why.TooDeep LsoParse
+  pub file-incomplete-five : JustAt 5 file-why.TooDeep LsoParseIncomplete
   pub file-short : Short IsHeader LsoParse
   pub file-incomplete-short : Short IsHeader LsoParseIncomplete
   pub file-begun : (f : Lso) (s q i : List ℕ) (p : ℕ) (r : Reading) (x : List ℕ) → File f (s ++ q) → 1 ≤ length q → deepest (f .body) ≤ limit.levels
@@ -159,11 +181,11 @@ pub record Demand1 : Type 0 where
   pub packet-short : ShortInRoom IsPacket PacketParse
   pub packet-incomplete-short : ShortInRoom IsPacket PacketParseIncomplete
   pub entry-short : (k : ℕ) → Short Cuttable λ s. ParseEntry s k
-  -- and so it is where it is cut. But for a list that is too short, or a number that is too high, a cut is refused with an answer just where a field refuses so;
-  -- and so is an entry, but for the answers that come once the packet is cut.
-  pub cut-refused : (a : ℕ) → a ≢ 0 → a ≢ 4 → CutJust a (λ s. (p : ℕ) × RefusedCut s a p) Cut
-  pub row-refused : (a : ℕ) → a ≢ 0 → a ≢ 4 → CutJust a (λ s. (p : ℕ) × RefusedCut s a p) RowCut
-  pub entry-refused : (k a : ℕ) → (AfterCut a → ⊥) → Just a (λ s room. (p : ℕ) × RefusedCut s a p) λ s. ParseEntry s k
+  -- and so it is where it is cut. But for a list that is too short, or a number that is too high, a cut is refused with an answer at a place just where a field
+  -- there refuses so; and so is an entry, but for the answers that come once the packet is cut.
+  pub cut-refused : (a : ℕ) → a ≢ 0 → a ≢ 4 → CutJustAt a (λ s. RefusedCut s a) Cut
+  pub row-refused : (a : ℕ) → a ≢ 0 → a ≢ 4 → CutJustAt a (λ s. RefusedCut s a) RowCut
+  pub entry-refused : (k a : ℕ) → (AfterCut a → ⊥) → JustAt a (λ s room. RefusedCut s a) λ s. ParseEntry s k
   pub nth-refused : (s : List ℕ) (k a p : ℕ) (f : Found) → Bytes s → a ≢ 8 → Nth s k f → f ≡ Found.Stop a p ↔ RefusedCut s a p
   pub cut-seven : CutJust 7 (λ s. (length s ≤ limit.bytes) × Seven s) Cut
   pub row-seven : CutJust 7 (λ s. (length s ≤ limit.bytes) × Seven s) RowCut
@@ -175,7 +197,18 @@ pub record Demand1 : Type 0 where
   pub value-write-refused : WriteJust value-unwritten.Refused WriteValue
   pub file-write-refused : WriteJust file-unwritten.Refused LsoWrite
   pub packet-write-refused : (exact : Bool) → WriteJust packet-unwritten.Refused λ i t. PacketWrite i t exact
-  -- A refused read leaves the tree buffer all zeros, and returns 0 and 0; so does a refused cut with the list or the row of numbers, and the index.
+  -- The bytes used, or the place at which a reading or a cut is refused, are inside the input.
+  pub value-inside : Inside ParseSingleElement
+  pub file-inside : Inside LsoParse
+  pub file-incomplete-inside : Inside LsoParseIncomplete
+  pub packet-inside : Inside PacketParse
+  pub packet-incomplete-inside : Inside PacketParseIncomplete
+  pub entry-inside : (k : ℕ) → Inside λ s. ParseEntry s k
+  pub span-inside : (p n : ℕ) → Inside λ s. ParseSpan s p n
+  pub cut-inside : CutInside Cut
+  pub row-inside : CutInside RowCut
+  pub nth-inside : (s : List ℕ) (k a p : ℕ) → Bytes s → Nth s k (Found.Stop a p) → p ≤ length s
+  -- A refused read leaves the tree buffer all zeros, and makes no image bytes; so does a refused cut with the list or the row of numbers, and the index.
   pub value-zeros : Zeros ParseSingleElement
   pub file-zeros : Zeros LsoParse
   pub file-incomplete-zeros : Zeros LsoParseIncomplete
@@ -216,7 +249,8 @@ pub record Demand1 : Type 0 where
   pub c-packet-write : (exact : Bool)
       → WriterRules (OneOf 0 (1 ∷ 4 ∷ 5 ∷ 6 ∷ [])) (λ i t. packet-unwritten.Outcome i t exact) λ i t. CPacketWrite i t exact
   pub c-cut-answers : CutAnswers CutAnswer CPacketCut
-  pub c-cut-refused : (a : ℕ) → a ≢ 0 → a ≢ 4 → CutJust a (λ s. (p : ℕ) × RefusedCut s a p) CPacketCut
+  pub c-cut-refused : (a : ℕ) → a ≢ 0 → a ≢ 4 → CutJustAt a (λ s. RefusedCut s a) CPacketCut
+  pub c-cut-inside : CutInside CPacketCut
   pub c-cut-zeros : CutZeros 0 CPacketCut
   pub c-nth-zeros : (s : List ℕ) (k answer : ℕ) (numbers : List ℕ) → CPacketNth s k answer numbers → answer ≢ 0 → numbers ≡ replicate 8 0
   pub c-index-zeros : (i t index : List ℕ) (r : Indexing) (left : List ℕ) → CIndex i t index r left → r .answer ≢ 0
@@ -268,6 +302,15 @@ demand1 =
           law.just packet-incomplete-reads 4 (λ s room. room < length (bytes (packetAt s))) λ s room bs. calls.incomplete-room-exact s room;
       cut-tight = one.cut-tight;
       row-tight = one.row-tight;
+      value-full = law.just-at value-reads 4 (λ z. omega arith) values.refused-empty _ λ s room p bs. values.room-place s room p;
+      file-full = law.just-at file-reads 4 (λ z. omega arith) files.refused-empty-whole FullFile tight.file-full;
+      file-incomplete-full = law.just-at file-incomplete-reads 4 (λ z. omega arith) files.refused-empty-incomplete FullFile tight.file-incomplete-full;
+      packet-full = law.just-at packet-reads 4 (λ z. omega arith) calls.parse-refused _ λ s room p bs. packets-room.parse-room-place s room p;
+      packet-incomplete-full =
+          law.just-at packet-incomplete-reads 4 (λ z. omega arith) calls.incomplete-refused _ λ s room p bs. calls.incomplete-room-place s room p;
+      value-due = values-place.room-due;
+      file-due = λ s room p bs f. files-place.room-due s room (f .0) p bs (f .1) (f .2);
+      packet-due = packets-place.room-due;
       value-roomy = law.roomy value-reads values.room-enough;
       file-roomy = law.roomy file-reads files.room-enough-whole;
       file-incomplete-roomy = law.roomy file-incomplete-reads files.room-enough-incomplete;
@@ -276,17 +319,19 @@ demand1 =
       span-roomy = tight.span-roomy;
       entry-roomy = tight.entry-roomy;
       value-refused = λ a some.
-          law.just-in-room value-reads a (λ s. (p : ℕ) × value-why.RefusedValue limit.levels s 0 a p) some values.refused-empty
-          λ s room bs l ne. values-why.refused-exactly s room a bs l ne some;
-      value-deep = law.just-in-room value-reads 5 (values-why.Deep limit.levels) (λ z. omega arith) values.refused-empty values-why.deep-exactly;
+          law.just-at-in-room value-reads a some values.refused-empty (λ s. value-why.RefusedValue limit.levels s 0 a)
+          λ s room p bs l ne. values-why.refused-exactly s room a p bs l ne some;
+      value-deep = law.just-at-in-room value-reads 5 (λ z. omega arith) values.refused-empty (values-why.Deep limit.levels) values-why.deep-exactly;
       value-short = short.value-short;
       value-too-deep = short.value-deep;
-      file-two = law.just file-reads 2 (λ s room. (p : ℕ) × file-why.RefusedHeader s 2 p) files.two-whole;
-      file-incomplete-two = law.just file-incomplete-reads 2 (λ s room. (p : ℕ) × file-why.RefusedHeader s 2 p) files.two-incomplete;
-      file-three = law.just file-reads 3 WrongFile files-why.three-whole;
-      file-incomplete-three = law.just file-incomplete-reads 3 (λ s room. (p : ℕ) × file-why.RefusedHeader s 3 p) files.three-incomplete;
-      file-five = law.just file-reads 5 file-why.TooDeep files-why.five-whole;
-      file-incomplete-five = law.just file-incomplete-reads 5 file-why.TooDeep files-why.five-incomplete;
+      file-two = law.just-at file-reads 2 (λ z. omega arith) files.refused-empty-whole (λ s room. file-why.RefusedHeader s 2) files.two-whole;
+      file-incomplete-two =
+          law.just-at file-incomplete-reads 2 (λ z. omega arith) files.refused-empty-incomplete (λ s room. file-why.RefusedHeader s 2) files.two-incomplete;
+      file-three = law.just-at file-reads 3 (λ z. omega arith) files.refused-empty-whole WrongFile files-why.three-whole;
+      file-incomplete-three =
+          law.just-at file-incomplete-reads 3 (λ z. omega arith) files.refused-empty-incomplete (λ s room. file-why.RefusedHeader s 3) files.three-incomplete;
+      file-five = law.just-at file-reads 5 (λ z. omega arith) files.refused-empty-whole file-why.TooDeep files-why.five-whole;
+      file-incomplete-five = law.just-at file-incomplete-reads 5 (λ z. omega arith) files.refused-empty-incomplete file-why.TooDeep files-why.five-incomplete;
       file-short = short.file-short;
       file-incomplete-short = short.file-incomplete-short;
       file-begun = short.file-begun;
@@ -298,7 +343,9 @@ demand1 =
       entry-short = short.entry-short;
       cut-refused = one.cutter-refused one.cuts-list;
       row-refused = one.cutter-refused one.cuts-row;
-      entry-refused = λ k a other. law.just (entry-reads k) a (λ s room. (p : ℕ) × RefusedCut s a p) λ s room bs l. entry-uncut s k room a bs other;
+      entry-refused = λ k a other.
+          law.just-at (entry-reads k) a (λ z. other (inl z)) (λ s. calls.entry-refused s k) (λ s room. RefusedCut s a)
+          λ s room p bs l. entry-uncut s k room a p bs other;
       nth-refused = one.nth-refused;
       cut-seven = one.cutter-seven one.cuts-list;
       row-seven = one.cutter-seven one.cuts-row;
@@ -309,6 +356,16 @@ demand1 =
       value-write-refused = law.write-just value-puts value-unwritten.Refused values-write.write-refusals;
       file-write-refused = law.write-just file-puts file-unwritten.Refused files-write.write-refusals;
       packet-write-refused = λ exact. law.write-just (packet-puts exact) packet-unwritten.Refused λ i t. packets-write.write-refusals i t exact;
+      value-inside = law.inside value-reads λ s room bs. values.place-inside s room;
+      file-inside = law.inside file-reads files.place-inside-whole;
+      file-incomplete-inside = law.inside file-incomplete-reads files.place-inside-incomplete;
+      packet-inside = law.inside packet-reads λ s room bs. calls.parse-inside s room;
+      packet-incomplete-inside = law.inside packet-incomplete-reads λ s room bs. calls.incomplete-inside s room;
+      entry-inside = λ k. law.inside (entry-reads k) λ s. packets-why.entry-inside s k;
+      span-inside = λ p n. law.inside (span-reads p n) λ s room bs. spans.span-inside s p n room;
+      cut-inside = one.cutter-inside one.cuts-list;
+      row-inside = one.cutter-inside one.cuts-row;
+      nth-inside = one.nth-inside;
       value-zeros = law.zeros value-reads values.refused-empty;
       file-zeros = law.zeros file-reads files.refused-empty-whole;
       file-incomplete-zeros = law.zeros file-incomplete-reads files.refused-empty-incomplete;
@@ -344,6 +401,7 @@ demand1 =
       c-packet-write = c.packet-write-rules;
       c-cut-answers = one.cutter-answers c.cuts-row;
       c-cut-refused = one.cutter-refused c.cuts-row;
+      c-cut-inside = one.cutter-inside c.cuts-row;
       c-cut-zeros = c.cut-zeros;
       c-nth-zeros = c.nth-zeros;
       c-index-zeros = c.index-zeros;
@@ -422,6 +480,17 @@ pub record Demand2 : Type 0 where
   -- So does the tree of an entry, and that of a part of a packet: it is written as a value, and reads back as one.
   pub entry-trip : (k : ℕ) → Returns (λ s. ParseEntry s k) WriteValue ParseSingleElement (EntryTrip k)
   pub span-trip : (p n : ℕ) → Returns (λ s. ParseSpan s p n) WriteValue ParseSingleElement λ s. span-trips.SpanTrip s p n
+  -- Acceptance and accepted results are as they were before a refusal had a place, and so are the answers and counts of refusals: without the place, each call comes
+  -- to what the definitions of then say.
+  pub value-as-before : AsBefore then.valueOf ParseSingleElement
+  pub file-as-before : AsBefore then.wholeFile LsoParse
+  pub file-incomplete-as-before : AsBefore then.incompleteFile LsoParseIncomplete
+  pub packet-as-before : AsBefore then.wholePacket PacketParse
+  pub packet-incomplete-as-before : AsBefore then.incompletePacket PacketParseIncomplete
+  pub entry-as-before : (k : ℕ) → AsBefore (λ s. then.entryOf s k) λ s. ParseEntry s k
+  pub span-as-before : (p n : ℕ) → AsBefore (λ s. then.spanOf s p n) λ s. ParseSpan s p n
+  pub cut-as-before : (s : List ℕ) (list : List Entry) (c : Cutting) (left : List Entry) → Cut s list c left
+      → then.listUnplaced (listed c left) ≡ then.listOf s (length list)
   -- More room changes nothing, nor does a longer list.
   pub value-wider : Wider ParseSingleElement
   pub file-wider : Wider LsoParse
@@ -496,6 +565,14 @@ demand2 =
           (λ s b room out more bs e f. span-trips.span-trip-any s p n room _ bs (calls.span-takes s p n room e) b out f more)
           (λ s b room out bs e. span-trips.span-same-room s p n room _ bs (calls.span-takes s p n room e) b out)
           λ s b room out more once bs e f. span-trips.span-again s p n room _ bs (calls.span-takes s p n room e) b out f more once;
+      value-as-before = law.as-before value-reads then.valueOf before.value;
+      file-as-before = law.as-before file-reads then.wholeFile before.file-whole;
+      file-incomplete-as-before = law.as-before file-incomplete-reads then.incompleteFile before.file-incomplete;
+      packet-as-before = law.as-before packet-reads then.wholePacket before.packet-whole;
+      packet-incomplete-as-before = law.as-before packet-incomplete-reads then.incompletePacket before.packet-incomplete;
+      entry-as-before = λ k. law.as-before (entry-reads k) (λ s. then.entryOf s k) λ s. before.one-entry s k;
+      span-as-before = λ p n. law.as-before (span-reads p n) (λ s. then.spanOf s p n) λ s. before.part s p n;
+      cut-as-before = λ s list c left a. ap then.listUnplaced (one.listed-is s list c left a) ∙ before.cut s (length list);
       value-wider = law.wider value-reads values.room-more;
       file-wider = law.wider file-reads files.room-more-whole;
       file-incomplete-wider = law.wider file-incomplete-reads files.room-more-incomplete;
@@ -545,7 +622,7 @@ pub record Demand3 : Type 0 where
   -- And there are no more entries.
   pub past-nth : Changes λ s t n. (k : ℕ) (g : Found) → n ≤ k → Nth t k g → g ≡ Found.Stop 8 0
   pub past : Changes λ s t n. (k : ℕ) (j : List ℕ) (q : Reading) (y : List ℕ) → n ≤ k → ParseEntry t k j q y
-      → (q ≡ refused 8 .reading) × (y ≡ replicate (length j) 0)
+      → (q ≡ refused 8 0 .reading) × (y ≡ replicate (length j) 0)
   -- Where the whole-packet reader accepts a packet with exact lengths, entry reading in that room gives the same values: their images stand in the whole one.
   pub agreement : (s i : List ℕ) (r : Reading) (x : List ℕ) → Bytes s → Exact s → PacketParse s i r x → r .answer ≡ 0 → Agrees s (length i) (take (r .made) x)
 

@@ -9,7 +9,8 @@ use Rattle.image.specs.Whole.{Whole, refused}
 use Rattle.image.specs.Out.{Written, written, unwritten, onto}
 use Rattle.amf0_theorems.proofs.Settled.{Settled}
 use Rattle.amf0_theorems.proofs.More.{More}
-use Rattle.demands.specs.Forms.{Reader, Writer, made, sent, put, Answers, WriteAnswers, Reasons, WriteReasons, OverLimit, Just, JustInRoom, Roomy, Short, ShortInRoom, WriteJust, Zeros, Past, Untouched, Untouching, Behind, Keeping, Sound, Exactly, Writes, Wider, Rewritten, Room, Enough, Unrefused, SameRoom, Trips, Sent, Again, Returns, Same}
+use Rattle.demands.specs.Before.{unplaced}
+use Rattle.demands.specs.Forms.{Reader, Writer, made, sent, put, Answers, WriteAnswers, Reasons, WriteReasons, OverLimit, Just, JustAt, JustAtInRoom, Inside, Roomy, Short, ShortInRoom, WriteJust, Zeros, Past, Untouched, Untouching, Behind, Keeping, Sound, Exactly, Writes, AsBefore, Wider, Rewritten, Room, Enough, Unrefused, SameRoom, Trips, Sent, Again, Returns, Same}
 use Rattle.demands.proofs.Told.{Read, Reads, Putting}
 
 -- ---- a reader
@@ -57,33 +58,57 @@ module _ {Call : Reader} {w : List ℕ → ℕ → Whole} (k : Reads Call w) whe
       → ((s : List ℕ) (room : ℕ) → Bytes s → w s room .reading .answer ≡ a ↔ (length s ≤ limit.bytes) × Why s) → Just a (λ s room. Why s) Call
   just-within a Why h = just a (λ s room. Why s) λ s room bs l. let e = h s room bs in (λ z. e .0 z .1, λ y. e .1 (l, y))
 
-  -- and a refusal where that is this refusal.
-  pub just-in-room : (a : ℕ) (Why : List ℕ → Type 0) → a ≢ 0
-      → ((s : List ℕ) (room : ℕ) → w s room .reading .answer ≢ 0 → w s room ≡ refused (w s room .reading .answer))
-      → ((s : List ℕ) (room : ℕ) → Bytes s → length s ≤ limit.bytes → w s room .reading .answer ≢ 4 → w s room ≡ refused a ↔ Why s) → JustInRoom a Why Call
-  just-in-room a Why some empty h s i r x bs l c ne =
-      let v = w s (length i) in
-      let e : r .answer ≡ v .reading .answer = ap (λ (q : Reading). q .answer) (k .told s i r x c .returns) in
-      let t = h s (length i) bs l (λ z. ne (e ∙ z)) in (
-        λ z. let f : v .reading .answer ≡ a = sym e ∙ z in t .0 (empty s (length i) (λ o. some (sym f ∙ o)) ∙ ap refused f),
-        λ y. e ∙ ap (λ (q : Whole). q .reading .answer) (t .1 y),
-      )
+  -- and a refusal where that is this refusal, at this place,
+  module _ (a : ℕ) (some : a ≢ 0)
+      (empty : (s : List ℕ) (room : ℕ) → w s room .reading .answer ≢ 0 → w s room ≡ refused (w s room .reading .answer) (w s room .reading .used)) where
+    refused-at : (s i : List ℕ) (r : Reading) (x : List ℕ) (p : ℕ) {Why : Type 0} → Call s i r x → w s (length i) ≡ refused a p ↔ Why
+        → (r .answer ≡ a) × (r .used ≡ p) ↔ Why
+    refused-at s i r x p c t =
+        let v = w s (length i) in
+        let e : r .answer ≡ v .reading .answer = ap (λ (q : Reading). q .answer) (k .told s i r x c .returns) in
+        let u : r .used ≡ v .reading .used = ap (λ (q : Reading). q .used) (k .told s i r x c .returns) in (
+          λ z.
+              let f : v .reading .answer ≡ a = sym e ∙ z .0 in
+              t .0 (empty s (length i) (λ o. some (sym f ∙ o)) ∙ ap₂ refused f (sym u ∙ z .1)),
+          λ y. let g = t .1 y in (e ∙ ap (λ (q : Whole). q .reading .answer) g, u ∙ ap (λ (q : Whole). q .reading .used) g),
+        )
+
+    pub just-at : (Why : List ℕ → ℕ → ℕ → Type 0)
+        → ((s : List ℕ) (room p : ℕ) → Bytes s → length s ≤ limit.bytes → w s room ≡ refused a p ↔ Why s room p) → JustAt a Why Call
+    just-at Why h s i r x p bs l c = refused-at s i r x p c (h s (length i) p bs l)
+
+    -- or where that is so in a room that is not refused.
+    pub just-at-in-room : (Why : List ℕ → ℕ → Type 0)
+        → ((s : List ℕ) (room p : ℕ) → Bytes s → length s ≤ limit.bytes → w s room .reading .answer ≢ 4 → w s room ≡ refused a p ↔ Why s p)
+        → JustAtInRoom a Why Call
+    just-at-in-room Why h s i r x p bs l c ne =
+        refused-at s i r x p c (h s (length i) p bs l λ z. ne (ap (λ (q : Reading). q .answer) (k .told s i r x c .returns) ∙ z))
+
+  -- What it uses, or the place at which it is refused, is inside the input.
+  pub inside : ((s : List ℕ) (room : ℕ) → Bytes s → w s room .reading .used ≤ length s) → Inside Call
+  inside h s i r x bs c = rw (k .told s i r x c .returns) (h s (length i) bs)
+
+  -- It comes to what it came to before a refusal had a place, but for the place.
+  pub as-before : (of : List ℕ → ℕ → Whole) → ((s : List ℕ) (room : ℕ) → unplaced (w s room) ≡ of s room) → AsBefore of Call
+  as-before of h s i r x c = ap unplaced (made-is s i r x c) ∙ h s (length i)
 
   -- a call that comes to a refusal has its answer
-  pub answered : (s i : List ℕ) (r : Reading) (x : List ℕ) (a : ℕ) → Call s i r x → w s (length i) ≡ refused a → r .answer ≡ a
-  answered s i r x a c e = ap (λ (q : Reading). q .answer) (k .told s i r x c .returns) ∙ ap (λ (v : Whole). v .reading .answer) e
+  pub answered : (s i : List ℕ) (r : Reading) (x : List ℕ) (a p : ℕ) → Call s i r x → w s (length i) ≡ refused a p → r .answer ≡ a
+  answered s i r x a p c e = ap (λ (q : Reading). q .answer) (k .told s i r x c .returns) ∙ ap (λ (v : Whole). v .reading .answer) e
 
   -- A beginning is short in every room,
   pub short : (Is : List ℕ → Type 0)
-      → ((s q : List ℕ) (room : ℕ) → Is (s ++ q) → 1 ≤ length q → length s ≤ limit.bytes → w s room ≡ refused 2) → Short Is Call
-  short Is h s q i r x y m l c = answered s i r x 2 c (h s q (length i) y m l)
+      → ((s q : List ℕ) (room : ℕ) → Is (s ++ q) → 1 ≤ length q → length s ≤ limit.bytes → (p : ℕ) × (w s room ≡ refused 2 p)) → Short Is Call
+  short Is h s q i r x y m l c = let e = h s q (length i) y m l in answered s i r x 2 (e .0) c (e .1)
 
   -- or in a room that is not refused.
   pub short-in-room : (Is : List ℕ → Type 0)
-      → ((s q : List ℕ) (room : ℕ) → Is (s ++ q) → 1 ≤ length q → length s ≤ limit.bytes → w s room .reading .answer ≢ 4 → w s room ≡ refused 2)
+      → ((s q : List ℕ) (room : ℕ) → Is (s ++ q) → 1 ≤ length q → length s ≤ limit.bytes → w s room .reading .answer ≢ 4
+      → (p : ℕ) × (w s room ≡ refused 2 p))
       → ShortInRoom Is Call
   short-in-room Is h s q i r x y m l c ne =
-      answered s i r x 2 c (h s q (length i) y m l λ z. ne (ap (λ (q : Reading). q .answer) (k .told s i r x c .returns) ∙ z))
+      let e = h s q (length i) y m l λ z. ne (ap (λ (q : Reading). q .answer) (k .told s i r x c .returns) ∙ z) in
+      answered s i r x 2 (e .0) c (e .1)
 
   -- More room changes nothing.
   pub wider : ((s : List ℕ) → More (w s)) → Wider Call
@@ -92,12 +117,12 @@ module _ {Call : Reader} {w : List ℕ → ℕ → Whole} (k : Reads Call w) whe
       ∙ (h s (length i) (length j) l (λ z. ne (ap (λ (q : Reading). q .answer) (k .told s i r x c .returns) ∙ z)) ∙ sym (made-is s i r x c))
 
   -- Where its refusals have no byte, a refused call leaves zeros.
-  pub zeros : ((s : List ℕ) (room : ℕ) → w s room .reading .answer ≢ 0 → w s room ≡ refused (w s room .reading .answer)) → Zeros Call
+  pub zeros : ((s : List ℕ) (room : ℕ) → w s room .reading .answer ≢ 0 → w s room ≡ refused (w s room .reading .answer) (w s room .reading .used)) → Zeros Call
   zeros h s i r x c ne =
       let t = k .told s i r x c in
-      let e : w s (length i) ≡ refused (w s (length i) .reading .answer) = h s (length i) λ z. ne (ap (λ (q : Reading). q .answer) (t .returns) ∙ z) in
+      let v = w s (length i) in
+      let e : v ≡ refused (v .reading .answer) (v .reading .used) = h s (length i) λ z. ne (ap (λ (q : Reading). q .answer) (t .returns) ∙ z) in
       record {
-        used = ap (λ (q : Reading). q .used) (t .returns) ∙ ap (λ (v : Whole). v .reading .used) e;
         made = ap (λ (q : Reading). q .made) (t .returns) ∙ ap (λ (v : Whole). v .reading .made) e;
         zeros = t .leaves ∙ rw e (ap (λ n. replicate n 0) (sub-zero (length i)));
       }

@@ -18,3 +18,4 @@ pub mod Uncut
 pub mod CDemand1
 pub mod Demand2
 pub mod Demand3
+pub mod Before

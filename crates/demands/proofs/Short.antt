@@ -27,23 +27,23 @@ value-short = short-in-room value-reads IsValue λ s q room y l h ne. values.beg
 pub value-deep : (t : Tree Sort.value) (x q i : List ℕ) (r : Reading) (left : List ℕ) → Encodes Sort.value t x → limit.levels < depth t
     → length (x ++ q) ≤ limit.bytes → ParseSingleElement (x ++ q) i r left → r .answer ≢ 4 → r .answer ≡ 5
 value-deep t x q i r left e d l a ne =
-    answered value-reads (x ++ q) i r left 5 a
-    (values.read-deep t x q (length i) e d l λ z. ne (rw (value-reads .told (x ++ q) i r left a .returns) z))
+    let f = values.read-deep t x q (length i) e d l λ z. ne (rw (value-reads .told (x ++ q) i r left a .returns) z) in
+    answered value-reads (x ++ q) i r left 5 (f .0) a (f .1)
 
 -- ---- files
 
 module _ (s q : List ℕ) (room : ℕ) (y : IsHeader (s ++ q)) (l : 1 ≤ length q) (h : length s ≤ limit.bytes) where
   -- a proper beginning of a header, in both readings
-  header : (lso.incompleteOf s room ≡ refused 2) × (lso.wholeOf s room ≡ refused 2)
+  header : (p : ℕ) × (lso.incompleteOf s room ≡ refused 2 p) × (lso.wholeOf s room ≡ refused 2 p)
   header = files.beginning-header s q (length (s ++ q)) room (y .0) (y .1) (omega (arith, length-append s q)) h
 
 -- A proper beginning of a header is refused with 2, in every room, by the whole reading
 pub file-short : Short IsHeader LsoParse
-file-short = short file-reads IsHeader λ s q room y l h. header s q room y l h .1
+file-short = short file-reads IsHeader λ s q room y l h. let e = header s q room y l h in (e .0, e .2)
 
 -- and by the incomplete one;
 pub file-incomplete-short : Short IsHeader LsoParseIncomplete
-file-incomplete-short = short file-incomplete-reads IsHeader λ s q room y l h. header s q room y l h .0
+file-incomplete-short = short file-incomplete-reads IsHeader λ s q room y l h. let e = header s q room y l h in (e .0, e .1)
 
 -- of a file whose header is whole, the incomplete reading accepts what is whole.
 pub file-begun : (f : Lso) (s q i : List ℕ) (p : ℕ) (r : Reading) (x : List ℕ) → File f (s ++ q) → 1 ≤ length q → deepest (f .body) ≤ limit.levels

@@ -3,7 +3,8 @@ use Rattle.wire.proofs.Kit.{ℕ, _*_, _≤_, _≡_, refl, sym, ap, _∙_, _≢_
 use Rattle.wire.specs.Number.{Bytes}
 use Rattle.wire.specs.Limit as limit
 use Rattle.image.specs.declared.reading.Reading.{Reading}
-use Rattle.image.specs.Whole.{Whole}
+use Rattle.image.specs.Whole.{Whole, refused}
+use Rattle.image.proofs.Settle.{lacks-over, answer-of, used-of}
 use Rattle.lso.specs.Reading as lso
 use Rattle.lso_theorems.specs.Refusal.{Comes, ComesWhole}
 use Rattle.lso_theorems.proofs.Refusals.{header-either}
@@ -16,7 +17,7 @@ use Rattle.packet_theorems.specs.Cuts.{Slice, entriesOf, Each}
 use Rattle.packet_theorems.proofs.Theorems as calls
 use Rattle.packet_theorems.proofs.CutTheorems as cuts
 use Rattle.packet_theorems.proofs.CutExactly.{cut-complete, cut-sound}
-use Rattle.demands.specs.Inputs.{TightFile, TightCut}
+use Rattle.demands.specs.Inputs.{TightFile, FullFile, TightCut}
 use Rattle.demands.proofs.Calls.{ParseEntry, ParseSpan, Nth}
 use Rattle.demands.proofs.Told.{entry-reads, span-reads, nth-told}
 
@@ -26,7 +27,7 @@ use Rattle.demands.proofs.Told.{entry-reads, span-reads, nth-told}
 four : {s : List ℕ} {room : ℕ} {w : Whole} → Comes s room w → w .reading .answer ≡ 4 → TightFile s room
 four (Comes.over-limit h) z = absurd (omega arith)
 four (Comes.no-header h f) z = absurd (⊎-elim (λ x. omega (arith, z, x)) (λ x. omega (arith, z, x)) (header-either f))
-four (Comes.no-room {p} h e l) z = (p, e, l)
+four {s} {room} (Comes.no-room {p} {place} h e l) z = (p, e, omega (arith, lacks-over (lso.everDue s p) 0 room place l))
 four (Comes.too-deep h t) z = absurd (omega arith)
 four (Comes.read h f i) z = absurd (omega arith)
 
@@ -43,6 +44,28 @@ file-tight s room bs h = (four-whole (files-why.reasons-whole s room bs), λ t. 
 -- and so is the incomplete one.
 pub file-incomplete-tight : (s : List ℕ) (room : ℕ) → Bytes s → length s ≤ limit.bytes → lso.incompleteOf s room .reading .answer ≡ 4 ↔ TightFile s room
 file-incomplete-tight s room bs h = (four (files-why.reasons-incomplete s room bs), λ t. files.room-exact-incomplete s room (t .0) h (t .1) .1 (t .2))
+
+-- an incomplete reading that comes to 4 at a place has a header, and no room for the record that is due there;
+full : {s : List ℕ} {room : ℕ} {w : Whole} (q : ℕ) → Comes s room w → w ≡ refused 4 q → FullFile s room q
+full q (Comes.over-limit h) z = absurd (omega (arith, ap answer-of z))
+full q (Comes.no-header h f) z = absurd (⊎-elim (λ x. omega (arith, ap answer-of z, x)) (λ x. omega (arith, ap answer-of z, x)) (header-either f))
+full q (Comes.no-room {p} {place} h e l) z = (p, e, rw (ap used-of z) at l)
+full q (Comes.too-deep h t) z = absurd (omega (arith, ap answer-of z))
+full q (Comes.read h f i) z = absurd (omega (arith, ap answer-of z))
+
+-- so has a whole one
+full-whole : {s : List ℕ} {room : ℕ} {w : Whole} (q : ℕ) → ComesWhole s room w → w ≡ refused 4 q → FullFile s room q
+full-whole q (ComesWhole.not-read h c) z = full q c z
+full-whole q (ComesWhole.left-over c h) z = absurd (omega (arith, ap answer-of z))
+full-whole q (ComesWhole.read c h) z = absurd (omega (arith, ap answer-of z))
+
+-- The whole reading of a file is 4 at a place just there,
+pub file-full : (s : List ℕ) (room q : ℕ) → Bytes s → length s ≤ limit.bytes → lso.wholeOf s room ≡ refused 4 q ↔ FullFile s room q
+file-full s room q bs h = (full-whole q (files-why.reasons-whole s room bs), λ t. files.room-place-whole s room (t .0) q h (t .1) .1 (t .2))
+
+-- and so is the incomplete one.
+pub file-incomplete-full : (s : List ℕ) (room q : ℕ) → Bytes s → length s ≤ limit.bytes → lso.incompleteOf s room ≡ refused 4 q ↔ FullFile s room q
+file-incomplete-full s room q bs h = (full q (files-why.reasons-incomplete s room bs), λ t. files.room-place-incomplete s room (t .0) q h (t .1) .1 (t .2))
 
 -- ---- cuts
 

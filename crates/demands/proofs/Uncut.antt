@@ -1,8 +1,8 @@
 -- Demand 1: when the reading of an entry is refused because the packet is not cut exactly.
-use Rattle.wire.proofs.Kit.{ℕ, _≡_, refl, sym, ap, _∙_, _↔_, inl, inr, ⊎-elim, List, [], _∷_, arith, length, getD, ltb, ltb-false}
+use Rattle.wire.proofs.Kit.{ℕ, _≡_, refl, sym, ap, ap₂, _∙_, _↔_, inl, inr, ⊎-elim, List, [], _∷_, arith, length, getD, ltb, ltb-false}
 use Rattle.wire.specs.Number.{Bytes}
 use Rattle.wire.proofs.Laws.{picked}
-use Rattle.image.specs.Whole.{Whole}
+use Rattle.image.specs.Whole.{Whole, refused}
 use Rattle.packet.specs.declared.head.Entry.{Entry}
 use Rattle.packet.specs.declared.entry.Found.{Found}
 use Rattle.packet.specs.declared.entry.Found.the-variants as Found
@@ -40,15 +40,17 @@ module _ (s : List ℕ) (k room : ℕ) where
       (λ h f. rw (packets.past s s es n c (record { long = refl; same = λ i b. refl }) k room (ltb-false k (length es) h)) (inr (inr (inr (inl refl)))))
       (ap (λ x. foundIn x k) c)
 
--- Any other answer is given just where a field refuses the packet.
-pub entry-uncut : (s : List ℕ) (k room a : ℕ) → Bytes s → (AfterCut a → ⊥) → readEntry s k room .reading .answer ≡ a ↔ (p : ℕ) × RefusedCut s a p
+-- Any other answer is given at a place just where a field there refuses the packet.
+pub entry-uncut : (s : List ℕ) (k room a p : ℕ) → Bytes s → (AfterCut a → ⊥) → readEntry s k room ≡ refused a p ↔ RefusedCut s a p
 unfolding readEntry
-entry-uncut s k room a bs other = go (cutOf s) refl
+entry-uncut s k room a p bs other = go (cutOf s) refl
   where
-    go : (x : Cut) → cutOf s ≡ x → entryIn s (cutOf s) k room .reading .answer ≡ a ↔ (p : ℕ) × RefusedCut s a p
-    go (stops b p) e = rw e
-        (λ z. (p, rw z at (cut-refused-exactly s b p bs .0 e)), λ t. let f = cut-refused-exactly s a (t .0) bs .1 (t .1) in cc)
+    go : (x : Cut) → cutOf s ≡ x → entryIn s (cutOf s) k room ≡ refused a p ↔ RefusedCut s a p
+    go (stops b q) e = rw e (
+      λ z. cut-refused-exactly s a p bs .0 (e ∙ ap₂ stops (ap (λ (w : Whole). w .reading .answer) z) (ap (λ (w : Whole). w .reading .used) z)),
+      λ t. ap (λ x. entryIn s x k room) (sym e ∙ cut-refused-exactly s a p bs .1 t),
+    )
     go (found es n) e = (
-      λ z. absurd (other (rw z at (cut-answers s k room es n e))),
-      λ t. let f = cut-refused-exactly s a (t .0) bs .1 (t .1) in let z : _≡_ {A = ℕ} 0 1 = cc in absurd (omega arith),
+      λ z. absurd (other (rw (ap (λ (w : Whole). w .reading .answer) z) at (cut-answers s k room es n e))),
+      λ t. let f = cut-refused-exactly s a p bs .1 t in let z : _≡_ {A = ℕ} 0 1 = cc in absurd (omega arith),
     )

@@ -2,9 +2,9 @@
 use Rattle.wire.specs.Kit.{ℕ, _≡_, refl, List, [], _∷_, _++_, map}
 use Rattle.wire.specs.Utf8.{ends}
 use Rattle.wire.specs.Field.{u8At, u16At, u24At, u32At, u64At, strAt, textAt, tagAt}
-use Rattle.image.specs.Record.{bytesOf}
+use Rattle.image.specs.Record.{bytesOf, size}
 use Rattle.image.specs.Taking.{flagAt, shortAt, longAt, u16, u32, u64, flag, short, long, zoned, bodyAt as recordBodyAt, recordAt}
-use Rattle.image.specs.Whole.{Whole, accepted, refused, bytes, ended, settled}
+use Rattle.image.specs.Whole.{Whole, accepted, refused, bytes, inRoom}
 use Rattle.image.specs.Out as out
 use Rattle.image.specs.Out.{Written, written, row}
 use Rattle.amf0.specs.Marker.{markerOf}
@@ -64,14 +64,14 @@ table =
     and 0x03 ∷ 0x00 ∷ 0x00 ∷ 0x05 ∷ 0x00 ∷ 0x00 ∷ 0x09 ∷ []
     reads accepted 7 (0x03 ∷ 0x20 ∷ 0x00 ∷ 0x00 ∷ 0x03 ∷ 0x00 ∷ 0x00 ∷ 0x05 ∷ 0x09 ∷ [])
     and 0x0A ∷ 0x00 ∷ 0x00 ∷ 0x00 ∷ 0x00 ∷ [] reads accepted 5 (0x0A ∷ 0x00 ∷ 0x00 ∷ 0x00 ∷ 0x00 ∷ [])
-    and 0x0A ∷ 0x00 ∷ 0x00 ∷ 0x00 ∷ 0x01 ∷ [] reads refused 2
-    and 0x0A ∷ 0x00 ∷ 0x00 ∷ 0x00 ∷ 0x02 ∷ 0x04 ∷ [] reads refused 2
+    and 0x0A ∷ 0x00 ∷ 0x00 ∷ 0x00 ∷ 0x01 ∷ [] reads refused 2 1
+    and 0x0A ∷ 0x00 ∷ 0x00 ∷ 0x00 ∷ 0x02 ∷ 0x04 ∷ [] reads refused 2 1
     and 0x12 ∷ [] reads accepted 1 (0x0D ∷ [])
     and 0x11 ∷ 0x05 ∷ [] reads accepted 1 (0x0D ∷ [])
-    and 0x04 ∷ [] reads refused 3
-    and 0x02 ∷ 0x00 ∷ 0x01 ∷ 0xFF ∷ [] reads refused 3
+    and 0x04 ∷ [] reads refused 3 0
+    and 0x02 ∷ 0x00 ∷ 0x01 ∷ 0xFF ∷ [] reads refused 3 3
     and header whole accepted 23 shown incomplete accepted 23 shown
-    and header ++ (0x00 ∷ 0x01 ∷ 0x62 ∷ 0x05 ∷ []) whole refused 3 incomplete accepted 23 shown
+    and header ++ (0x00 ∷ 0x01 ∷ 0x62 ∷ 0x05 ∷ []) whole refused 3 23 incomplete accepted 23 shown
     and []
 
 -- what the calls come to on a line's input
@@ -82,7 +82,7 @@ found (Example.file s w v) = s whole wholeOf s 24 incomplete incompleteOf s 24
 
 -- They come to what it says.
 pub starred : map found table ≡ table
-unfolding wholeOf incompleteOf headerAt elementAt bodyAt zerosAt settled ended bytes bytesOf reading.value reading.items reading.pair reading.pairs reading.follow
+unfolding wholeOf incompleteOf headerAt elementAt bodyAt zerosAt inRoom bytes bytesOf size reading.value reading.items reading.pair reading.pairs reading.follow
     fieldsAt markerOf u8At u16At u24At u32At u64At textAt strAt tagAt ends flagAt shortAt longAt u16 u32 u64 flag short long zoned recordBodyAt recordAt
     out.settled out.ended out.bytes row writing.value writing.items writing.pairs writing.dense writing.rest writing.valueAt
 starred = refl

@@ -11,6 +11,7 @@ use Rattle.image.specs.Out.{Written}
 use Rattle.packet.specs.declared.head.Entry.{Entry}
 use Rattle.packet.specs.declared.entry.Cutting.{Cutting}
 use Rattle.packet.specs.Entry.{Listed}
+use Rattle.demands.specs.Before.{unplaced}
 
 -- a reader's call
 abbrev pub Reader : Type 1
@@ -75,10 +76,24 @@ OverLimit Call = (s i : List ℕ) (r : Reading) (x : List ℕ) → Call s i r x 
 abbrev pub Just : ℕ → (List ℕ → ℕ → Type 0) → Reader → Type 0
 Just a Why Call = (s i : List ℕ) (r : Reading) (x : List ℕ) → Bytes s → length s ≤ limit.bytes → Call s i r x → r .answer ≡ a ↔ Why s (length i)
 
--- or of the input alone, where the call is not refused for room
-abbrev pub JustInRoom : ℕ → (List ℕ → Type 0) → Reader → Type 0
-JustInRoom a Why Call =
-    (s i : List ℕ) (r : Reading) (x : List ℕ) → Bytes s → length s ≤ limit.bytes → Call s i r x → r .answer ≢ 4 → r .answer ≡ a ↔ Why s
+-- and it is given at a place just where something holds of that too,
+abbrev pub JustAt : ℕ → (List ℕ → (room place : ℕ) → Type 0) → Reader → Type 0
+JustAt a Why Call =
+    (s i : List ℕ) (r : Reading) (x : List ℕ) (p : ℕ) → Bytes s → length s ≤ limit.bytes → Call s i r x → (r .answer ≡ a) × (r .used ≡ p) ↔ Why s (length i) p
+
+-- or of the input and the place alone, where the call is not refused for room
+abbrev pub JustAtInRoom : ℕ → (List ℕ → (place : ℕ) → Type 0) → Reader → Type 0
+JustAtInRoom a Why Call =
+    (s i : List ℕ) (r : Reading) (x : List ℕ) (p : ℕ) → Bytes s → length s ≤ limit.bytes → Call s i r x → r .answer ≢ 4
+    → (r .answer ≡ a) × (r .used ≡ p) ↔ Why s p
+
+-- the bytes used, or the place of a refusal, are inside the input
+abbrev pub Inside : Reader → Type 0
+Inside Call = (s i : List ℕ) (r : Reading) (x : List ℕ) → Bytes s → Call s i r x → r .used ≤ length s
+
+-- or inside the packet that is cut
+abbrev pub CutInside : {A : Type 0} → Cutter A → Type 0
+CutInside {A} Call = (s : List ℕ) (list : List A) (c : Cutting) (left : List A) → Bytes s → Call s list c left → c .used ≤ length s
 
 -- room for three times the input is enough
 abbrev pub Roomy : Reader → Type 0
@@ -97,6 +112,11 @@ ShortInRoom Is Call =
 abbrev pub CutJust : {A : Type 0} → ℕ → (List ℕ → Type 0) → Cutter A → Type 0
 CutJust {A} a Why Call = (s : List ℕ) (list : List A) (c : Cutting) (left : List A) → Bytes s → Call s list c left → c .answer ≡ a ↔ Why s
 
+-- at a place just where something holds of that too;
+abbrev pub CutJustAt : {A : Type 0} → ℕ → (List ℕ → (place : ℕ) → Type 0) → Cutter A → Type 0
+CutJustAt {A} a Why Call =
+    (s : List ℕ) (list : List A) (c : Cutting) (left : List A) (p : ℕ) → Bytes s → Call s list c left → (c .answer ≡ a) × (c .used ≡ p) ↔ Why s p
+
 -- and refuses a proper beginning of something with 2
 abbrev pub CutShort : {A : Type 0} → (List ℕ → Type 0) → Cutter A → Type 0
 CutShort {A} Is Call =
@@ -108,9 +128,8 @@ WriteJust Refused Call =
     (a : ℕ) (i t o : List ℕ) (w : Writing) (y : List ℕ) → (a ≡ 5) ⊎ (a ≡ 6) → Bytes i → length t ≤ limit.bytes → length i ≤ limit.image → Call i t o w y
     → w .answer ≡ a ↔ (p : ℕ) × Refused i t a p
 
--- what a refused reading returns and leaves: 0 and 0, and an image of zeros
+-- what a refused reading returns beside the place, and leaves: no image bytes, and an image of zeros
 pub record Nothing (image : List ℕ) (r : Reading) (left : List ℕ) : Type 0 where
-  pub used : r .used ≡ 0
   pub made : r .made ≡ 0
   pub zeros : left ≡ replicate (length image) 0
 
@@ -122,9 +141,8 @@ Zeros Call = (s i : List ℕ) (r : Reading) (x : List ℕ) → Call s i r x → 
 abbrev pub Past : Reader → Type 0
 Past Call = (s i : List ℕ) (r : Reading) (x : List ℕ) → Call s i r x → drop (r .made) x ≡ replicate (length i - r .made) 0
 
--- what a refused cut returns and leaves: 0 and 0, and zeros alone
+-- what a refused cut returns beside the place, and leaves: no entries, and zeros alone
 pub record Uncut {A : Type 0} (zero : A) (list : List A) (c : Cutting) (left : List A) : Type 0 where
-  pub used : c .used ≡ 0
   pub count : c .count ≡ 0
   pub zeros : left ≡ replicate (length list) zero
 
@@ -155,6 +173,7 @@ Keeping Call = (i t o : List ℕ) (w : Writing) (y : List ℕ) → Call i t o w 
 pub record ReaderRules (P : ℕ → Type 0) (Comes : List ℕ → ℕ → Whole → Type 0) (Call : Reader) : Type 0 where
   pub answers : Answers P Call
   pub reasons : Reasons Comes Call
+  pub inside : Inside Call
   pub zeros : Zeros Call
   pub past : Past Call
 
@@ -232,6 +251,10 @@ pub record Returns (Read : Reader) (Write : Writer) (Back : Reader) (Trip : List
   pub any-room : Trips Unrefused Read Write Back Trip
   pub same-room : Trips SameRoom Read Write Back Trip
   pub again : Again Unrefused Read Write Back
+
+-- but for the place of a refusal, what a call comes to is as it was before a refusal had one
+abbrev pub AsBefore : (List ℕ → ℕ → Whole) → Reader → Type 0
+AsBefore of Call = (s i : List ℕ) (r : Reading) (x : List ℕ) → Call s i r x → unplaced (made r x) ≡ of s (length i)
 
 -- ---- demand 3
 

@@ -2,6 +2,8 @@
 use Rattle.wire.specs.Kit.{ℕ, _≤_, _<_, _⊎_, List, _++_, Bool, length, take}
 use Rattle.wire.specs.Number.{Bytes}
 use Rattle.wire.specs.Limit as limit
+use Rattle.image.specs.Due.{Lacks}
+use Rattle.image.specs.Whole.{bytes}
 use Rattle.amf0.specs.Standard.{Sort, Tree, depth, Encodes}
 use Rattle.amf0.specs.Written as value
 use Rattle.lso.specs.File.{Lso, File, deepest}
@@ -43,15 +45,19 @@ IsCut s = (hs : List Slice) × (ms : List Slice) × Cuts hs ms s × (length s �
 abbrev pub Cuttable : List ℕ → Type 0
 Cuttable s = Bytes s × (hs : List Slice) × (ms : List Slice) × Cuts hs ms s
 
--- a file whose header is refused with 3, or which, given room, can be read no further before its end
-abbrev pub WrongFile : List ℕ → ℕ → Type 0
-WrongFile s room = ((p : ℕ) × RefusedHeader s 3 p) ⊎ ((f : Lso) × (n : ℕ) × Reaches s room f n × (n < length s))
+-- a file whose header is refused with 3 at a place, or which, given room, can be read up to a place, and no further, before its end
+abbrev pub WrongFile : List ℕ → (room place : ℕ) → Type 0
+WrongFile s room p = RefusedHeader s 3 p ⊎ ((f : Lso) × Reaches s room f p × (p < length s))
 
 -- ---- rooms that are too small
 
 -- for all records that ever fall due behind a file's header
 abbrev pub TightFile : List ℕ → ℕ → Type 0
-TightFile s room = (p : ℕ) × Heads s p × (room < length (everDue s p))
+TightFile s room = (p : ℕ) × Heads s p × (room < length (bytes (everDue s p)))
+
+-- the first of them that has no room is due at a place
+abbrev pub FullFile : List ℕ → (room place : ℕ) → Type 0
+FullFile s room q = (p : ℕ) × Heads s p × Lacks (everDue s p) 0 room q
 
 -- for the entries of a packet that its declared lengths cut exactly
 abbrev pub TightCut : List ℕ → ℕ → Type 0

@@ -1,15 +1,15 @@
 -- What a reading that was carried out comes to, as `Whole` has it: the bytes of its records, and how it ends.
-use Rattle.wire.proofs.Kit.{ℕ, _+_, _≤_, _<_, _≡_, refl, sym, ap, _∙_, _⊎_, inl, inr, _≢_, List, [], _++_, append-assoc, append-nil, zero-add, arith, length, take, drop}
+use Rattle.wire.proofs.Kit.{ℕ, _+_, _≤_, _<_, _≡_, refl, sym, ap, _∙_, _⊎_, inl, inr, ⊎-elim, _≢_, le-leb, lt-leb, List, [], _++_, append-assoc, append-nil, arith, length, take, drop}
 use Rattle.wire.proofs.Kit.{length-append, sets, sets-eq, take-at, length-sets, length-take-le, leb, eqb, leb-true, leb-false, eqb-true, eqb-false, ne-eqb}
 use Rattle.wire.specs.Field.{to}
-use Rattle.wire.specs.Choice.{pick}
 use Rattle.wire.specs.declared.cursor.Cursor.{Cursor}
 use Rattle.wire.proofs.Laws.{pick-yes, pick-no, picked, then-sets}
 use Rattle.image.specs.declared.reading.Step.{Step}
 use Rattle.image.specs.declared.reading.Step.the-variants.{Next, Stop}
+use Rattle.image.specs.declared.record.Record.{Record}
 use Rattle.image.specs.Record.{bytesOf, size}
-use Rattle.image.specs.Due.{Due, end, stop, due, _>>=_, Ends, Stops, onEnd, Ran, ran, run}
-use Rattle.image.specs.Whole.{bytes, Whole, refused, ended, settled, finished, all}
+use Rattle.image.specs.Due.{Due, end, stop, due, _>>=_, Ends, Stops, Lacks, onEnd, Ran, ran, run}
+use Rattle.image.specs.Whole.{bytes, Whole, accepted, refused, inRoom, settled, finished, all}
 use Rattle.image.proofs.Laws.{size-bytes}
 
 -- ---- how a reading ends
@@ -78,25 +78,73 @@ run-fits (due r p d) made image h =
     ∙ run-fits d (made + size r) (sets image made (bytesOf r)) (omega (arith, length-sets image made (bytesOf r)))
     ∙ rw (same, then-sets image made (made + size r) (bytesOf r) (bytes d) (omega arith))
 
--- the reading is refused for room
-pub record Full (x : Ran) : Type 0 where
-  pub place : ℕ
-  pub image : List ℕ
-  pub same : x ≡ ran (Stop 4 place) image
+-- ---- the first record that has no room
 
-pub run-over : (d : Due) (made : ℕ) (image : List ℕ) → made ≤ length image → length image < made + length (bytes d) → Full (run d made image)
-unfolding run bytes
-run-over (end n) made image g h = absurd (omega arith)
-run-over (stop a p) made image g h = absurd (omega arith)
-run-over (due r p d) made image g h =
+pub either : {P : Type 0} (m n : ℕ) → (m ≤ n → P) → (n < m → P) → P
+either {P} m n f g = picked {A = ℕ} (λ z. P) (leb m n) 0 0 (λ e. f (leb-true m n e)) (λ e. g (leb-false m n e))
+
+-- there is one just where the records have more bytes than the room
+pub lacks-over : (d : Due) (made room p : ℕ) → Lacks d made room p → room < made + length (bytes d)
+unfolding bytes
+lacks-over (end n) made room p h = absurd h
+lacks-over (stop a q) made room p h = absurd h
+lacks-over (due r q d) made room p h =
     let l = length-append (bytesOf r) (bytes d) in
     let b = size-bytes r in
-    picked Full (leb (made + size r) (length image)) _ _
-    (λ t.
-    let k = length-sets image made (bytesOf r) in
-    let f = leb-true (made + size r) (length image) t in
-    run-over d (made + size r) (sets image made (bytesOf r)) (omega arith) (omega arith))
-    (λ t. record { place = p; image = image; same = refl })
+    ⊎-elim (λ x. omega (arith, x .0)) (λ x. omega (arith, lacks-over d (made + size r) room p (x .1))) h
+
+pub over-lacks : (d : Due) (made room : ℕ) → made ≤ room → room < made + length (bytes d) → (p : ℕ) × Lacks d made room p
+unfolding bytes
+over-lacks (end n) made room g h = absurd (omega arith)
+over-lacks (stop a q) made room g h = absurd (omega arith)
+over-lacks (due r q d) made room g h =
+    let l = length-append (bytesOf r) (bytes d) in
+    let b = size-bytes r in
+    either (made + size r) room
+    (λ f. let x = over-lacks d (made + size r) room f (omega arith) in (x .0, inr (f, x .1)))
+    (λ f. (q, inl (f, refl)))
+
+-- and one alone
+pub one-lack : (d : Due) (made room : ℕ) {p q : ℕ} → Lacks d made room p → Lacks d made room q → p ≡ q
+one-lack (end n) made room g h = absurd g
+one-lack (stop a w) made room g h = absurd g
+one-lack (due r w d) made room g h =
+    ⊎-elim (λ x. ⊎-elim (λ y. x .1 ∙ sym (y .1)) (λ y. absurd (omega (arith, x .0, y .0))) h)
+    (λ x. ⊎-elim (λ y. absurd (omega (arith, x .0, y .0))) (λ y. one-lack d (made + size r) room (x .1) (y .1)) h) g
+
+-- something holds of every record and the place at which it is due
+abbrev pub AllDue : (Record → ℕ → Type 0) → Due → Type 0
+AllDue P (end n) = Unit {0}
+AllDue P (stop a p) = Unit {0}
+AllDue P (due r p d) = P r p × AllDue P d
+
+pub due-map : {P Q : Record → ℕ → Type 0} (d : Due) → ((r : Record) (p : ℕ) → P r p → Q r p) → AllDue P d → AllDue Q d
+due-map (end n) f h = tt
+due-map (stop a p) f h = tt
+due-map (due r p d) f h = (f r p (h .0), due-map d f (h .1))
+
+pub due-bind : (P : Record → ℕ → Type 0) (d : Due) (k : ℕ → Due) → AllDue P d → ((n : ℕ) → Ends d n → AllDue P (k n)) → AllDue P (d >>= k)
+due-bind P (end n) k h f = f n refl
+due-bind P (stop a p) k h f = h
+due-bind P (due r p d) k h f = (h .0, due-bind P d k (h .1) f)
+
+-- so of the first that has no room, and its place
+pub due-lacks : (P : Record → ℕ → Type 0) (d : Due) (made room p : ℕ) → AllDue P d → Lacks d made room p → (r : Record) × P r p
+due-lacks P (end n) made room p h l = absurd l
+due-lacks P (stop a q) made room p h l = absurd l
+due-lacks P (due r q d) made room p h l = ⊎-elim (λ x. (r, rw (x .1) (h .0))) (λ x. due-lacks P d (made + size r) room p (h .1) (x .1)) l
+
+-- the reading carried out stops there
+pub run-lacks : (d : Due) (made : ℕ) (image : List ℕ) {p : ℕ} → Lacks d made (length image) p → run d made image .step ≡ Stop 4 p
+unfolding run
+run-lacks (end n) made image h = absurd h
+run-lacks (stop a q) made image h = absurd h
+run-lacks (due r q d) made image {p} h =
+    ⊎-elim (λ x. rw (lt-leb (made + size r) (length image) (x .0)) (ap (Stop 4) (sym (x .1))))
+    (λ x.
+    let i : List ℕ = sets image made (bytesOf r) in
+    let more : Lacks d (made + size r) (length i) p = rw (length-sets image made (bytesOf r)) (x .1) in
+    rw (le-leb (made + size r) (length image) (x .0)) (run-lacks d (made + size r) i more)) h
 
 -- a reading that goes on has laid all its bytes, and ends there
 pub run-went : (d : Due) (made : ℕ) (image : List ℕ) {c : Cursor} {m : ℕ} {i : List ℕ} → ran (Next c m) i ≡ run d made image
@@ -138,6 +186,13 @@ run-stopped (due r q d) made image {a} {p} {i} e ne =
 
 -- ---- what it comes to
 
+-- the answer of a result, and the bytes that it used or its place
+abbrev pub answer-of : Whole → ℕ
+answer-of w = w .reading .answer
+
+abbrev pub used-of : Whole → ℕ
+used-of w = w .reading .used
+
 abbrev ending : Ran → Whole
 ending x = finished (x .step) (x .image)
 
@@ -147,46 +202,82 @@ take-sets l i x y h =
     let same : (take i l ++ (x ++ y)) ++ drop (i + length (x ++ y)) l ≡ (take i l ++ x) ++ (y ++ drop (i + length (x ++ y)) l) = simp append-assoc in
     rw (sets-eq (x ++ y) l i h) (ap (take (i + length x)) same ∙ take-at (take i l ++ x) (y ++ drop (i + length (x ++ y)) l) (i + length x) (rw (length-append, length-take-le i l (omega arith))))
 
+module _ (f : ℕ → List ℕ → Whole) (g : ℕ → ℕ → Whole) where
+  -- a reading with room for all its records
+  pub in-room-fits : (room : ℕ) (b : List ℕ) (d : Due) → length b + length (bytes d) ≤ room → inRoom room b d f g ≡ onEnd d (λ n. f n (b ++ bytes d)) g
+  unfolding inRoom bytes
+  in-room-fits room b (end n) h = ap (f n) (sym (append-nil b))
+  in-room-fits room b (stop a p) h = refl
+  in-room-fits room b (due r p d) h =
+      let l = length-append (bytesOf r) (bytes d) in
+      let m = length-append b (bytesOf r) in
+      let k = size-bytes r in
+      pick-yes (length b + size r) room _ _ (omega arith)
+      ∙ (in-room-fits room (b ++ bytesOf r) d (omega arith) ∙ rw (append-assoc b (bytesOf r) (bytes d)))
+
+  -- and without
+  pub in-room-lacks : (room : ℕ) (b : List ℕ) (d : Due) {p : ℕ} → Lacks d (length b) room p → inRoom room b d f g ≡ refused 4 p
+  unfolding inRoom
+  in-room-lacks room b (end n) h = absurd h
+  in-room-lacks room b (stop a q) h = absurd h
+  in-room-lacks room b (due r q d) {p} h =
+      ⊎-elim (λ x. pick-no (length b + size r) room _ _ (x .0) ∙ ap (refused 4) (sym (x .1)))
+      (λ x.
+      let same : length b + size r ≡ length (b ++ bytesOf r) = omega (arith, length-append b (bytesOf r), size-bytes r) in
+      pick-yes (length b + size r) room _ _ (x .0) ∙ in-room-lacks room (b ++ bytesOf r) d (rw same at (x .1))) h
+
+-- what a reading comes to whose records, with the bytes b, have room
+abbrev pub ended : Due → List ℕ → Whole
+ended d b = onEnd d (λ n. accepted n b) refused
+
+module _ (d : Due) (room : ℕ) where
+  pub settled-fits : length (bytes d) ≤ room → settled d room ≡ ended d (bytes d)
+  settled-fits h = in-room-fits accepted refused room [] d (omega arith)
+
+  pub settled-lacks : {p : ℕ} → Lacks d 0 room p → settled d room ≡ refused 4 p
+  settled-lacks h = in-room-lacks accepted refused room [] d h
+
+-- a refusal before any record
+pub settled-stop : (a p room : ℕ) → settled (stop a p) room ≡ refused a p
+unfolding inRoom
+settled-stop a p room = refl
+
 -- where there is room
 ended-ran : (d : Due) (m : ℕ) (i b : List ℕ) → take m i ≡ b → m ≡ length b → finished (onEnd d (λ n. Next (to n) m) Stop) i ≡ ended d b
-unfolding ended
 ended-ran (end n) m i b e l = rw (e, l)
 ended-ran (stop a p) m i b e l = refl
 ended-ran (due r p d) m i b e l = ended-ran d m i b e l
 
 -- from an empty image
 pub finished-run : (d : Due) (image : List ℕ) → finished (run d 0 image .step) (run d 0 image .image) ≡ settled d (length image)
-unfolding settled
 finished-run d image =
-    picked (λ (w : Whole). ending (run d 0 image) ≡ w) (leb (length (bytes d)) (length image)) _ _
-    (λ t.
-    let h = leb-true (length (bytes d)) (length image) t in
-    ap ending (run-fits d 0 image (omega arith)) ∙ ended-ran d (0 + length (bytes d)) (sets image 0 (bytes d)) (bytes d) (rw append-nil at (take-sets image 0 (bytes d) [] (rw append-nil (omega arith)))) (omega arith))
-    (λ t. ap ending (run-over d 0 image (omega arith) (omega (arith, leb-false (length (bytes d)) (length image) t)) .same))
+    either (length (bytes d)) (length image)
+    (λ h.
+    ap ending (run-fits d 0 image (omega arith))
+    ∙ (ended-ran d (0 + length (bytes d)) (sets image 0 (bytes d)) (bytes d) (rw append-nil at (take-sets image 0 (bytes d) [] (rw append-nil (omega arith)))) (omega arith)
+    ∙ sym (settled-fits d (length image) h)))
+    (λ h.
+    let x = over-lacks d 0 (length image) (omega arith) (omega arith) in
+    rw (run-lacks d 0 image (x .1)) (sym (settled-lacks d (length image) (x .1))))
 
 -- the same of a step that is known to be what the reading comes to
 pub finished-ran : (d : Due) (image : List ℕ) {x : Step} {i : List ℕ} → ran x i ≡ run d 0 image → finished x i ≡ settled d (length image)
 finished-ran d image e = ap ending e ∙ finished-run d image
 
--- a refusal before any record
-pub settled-stop : (a p room : ℕ) → settled (stop a p) room ≡ refused a
-unfolding settled bytes ended
-settled-stop a p room = pick-yes 0 room _ _ (omega arith)
-
 -- ---- an input that has to be used to its end
 
 module _ (s : List ℕ) where
-  pub all-refused : (a : ℕ) → a ≢ 0 → all s (refused a) ≡ refused a
-  all-refused a h = rw (ne-eqb a 0 h)
+  pub all-refused : (a p : ℕ) → a ≢ 0 → all s (refused a p) ≡ refused a p
+  all-refused a p h = rw (ne-eqb a 0 h)
 
   module _ (w : Whole) where
-    pub all-left : w .reading .answer ≡ 0 → w .reading .used < length s → all s w ≡ refused 3
+    pub all-left : w .reading .answer ≡ 0 → w .reading .used < length s → all s w ≡ refused 3 (w .reading .used)
     all-left a l = rw a (pick-no (length s) (w .reading .used) _ _ l)
 
     pub all-used : w .reading .answer ≡ 0 → length s ≤ w .reading .used → all s w ≡ w
     all-used a l = rw a (pick-yes (length s) (w .reading .used) _ _ l)
 
-    pub all-cases : (P : Whole → Type 0) → (w .reading .answer ≢ 0 → P w) → (w .reading .answer ≡ 0 → w .reading .used < length s → P (refused 3))
+    pub all-cases : (P : Whole → Type 0) → (w .reading .answer ≢ 0 → P w) → (w .reading .answer ≡ 0 → w .reading .used < length s → P (refused 3 (w .reading .used)))
         → (w .reading .answer ≡ 0 → length s ≤ w .reading .used → P w) → P (all s w)
     all-cases P f g h =
         picked P (eqb (w .reading .answer) 0) _ _

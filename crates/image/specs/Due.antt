@@ -1,6 +1,6 @@
 -- A reading, with no word of room: the records in the order in which they fall due, each with the place that a refusal for room would name, and how
 -- the reading ends.
-use Rattle.wire.specs.Kit.{ℕ, _+_, _≤_, _≡_, List, length, sets, leb}
+use Rattle.wire.specs.Kit.{ℕ, _+_, _≤_, _<_, _≡_, _⊎_, List, length, sets, leb}
 use Rattle.wire.specs.Choice.{pick}
 use Rattle.wire.specs.Field.{to}
 use Rattle.wire.specs.declared.cursor.Cursor.{Cursor}
@@ -48,6 +48,12 @@ abbrev pub Stops : Due → ℕ → ℕ → Type 0
 Stops (end n) a p = ⊥
 Stops (stop b q) a p = (a ≡ b) × (p ≡ q)
 Stops (due r q d) a p = Stops d a p
+
+-- behind so many bytes, not all records of the reading have room, and the first that has none is due at p
+abbrev pub Lacks : Due → (made room place : ℕ) → Type 0
+Lacks (end n) made room p = ⊥
+Lacks (stop a q) made room p = ⊥
+Lacks (due r q d) made room p = ((room < made + size r) × (p ≡ q)) ⊎ ((made + size r ≤ room) × Lacks d (made + size r) room p)
 
 -- what is made of how a reading ends: of where it ended, or of the answer that refused it and the place
 abbrev pub onEnd : {A : Type 0} → Due → (ℕ → A) → (ℕ → ℕ → A) → A

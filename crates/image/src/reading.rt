@@ -23,7 +23,7 @@ pub enum Step {
     Stop(u8, usize),
 }
 
-// What a public reading returns.
+// What a public reading returns: the answer, the bytes used, or on a refusal the place, and the image bytes made.
 pub struct Reading {
     pub answer: u8,
     pub used: usize,
@@ -305,7 +305,7 @@ pub fn clear(image: &mut [u8], from: usize)
     }
 }
 
-// The end of a reading: what is past the made part is cleared, all of it where the reading was refused.
+// The end of a reading: what is past the made part is cleared, all of it where the reading was refused, and the place is then returned for the bytes used.
 pub fn finish(image: &mut [u8], x: Step) -> Reading
     ensures { λ r. ⌜ r ≡ finished x (now (image .entry)) .reading ⌝ }
     ensures { λ r. ⌜ now (image .exit) ≡ padded (finished x (now (image .entry)) .bytes) (length (now (image .entry))) ⌝ }
@@ -319,11 +319,11 @@ pub fn finish(image: &mut [u8], x: Step) -> Reading
                 made: made,
             }
         }
-        Step::Stop(a, _) => {
+        Step::Stop(a, p) => {
             clear(image, 0);
             Reading {
                 answer: a,
-                used: 0,
+                used: p,
                 made: 0,
             }
         }

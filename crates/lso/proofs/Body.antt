@@ -11,19 +11,19 @@ use Rattle.wire.specs.Limit as limit
 use Rattle.wire.proofs.Laws.{tag-next, tag-stop}
 use Rattle.wire.proofs.Stands.{go32, goText}
 use Rattle.image.specs.declared.record.Record.{Record}
-use Rattle.image.specs.declared.record.Record.the-variants.{Key}
+use Rattle.image.specs.declared.record.Record.the-variants.{Key, Lso}
 use Rattle.image.specs.Record.{bytesOf}
 use Rattle.image.specs.declared.reading.Step.the-variants.{Next, Stop}
 use Rattle.image.specs.Due.{Due, end, stop, due, _>>=_, Ends, Stops, onEnd, ran, run}
 use Rattle.image.specs.Whole.{bytes}
 use Rattle.image.proofs.Laws.{size-bytes, size-some, run-then, run-halt}
-use Rattle.image.proofs.Settle.{on-case, one-end, ends-not, run-went, run-stopped}
+use Rattle.image.proofs.Settle.{on-case, one-end, ends-not, AllDue, due-bind, run-went, run-stopped}
 use Rattle.amf0.specs.Reading.{topValue}
-use Rattle.amf0.proofs.Reasons.{Named, two, three, Kept, fewer, bind-kept, small}
+use Rattle.amf0.proofs.Reasons.{Named, two, three, Kept, fewer, bind-kept, small, due-inside}
 use Rattle.amf0.proofs.Reasons as values
 use Rattle.lso.specs.File.{version, signature}
-use Rattle.lso.specs.Reading.{headerAt, closing, keyedAt, elementAt, Element, Body, takes, tries, bodyAt, kept}
-use Rattle.lso.specs.Code.{dueIn, runBody}
+use Rattle.lso.specs.Reading.{headerAt, closing, keyedAt, elementAt, Element, Body, takes, tries, bodyAt, kept, dueIn, everDue}
+use Rattle.lso.specs.Code.{runBody}
 use Rattle.lso.proofs.Laws.{element-cut, element-key}
 use Rattle.lso.proofs.Stands.{Either, goTag, goZeros}
 
@@ -35,14 +35,14 @@ field-named (inr e) = rw e three
 
 -- it stops before its record, with 2 or 3, or its record is due at its end
 pub header-case : (P : Due → Type 0) (s : List ℕ) → ((a p : ℕ) → Either a → P (stop a p))
-    → ((r : Record) (g : ℕ) → length (bytesOf r) ≤ 3 * g → g ≤ length s → P (due r 0 (end g))) → P (headerAt s)
+    → ((stored p n g : ℕ) → length (bytesOf (Lso stored p n)) ≤ 3 * g → g ≤ length s → P (due (Lso stored p n) 0 (end g))) → P (headerAt s)
 unfolding headerAt bytesOf
 header-case P s halts reads =
     goTag P stop s 0 version _ (omega arith)
     (λ h i. go32 P stop s 2 _
     (λ j. goTag P stop s 6 signature _ j
     (λ g k. goText P stop s 16 2 _
-    (λ n e l u. goZeros P stop s 4 (18 + n) _ l (λ q f w m. reads _ q (omega arith) m) halts)
+    (λ n e l u. goZeros P stop s 4 (18 + n) _ l (λ q f w m. reads _ _ _ q (omega arith) m) halts)
     (λ l. halts 2 16 (inl refl)) (λ n e l m. halts 2 18 (inl refl)) (λ n e l u. halts 3 18 (inr refl))) halts)
     (λ l. halts 2 2 (inl refl))) halts
 
@@ -57,15 +57,16 @@ module _ (s : List ℕ) where
   unfolding bytes
   header-ends p =
       header-case (λ d. Ends d p → Headed d p) s (λ a q x e. absurd e)
-      (λ r g l m e.
-      let n = length-append (bytesOf r) [] in
+      (λ stored p n g l m e.
+      let r : Record = Lso stored p n in
+      let k = length-append (bytesOf r) [] in
       let b = size-bytes r in
       let o = size-some r in
       record { small = omega arith; some = omega arith; within = omega arith })
 
   pub header-stops : (a p : ℕ) → Stops (headerAt s) a p → Either a × (bytes (headerAt s) ≡ [])
   unfolding bytes
-  header-stops a p = header-case (λ d. Stops d a p → Either a × (bytes d ≡ [])) s (λ b q x e. (rw (e .0) x, refl)) (λ r g l m e. absurd e)
+  header-stops a p = header-case (λ d. Stops d a p → Either a × (bytes d ≡ [])) s (λ b q x e. (rw (e .0) x, refl)) (λ stored o n g l m e. absurd e)
 
 -- ---- an element
 
@@ -85,9 +86,11 @@ element-kept : (s : List ℕ) (at : ℕ) → at ≤ length s → Kept s (3 * at)
 unfolding elementAt bytesOf
 element-kept s at h = goText (Kept s (3 * at)) stop s at 2 _
     (λ n e i u.
-    let q : ℕ = at + 2 + n in
-    fewer s (3 * at + 6) (3 * q) (topValue s q >>= closing s) (omega arith)
-    (bind-kept s (3 * q) (topValue s q) (closing s) (values.kept limit.levels s q i) (λ m l. closing-kept s m)))
+    let q : ℕ = at + 2 + n in (
+      h,
+      fewer s (3 * at + 6) (3 * q) (topValue s q >>= closing s) (omega arith)
+          (bind-kept s (3 * q) (topValue s q) (closing s) (values.kept limit.levels s q i) (λ m l. closing-kept s m)),
+    ))
     (λ i. (omega arith, two, h)) (λ n e i j. (omega arith, two, i)) (λ n e i u. (omega arith, three, omega arith))
 
 -- what that says of a reading that ends, and of one that stops
@@ -95,12 +98,12 @@ ends-kept : (s : List ℕ) (c n : ℕ) (d : Due) → Kept s c d → Ends d n →
 unfolding bytes
 ends-kept s c n (end m) k e = (omega arith, omega arith)
 ends-kept s c n (stop a p) k e = absurd e
-ends-kept s c n (due r p d) k e = let f = ends-kept s (c + length (bytesOf r)) n d k e in (omega (arith, length-append (bytesOf r) (bytes d)), f .1)
+ends-kept s c n (due r p d) k e = let f = ends-kept s (c + length (bytesOf r)) n d (k .1) e in (omega (arith, length-append (bytesOf r) (bytes d)), f .1)
 
 stops-kept : (s : List ℕ) (c a p : ℕ) (d : Due) → Kept s c d → Stops d a p → Named a
 stops-kept s c a p (end m) k e = absurd e
 stops-kept s c a p (stop b q) k e = rw (e .0) (k .1)
-stops-kept s c a p (due r q d) k e = stops-kept s (c + length (bytesOf r)) a p d k e
+stops-kept s c a p (due r q d) k e = stops-kept s (c + length (bytesOf r)) a p d (k .1) e
 
 -- ---- the body
 
@@ -186,6 +189,28 @@ module _ (s : List ℕ) where
   -- the body behind a header
   pub behind : (p : ℕ) → Ends (headerAt s) p → Ended s p (bodyAt s (length s) p)
   behind p e = body-ended (length s) p (omega arith) (header-ends s p e .within)
+
+-- what holds of every record of an element, wherever it stands, holds of those of elements in a row, and of what is tried behind them
+row-due : (P : Record → ℕ → Type 0) (s : List ℕ) → ((at : ℕ) → at ≤ length s → AllDue P (elementAt s at)) → {at n : ℕ} {es : List Element} → Row s at es n
+    → at ≤ length s → AllDue P (dueIn es (elementAt s n))
+row-due P s f {at} Row.none l = f at l
+row-due P s f {at} {n} (Row.more {e} {es} t r) l =
+    rw (t .read)
+    (due-bind P (elementAt s at) (λ m. dueIn es (elementAt s n)) (f at l)
+    λ m i. row-due P s f r (ends-kept s (3 * at) _ (elementAt s at) (element-kept s at l) (t .ends) .1))
+
+module _ (P : Record → ℕ → Type 0) (s : List ℕ) (f : (at : ℕ) → at ≤ length s → AllDue P (elementAt s at)) (g : (stored p n : ℕ) → P (Lso stored p n) 0)
+    (p : ℕ) (e : Ends (headerAt s) p) where
+  -- so it does, with the file's own record, of all that ever falls due
+  pub ever-due : AllDue P (everDue s p)
+  ever-due =
+      let t = behind s p e in
+      due-bind P (headerAt s) _ (header-case (AllDue P) s (λ a q x. tt) (λ stored o n q l m. (g stored o n, tt)))
+      (λ n i. rw (t .tried) (row-due P s f (t .row) (header-ends s p e .within)))
+
+-- every place at which a record falls due is inside
+pub ever-inside : (s : List ℕ) (p : ℕ) → Ends (headerAt s) p → AllDue (λ r q. q ≤ length s) (everDue s p)
+ever-inside s = ever-due (λ r q. q ≤ length s) s (λ at l. due-inside s (3 * at) (elementAt s at) (element-kept s at l)) (λ stored p n. omega arith)
 
 -- ---- the body carried out
 

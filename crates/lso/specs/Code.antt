@@ -1,22 +1,17 @@
 -- What the reader's steps come to on an image: all that falls due in a body is carried out, and the last is dropped where it gives 2 or 3. What the writer's
 -- steps put out.
-use Rattle.wire.specs.Kit.{ℕ, List, length, leb, eqb, _+_, [], _∷_}
+use Rattle.wire.specs.Kit.{ℕ, List, length, leb, eqb, _+_}
 use Rattle.wire.specs.Choice.{pick}
 use Rattle.wire.specs.Limit as limit
 use Rattle.wire.specs.Field.{to}
 use Rattle.image.specs.declared.reading.Step.{Step}
 use Rattle.image.specs.declared.reading.Step.the-variants.{Next, Stop}
 use Rattle.image.specs.Kind as kind
-use Rattle.image.specs.Due.{Ran, ran, run, Due, _>>=_}
+use Rattle.image.specs.Due.{Ran, ran, run}
 use Rattle.image.specs.Out.{Out, end, row}
 use Rattle.amf0.specs.Writing.{asked}
-use Rattle.lso.specs.Reading.{headerAt, Element, Body, bodyAt, kept}
+use Rattle.lso.specs.Reading.{headerAt, Body, bodyAt, kept, dueIn}
 use Rattle.lso.specs.Writing.{keying}
-
--- all that falls due in a body: what its elements gave, and then what was tried
-abbrev pub dueIn : List Element → Due → Due
-dueIn [] d = d
-dueIn (e ∷ es) d = e .read >>= λ n. dueIn es d
 
 -- an element that gave 2 or 3 ends the body before it
 abbrev pub dropped : Step → List ℕ → ℕ → ℕ → Ran

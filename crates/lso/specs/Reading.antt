@@ -7,7 +7,7 @@ use Rattle.wire.specs.declared.cursor.Tag.{Tag}
 use Rattle.wire.specs.declared.cursor.Tag.the-variants as Tag
 use Rattle.image.specs.declared.record.Record.the-variants.{Key, Lso}
 use Rattle.image.specs.Due.{Due, end, stop, due, _>>=_, onEnd}
-use Rattle.image.specs.Whole.{Whole, bytes, accepted, refused, all}
+use Rattle.image.specs.Whole.{Whole, bytes, accepted, refused, inRoom, all}
 use Rattle.amf0.specs.Reading.{topValue}
 use Rattle.lso.specs.File.{version, signature}
 
@@ -77,27 +77,29 @@ abbrev pub kept : List Element → List ℕ
 kept [] = []
 kept (e ∷ es) = bytes (e .read) ++ kept es
 
+-- all that falls due in a body: what its elements gave, and then what was tried
+abbrev pub dueIn : List Element → Due → Due
+dueIn [] d = d
+dueIn (e ∷ es) d = e .read >>= λ n. dueIn es d
+
 -- ---- what a reading comes to
 
+-- all that falls due behind a header that ends at p, and in it
+abbrev pub everDue : List ℕ → ℕ → Due
+everDue s p = let b = bodyAt s (length s) p in headerAt s >>= λ q. dueIn (b .elements) (b .tried)
+
 -- 2 and 3 end the body; any other answer ends the call
-abbrev pub halted : ℕ → Whole → Whole
-halted a w = pick (eqb a 2) w (pick (eqb a 3) w (refused a))
+abbrev pub halted : (answer place : ℕ) → Whole → Whole
+halted a p w = pick (eqb a 2) w (pick (eqb a 3) w (refused a p))
 
--- where the header's records and the body's have room, and also those of the element that was tried and is dropped
-abbrev pub settle : List ℕ → Body → ℕ → Whole
-settle h b room =
-    let w = accepted (b .at) (h ++ kept (b .elements)) in
-    pick (leb (length (h ++ (kept (b .elements) ++ bytes (b .tried)))) room) (onEnd (b .tried) (λ n. w) (λ a p. halted a w)) (refused 4)
-
--- the bytes of all records that fall due behind a header that ends at p, those of the element that is dropped too
-abbrev pub everDue : List ℕ → ℕ → List ℕ
-everDue s p = let b = bodyAt s (length s) p in bytes (headerAt s) ++ (kept (b .elements) ++ bytes (b .tried))
+-- behind a header that ends at p: all of that needs room, also the records of the element that was tried and is dropped
+abbrev pub settle : List ℕ → ℕ → ℕ → Whole
+settle s p room =
+    let b = bodyAt s (length s) p in
+    inRoom room [] (everDue s p) accepted λ a q. halted a q (accepted (b .at) (bytes (headerAt s) ++ kept (b .elements)))
 
 unfoldable pub incompleteOf : List ℕ → ℕ → Whole
-incompleteOf s room =
-    pick (leb (length s) limit.bytes)
-    (onEnd (headerAt s) (λ p. settle (bytes (headerAt s)) (bodyAt s (length s) p) room) (λ a p. refused a))
-    (refused 1)
+incompleteOf s room = pick (leb (length s) limit.bytes) (onEnd (headerAt s) (λ p. settle s p room) refused) (refused 1 0)
 
 -- the whole reading: bytes left over are 3, after everything else
 unfoldable pub wholeOf : List ℕ → ℕ → Whole

@@ -7,7 +7,7 @@ use Rattle.wire.specs.Limit as limit
 use Rattle.wire.proofs.Stands.{bytes-left}
 use Rattle.image.specs.Whole.{refused}
 use Rattle.image.specs.Due.{Ends, Stops}
-use Rattle.image.proofs.Settle.{ends-or-stops, one-end, ends-not}
+use Rattle.image.proofs.Settle.{either, ends-or-stops, one-end, ends-not}
 use Rattle.amf0.specs.Standard.{Sort, Tree, depth, UTF-8, Encodes}
 use Rattle.amf0.specs.Standard.UTF-8.{short}
 use Rattle.amf0_theorems.specs.Refusal.{Field, InText, Refuses}
@@ -16,7 +16,6 @@ use Rattle.amf0_theorems.proofs.Refused.{still-refused}
 use Rattle.amf0_theorems.proofs.Refusals.{beginning-refused}
 use Rattle.lso.specs.Reading.{headerAt, incompleteOf, wholeOf}
 use Rattle.lso.specs.File.{Body, Lso, Elements, File, deepest, version, signature, padding}
-use Rattle.lso.proofs.Settle.{either}
 use Rattle.lso.proofs.Outcome.{whole-refused}
 use Rattle.lso_theorems.specs.Refusal.{LeadsElement, RefusedHeader, RefusedElement, Halts, Heads, PartOfElement, Parts, WholeIn}
 use Rattle.lso_theorems.proofs.Complete.{element-more, header-reads}
@@ -69,11 +68,11 @@ module _ (x r : List ℕ) (p : ℕ) (bs : Bytes (x ++ r)) (h : Heads (x ++ r) p)
 
 -- A proper beginning of a header, that is, of the bytes before the first element, is refused with 2 by both readings, whatever the room.
 pub beginning-header : (x r : List ℕ) (p room : ℕ) → Bytes (x ++ r) → Heads (x ++ r) p → length x < p → length x ≤ limit.bytes
-    → (incompleteOf x room ≡ refused 2) × (wholeOf x room ≡ refused 2)
+    → (q : ℕ) × (incompleteOf x room ≡ refused 2 q) × (wholeOf x room ≡ refused 2 q)
 beginning-header x r p room bs h l i =
     let t = header-short x r p bs h l in
     let e = refused-header x room i 2 (t .0) (t .1) in
-    (e, sym (whole-refused x room 2 (sym e)))
+    (t .0, e, sym (whole-refused x room 2 (t .0) (sym e)))
 
 -- ---- rows that begin alike
 

@@ -1,5 +1,6 @@
--- `Theorems` has what is proved of the readings, `Reasons` why they are refused, `Beginning` what the beginnings of a file come to, `WriteTheorems` what is
--- proved of the writing and of the round trip, and `Room` the round trip in every room. The files below each are what it is proved by.
+-- `Theorems` has what is proved of the readings, `Reasons` and `Dues` why and where they are refused, `Beginning` what the beginnings of a file
+-- come to, `WriteTheorems` what is proved of the writing and of the round trip, and `Room` the round trip in every room. The files below each are what it is
+-- proved by.
 pub mod Theorems
 pub mod Complete
 pub mod Sound
@@ -17,3 +18,4 @@ pub mod WriteRefusal
 pub mod WriteRefusing
 pub mod WriteReasons
 pub mod Room
+pub mod Dues

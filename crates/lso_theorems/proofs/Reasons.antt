@@ -1,11 +1,11 @@
 -- Why the two readings of a file are refused or accepted, by the grammar of refusals.
 use Rattle.wire.proofs.Kit.{ℕ, _≤_, _<_, _≡_, refl, sym, ap, _∙_, _↔_, _⊎_, inl, inr, ⊎-elim, List, arith, length, take}
 use Rattle.wire.specs.Number.{Bytes}
-use Rattle.amf0_theorems.proofs.More.{all-iff}
+use Rattle.amf0_theorems.proofs.More.{all-refusal}
 use Rattle.wire.specs.Limit as limit
 use Rattle.image.specs.Due.{Ends, Stops}
-use Rattle.image.specs.Whole.{Whole, accepted}
-use Rattle.image.proofs.Settle.{all-cases}
+use Rattle.image.specs.Whole.{Whole, bytes, accepted, refused}
+use Rattle.image.proofs.Settle.{all-cases, answer-of, used-of}
 use Rattle.lso.specs.File.{Lso}
 use Rattle.lso.specs.Reading.{headerAt, elementAt, bodyAt, everDue, incompleteOf, wholeOf}
 use Rattle.lso.proofs.Outcome.{incomplete-cases}
@@ -17,16 +17,15 @@ use Rattle.lso_theorems.proofs.Theorems.{unique, three-incomplete, refu
 use Rattle.lso_theorems.proofs.WriteOutcome.{made}
 
 -- room for all that falls due behind a header, and an element behind the elements that stand that is too deep
-module _ (s : List ℕ) (room : ℕ) (bs : Bytes s) (p : ℕ) (f : Ends (headerAt s) p) (j : length (everDue s p) ≤ room) where
+module _ (s : List ℕ) (room : ℕ) (bs : Bytes s) (p : ℕ) (f : Ends (headerAt s) p) (j : length (bytes (everDue s p)) ≤ room) where
   roomy : Roomy s room
   roomy = record { header = p; heads = end-heads s bs p f; enough = j }
 
-  too-deep : (q : ℕ) → Stops (elementAt s (bodyAt s (length s) p .at)) 5 q → TooDeep s room
+  too-deep : (q : ℕ) → Stops (elementAt s (bodyAt s (length s) p .at)) 5 q → TooDeep s room q
   too-deep q g =
       record {
         lso = file-sound s bs p f .0;
         used = _;
-        place = q;
         roomy = roomy;
         begins = file-sound s bs p f .1;
         refused = element-refused s bs _ 5 q .0 g;
@@ -37,7 +36,7 @@ accepted-is : (s : List ℕ) (room : ℕ) → incompleteOf s room .reading .answ
     → incompleteOf s room ≡ accepted (incompleteOf s room .reading .used) (incompleteOf s room .bytes)
 accepted-is s room =
     incomplete-cases s room (λ w. w .reading .answer ≡ 0 → w ≡ accepted (w .reading .used) (w .bytes)) (λ i e. absurd (omega arith))
-    (λ i a q f n e. absurd (⊎-elim (λ y. omega arith) (λ y. omega arith) n)) (λ i p f j e. absurd (omega arith)) (λ i p f j q g e. absurd (omega arith))
+    (λ i a q f n e. absurd (⊎-elim (λ y. omega arith) (λ y. omega arith) n)) (λ i p f q j e. absurd (omega arith)) (λ i p f j q g e. absurd (omega arith))
     (λ i p f j a q x g e. refl)
 
 -- The incomplete reading is refused for the limit, its header, the room or a value too deep, and is else accepted up to where no further element can be
@@ -45,7 +44,7 @@ accepted-is s room =
 pub reasons-incomplete : (s : List ℕ) (room : ℕ) → Bytes s → Comes s room (incompleteOf s room)
 reasons-incomplete s room bs =
     incomplete-cases s room (Comes s room) Comes.over-limit (λ i a q f n. Comes.no-header i (header-refused s a q bs .0 f))
-    (λ i p f j. Comes.no-room i (end-heads s bs p f) j)
+    (λ i p f q j. Comes.no-room i (end-heads s bs p f) j)
     (λ i p f j q g. Comes.too-deep i (too-deep s room bs p f j q g))
     (λ i p f j a q x g.
     let b = file-sound s bs p f .1 in
@@ -57,7 +56,7 @@ unfolding wholeOf
 reasons-whole s room bs =
     let c = reasons-incomplete s room bs in
     all-cases s (incompleteOf s room) (ComesWhole s room)
-    (λ n. let e = refused-empty-incomplete s room n in rw e (ComesWhole.not-read {a = incompleteOf s room .reading .answer} (omega arith) (rw e at c)))
+    (λ n. let e = refused-empty-incomplete s room n in rw e (ComesWhole.not-read {a = incompleteOf s room .reading .answer} {place = incompleteOf s room .reading .used} (omega arith) (rw e at c)))
     (λ a l. ComesWhole.left-over (rw (accepted-is s room a) at c) l)
     (λ a l.
     let u = sound-incomplete s room bs a .means .used in
@@ -98,37 +97,36 @@ one-reached s room f g m n bs h a b =
     let same : m ≡ n = sym (reached s room f m bs h a .used) ∙ reached s room g n bs h b .used in
     (unique f g (take n s) (rw same at (a .begins .file)) (b .begins .file), same)
 
--- Within the limit, the answer of the whole reading is 3 exactly where the header is refused with 3, or where the incomplete reading is accepted and bytes
--- remain behind the file.
-pub three-whole : (s : List ℕ) (room : ℕ) → Bytes s → length s ≤ limit.bytes
-    → wholeOf s room .reading .answer ≡ 3
-    ↔ ((p : ℕ) × RefusedHeader s 3 p) ⊎ ((f : Lso) × (n : ℕ) × Reaches s room f n × (n < length s))
+-- Within the limit, the whole reading is refused with 3 at a place exactly where the header is, or where the incomplete reading is accepted up to that place and
+-- bytes remain behind the file.
+pub three-whole : (s : List ℕ) (room p : ℕ) → Bytes s → length s ≤ limit.bytes
+    → wholeOf s room ≡ refused 3 p ↔ RefusedHeader s 3 p ⊎ ((f : Lso) × Reaches s room f p × (p < length s))
 unfolding wholeOf
-three-whole s room bs h =
-    let x = three-incomplete s room bs h in
-    let Q : Type 0 = (f : Lso) × (n : ℕ) × Reaches s room f n × (n < length s) in
-    let accepted : Q → incompleteOf s room .reading .answer ≡ 0 = λ t. reached s room (t .0) (t .1) bs h (t .2) .answer in
-    all-cases s (incompleteOf s room) (λ w. w .reading .answer ≡ 3 ↔ ((p : ℕ) × RefusedHeader s 3 p) ⊎ Q)
-    (λ n. (λ e. inl (x .0 e), ⊎-elim (x .1) (λ t. absurd (n (accepted t)))))
-    (λ a l. let r = reaches s room bs a in (λ e. inr (r .0, incompleteOf s room .reading .used, r .1, l), λ t. refl))
+three-whole s room p bs h =
+    let x = three-incomplete s room p bs h in
+    let Q : Type 0 = (f : Lso) × Reaches s room f p × (p < length s) in
+    let accepts : Q → incompleteOf s room .reading .answer ≡ 0 = λ t. reached s room (t .0) p bs h (t .1) .answer in
+    let used : Q → incompleteOf s room .reading .used ≡ p = λ t. reached s room (t .0) p bs h (t .1) .used in
+    all-cases s (incompleteOf s room) (λ w. w ≡ refused 3 p ↔ RefusedHeader s 3 p ⊎ Q)
+    (λ n. (λ e. inl (x .0 e), ⊎-elim (x .1) (λ t. absurd (n (accepts t)))))
     (λ a l. (
-      λ e. absurd (omega arith),
-      ⊎-elim (λ r. absurd (omega (arith, x .1 r)))
-          (λ t. let u = reached s room (t .0) (t .1) bs h (t .2) .used in absurd (omega (arith, t .3))),
+      λ e. let r = reaches s room bs a in let u = ap used-of e in inr (r .0, rw u at (r .1), omega (arith, u)),
+      ⊎-elim (λ r. absurd (omega (arith, a, ap answer-of (x .1 r)))) (λ t. ap (refused 3) (used t)),
     ))
+    (λ a l. (λ e. absurd (omega (arith, a, ap answer-of e)), ⊎-elim (λ r. absurd (omega (arith, a, ap answer-of (x .1 r)))) (λ t. absurd (omega (arith, used t, t .2)))))
 
--- Within the limit, the answer of the incomplete reading is 5 exactly where, given room, the element behind the elements that stand is refused with 5.
-pub five-incomplete : (s : List ℕ) (room : ℕ) → Bytes s → length s ≤ limit.bytes → incompleteOf s room .reading .answer ≡ 5 ↔ TooDeep s room
-five-incomplete s room bs h = (
-  incomplete-cases s room (λ w. w .reading .answer ≡ 5 → TooDeep s room) (λ i e. absurd (omega arith)) (λ i a q f n e. absurd (⊎-elim (λ y. omega arith) (λ y. omega arith) n))
-      (λ i p f j e. absurd (omega arith)) (λ i p f j q g e. too-deep s room bs p f j q g) (λ i p f j a q x g e. absurd (omega arith)),
+-- Within the limit, the incomplete reading is refused with 5 at a place exactly where, given room, the element behind the elements that stand is.
+pub five-incomplete : (s : List ℕ) (room p : ℕ) → Bytes s → length s ≤ limit.bytes → incompleteOf s room ≡ refused 5 p ↔ TooDeep s room p
+five-incomplete s room p bs h = (
+  incomplete-cases s room (λ w. w ≡ refused 5 p → TooDeep s room p) (λ i e. absurd (omega (arith, ap answer-of e)))
+      (λ i a q f n e. absurd (⊎-elim (λ y. omega (arith, ap answer-of e)) (λ y. omega (arith, ap answer-of e)) n)) (λ i o f q j e. absurd (omega (arith, ap answer-of e)))
+      (λ i o f j q g e. rw (ap used-of e) at (too-deep s room bs o f j q g)) (λ i o f j a q x g e. absurd (omega (arith, ap answer-of e))),
   λ t.
-      let e = element-refused s bs (t .used) 5 (t .place) .1 (t .refused) in
-      ap (λ (w : Whole). w .reading .answer)
-      (refused-deep s room h (t .roomy .header) (t .begins) (heads-end (t .roomy .heads)) (t .roomy .enough) (t .place) e),
+      refused-deep s room h (t .roomy .header) (t .begins) (heads-end (t .roomy .heads)) (t .roomy .enough) p
+      (element-refused s bs (t .used) 5 p .1 (t .refused)),
 )
 
--- So is that of the whole reading.
-pub five-whole : (s : List ℕ) (room : ℕ) → Bytes s → length s ≤ limit.bytes → wholeOf s room .reading .answer ≡ 5 ↔ TooDeep s room
+-- So is the whole reading.
+pub five-whole : (s : List ℕ) (room p : ℕ) → Bytes s → length s ≤ limit.bytes → wholeOf s room ≡ refused 5 p ↔ TooDeep s room p
 unfolding wholeOf
-five-whole s room bs h = all-iff s (incompleteOf s room) 5 (λ z. omega arith) (λ z. omega arith) (five-incomplete s room bs h)
+five-whole s room p bs h = all-refusal s (incompleteOf s room) 5 p (λ z. omega arith) (λ z. omega arith) (five-incomplete s room p bs h)

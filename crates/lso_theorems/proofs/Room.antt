@@ -53,7 +53,7 @@ module _ {s : List ℕ} {v : Whole} (m : WasRead s v) (b : List ℕ) (out : ℕ)
       omega (
         arith,
         room-exact-whole b room (c .header) (c .text-size) (end-heads b (file-bytes (r .file)) (c .header) (c .ended)) .0 f,
-        due-image b (c .header),
+        due-image b (c .header) (c .ended),
         none-due b,
         ap (λ d. length (bytes d)) tried,
         ap length (c .same),
@@ -76,7 +76,7 @@ module _ {s : List ℕ} {v : Whole} (m : WasRead s v) (b : List ℕ) (out : ℕ)
 
 -- what an accepted reading makes has room, of the incomplete reading and of the whole one
 incomplete-fits : (s : List ℕ) (room : ℕ) → incompleteOf s room .reading .answer ≡ 0 → length (incompleteOf s room .bytes) ≤ room
-incomplete-fits s room e = let c = made s room e in omega (arith, c .due, ap length (c .same), due-image s (c .header))
+incomplete-fits s room e = let c = made s room e in omega (arith, c .due, ap length (c .same), due-image s (c .header) (c .ended))
 
 whole-fits : (s : List ℕ) (room : ℕ) → wholeOf s room .reading .answer ≡ 0 → length (wholeOf s room .bytes) ≤ room
 whole-fits s room e = let w = whole-same s room e in rw w (incomplete-fits s room (rw w at e))

@@ -77,7 +77,7 @@ pub record Ended (s : List ℕ) (w : Whole) : Type 0 where
 pub ended : (s : List ℕ) (room : ℕ) → Bytes s → incompleteOf s room .reading .answer ≡ 0 → Ended s (incompleteOf s room)
 ended s room bs =
     incomplete-cases s room (λ w. w .reading .answer ≡ 0 → Ended s w) (λ i e. absurd (omega arith)) (λ i a q f n e. absurd (omega (arith, field-named n .low)))
-    (λ i p f j e. absurd (omega arith)) (λ i p f j q g e. absurd (omega arith))
+    (λ i p f q j e. absurd (omega arith)) (λ i p f j q g e. absurd (omega arith))
     (λ h p f i a q x g e.
     let b = file-sound s bs p f .1 in
     record {
@@ -99,17 +99,17 @@ pub record Accepts (s : List ℕ) (f : Lso) (n : ℕ) (w : Whole) : Type 0 where
 
 module _ (s : List ℕ) (room : ℕ) (h : length s ≤ limit.bytes) where
   -- where the header stops the call is refused
-  pub refused-header : (a q : ℕ) → Stops (headerAt s) a q → incompleteOf s room ≡ refused a
+  pub refused-header : (a q : ℕ) → Stops (headerAt s) a q → incompleteOf s room ≡ refused a q
   unfolding incompleteOf
   refused-header a q e = pick-yes (length s) limit.bytes _ _ h ∙ on-stops (headerAt s) a q _ _ e
 
-  module _ {f : Lso} {n : ℕ} (p : ℕ) (b : Begins s f n) (e : Ends (headerAt s) p) (r : length (everDue s p) ≤ room) where
+  module _ {f : Lso} {n : ℕ} (p : ℕ) (b : Begins s f n) (e : Ends (headerAt s) p) (r : length (bytes (everDue s p)) ≤ room) where
     -- a file behind which an element stops with 2 or 3 is accepted, where there is room
     pub accepts-file : (a q : ℕ) → Either a → Stops (elementAt s n) a q → Accepts s f n (incompleteOf s room)
     accepts-file a q x g =
         let u = used b a q g p e in
-        rw (roomy s p e room a q h r (rw u g) ∙ halted-either _ x) (record { answer = refl; used = u; shows = shown b a q g p e h })
+        rw (roomy s p e room a q h r (rw u g) ∙ halted-either q _ x) (record { answer = refl; used = u; shows = shown b a q g p e h })
 
     -- and where it stops with 5 the call is refused
-    pub refused-deep : (q : ℕ) → Stops (elementAt s n) 5 q → incompleteOf s room ≡ refused 5
+    pub refused-deep : (q : ℕ) → Stops (elementAt s n) 5 q → incompleteOf s room ≡ refused 5 q
     refused-deep q g = roomy s p e room 5 q h r (rw (used b 5 q g p e) g)

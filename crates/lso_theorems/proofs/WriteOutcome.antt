@@ -1,5 +1,5 @@
 -- A reading that is accepted makes an image that can be written.
-use Rattle.wire.proofs.Kit.{ℕ, _+_, _≤_, _≡_, refl, sym, List, _++_, map, append-nil, arith, length, take, length-append, take-append-drop, length-take-le}
+use Rattle.wire.proofs.Kit.{ℕ, _+_, _≤_, _≡_, refl, sym, ap, List, _++_, map, append-nil, arith, length, take, length-append, take-append-drop, length-take-le}
 use Rattle.wire.specs.Number.{Bytes}
 use Rattle.wire.specs.Limit as limit
 use Rattle.wire.proofs.Stands.{Here}
@@ -8,6 +8,7 @@ use Rattle.image.specs.Record.{unplaced}
 use Rattle.lso.specs.File.{Lso, File, deepest}
 use Rattle.lso.specs.Reading.{Body, headerAt, elementAt, bodyAt, everDue, incompleteOf, wholeOf, kept}
 use Rattle.lso.specs.Written.{Writable}
+use Rattle.lso.proofs.Settle.{ever-bytes}
 use Rattle.lso.proofs.Outcome.{thrice, incomplete-cases}
 use Rattle.lso_theorems.proofs.Complete.{file-reads, ofBody}
 use Rattle.lso_theorems.proofs.Stopping.{ended}
@@ -21,22 +22,22 @@ pub record Made (s : List ℕ) (room : ℕ) (w : Whole) : Type 0 where
   pub ended : Ends (headerAt s) header
   pub text-size : length s ≤ limit.bytes
   pub same : w .bytes ≡ bytes (headerAt s) ++ kept (bodyAt s (length s) header .elements)
-  pub due : length (everDue s header) ≤ room
+  pub due : length (bytes (everDue s header)) ≤ room
 
 -- the image is a part of what falls due
-pub due-image : (s : List ℕ) (p : ℕ)
-    → let b = bodyAt s (length s) p in length (bytes (headerAt s) ++ kept (b .elements)) + length (bytes (b .tried)) ≡ length (everDue s p)
-due-image s p =
+pub due-image : (s : List ℕ) (p : ℕ) → Ends (headerAt s) p
+    → let b = bodyAt s (length s) p in length (bytes (headerAt s) ++ kept (b .elements)) + length (bytes (b .tried)) ≡ length (bytes (everDue s p))
+due-image s p e =
     let x : List ℕ = bytes (headerAt s) in
     let b : Body = bodyAt s (length s) p in
     let k : List ℕ = kept (b .elements) in
-    omega (arith, length-append x k, length-append x (k ++ bytes (b .tried)), length-append k (bytes (b .tried)))
+    omega (arith, ap length (ever-bytes s p e), length-append x k, length-append x (k ++ bytes (b .tried)), length-append k (bytes (b .tried)))
 
 -- an accepted call made what it read
 pub made : (s : List ℕ) (room : ℕ) → incompleteOf s room .reading .answer ≡ 0 → Made s room (incompleteOf s room)
 made s room =
     incomplete-cases s room (λ w. w .reading .answer ≡ 0 → Made s room w) (λ i e. absurd (omega arith))
-    (λ i a q f n e. absurd (omega (arith, field-named n .low))) (λ i p f j e. absurd (omega arith)) (λ i p f j q g e. absurd (omega arith))
+    (λ i a q f n e. absurd (omega (arith, field-named n .low))) (λ i p f q j e. absurd (omega arith)) (λ i p f j q g e. absurd (omega arith))
     (λ i p f j a q x g e. record { header = p; ended = f; text-size = i; same = refl; due = j })
 
 -- the image of a file that was read
@@ -54,7 +55,7 @@ read-image {s} {x} {r} room a q g d h e z =
     let same : incompleteOf s room .bytes ≡ bytes (headerAt s) ++ kept (bodyAt s (length s) (y .header) .elements) = rw one at (m .same) in
     rw same
     (record {
-      writable = record { text-size = l; image-size = omega (arith, due-image s (y .header), thrice s (y .header) (y .ended)); images = y .images l; deep = d };
+      writable = record { text-size = l; image-size = omega (arith, due-image s (y .header) (y .ended), thrice s (y .header) (y .ended)); images = y .images l; deep = d };
       alike = y .alike l;
     })
 

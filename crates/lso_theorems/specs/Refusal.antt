@@ -3,7 +3,8 @@
 use Rattle.wire.specs.Kit.{ℕ, _^_, _<_, _≤_, _≡_, List, [], _∷_, _++_, length, take, replicate}
 use Rattle.wire.specs.Number.{digits}
 use Rattle.wire.specs.Limit as limit
-use Rattle.image.specs.Whole.{Whole, accepted, refused}
+use Rattle.image.specs.Due.{Lacks}
+use Rattle.image.specs.Whole.{Whole, bytes, accepted, refused}
 use Rattle.amf0.specs.Standard.{Sort, Tree, depth, UTF-8, Encodes}
 use Rattle.amf0_theorems.specs.Refusal.{Field, InText, Leads, Refused}
 use Rattle.amf0_theorems.specs.Refusal.Field.{some, fixed}
@@ -62,7 +63,7 @@ pub record Heads (s : List ℕ) (n : ℕ) : Type 0 where
 pub record Roomy (s : List ℕ) (room : ℕ) : Type 0 where
   pub header : ℕ
   pub heads : Heads s header
-  pub enough : length (everDue s header) ≤ room
+  pub enough : length (bytes (everDue s header)) ≤ room
 
 -- given room, the file f stands at the front up to n, and no further element can be read there
 pub record Reaches (s : List ℕ) (room : ℕ) (f : Lso) (n : ℕ) : Type 0 where
@@ -70,28 +71,27 @@ pub record Reaches (s : List ℕ) (room : ℕ) (f : Lso) (n : ℕ) : Type 0 wher
   pub begins : Begins s f n
   pub halts : Halts s n
 
--- given room, a file stands at the front, and the element behind it has a value that is too deep
-pub record TooDeep (s : List ℕ) (room : ℕ) : Type 0 where
+-- given room, a file stands at the front, and the element behind it has a value that is too deep, whose marker stands at a place
+pub record TooDeep (s : List ℕ) (room place : ℕ) : Type 0 where
   pub lso : Lso
   pub used : ℕ
-  pub place : ℕ
   pub roomy : Roomy s room
   pub begins : Begins s lso used
   pub refused : RefusedElement s used 5 place
 
--- What the incomplete reading can come to in a room, and when.
+-- What the incomplete reading can come to in a room, and when. A refusal has the place of the field, or of the record, that is its reason.
 pub data Comes (s : List ℕ) (room : ℕ) : Whole → Type 0 where
-  over-limit : limit.bytes < length s → Comes s room (refused 1)
-  no-header : {a place : ℕ} → length s ≤ limit.bytes → RefusedHeader s a place → Comes s room (refused a)
-  no-room : {p : ℕ} → length s ≤ limit.bytes → Heads s p → room < length (everDue s p) → Comes s room (refused 4)
-  too-deep : length s ≤ limit.bytes → TooDeep s room → Comes s room (refused 5)
+  over-limit : limit.bytes < length s → Comes s room (refused 1 0)
+  no-header : {a place : ℕ} → length s ≤ limit.bytes → RefusedHeader s a place → Comes s room (refused a place)
+  no-room : {p place : ℕ} → length s ≤ limit.bytes → Heads s p → Lacks (everDue s p) 0 room place → Comes s room (refused 4 place)
+  too-deep : {place : ℕ} → length s ≤ limit.bytes → TooDeep s room place → Comes s room (refused 5 place)
   -- the file is used, and the image shows it
   read : {f : Lso} {n : ℕ} {image : List ℕ} → length s ≤ limit.bytes → Reaches s room f n → Shows s f image → Comes s room (accepted n image)
 
--- What the whole reading can come to: bytes that are left over are 3, after everything else.
+-- What the whole reading can come to: bytes that are left over are 3, at the first of them, after everything else.
 pub data ComesWhole (s : List ℕ) (room : ℕ) : Whole → Type 0 where
-  not-read : {a : ℕ} → 1 ≤ a → Comes s room (refused a) → ComesWhole s room (refused a)
-  left-over : {n : ℕ} {image : List ℕ} → Comes s room (accepted n image) → n < length s → ComesWhole s room (refused 3)
+  not-read : {a place : ℕ} → 1 ≤ a → Comes s room (refused a place) → ComesWhole s room (refused a place)
+  left-over : {n : ℕ} {image : List ℕ} → Comes s room (accepted n image) → n < length s → ComesWhole s room (refused 3 n)
   read : {n : ℕ} {image : List ℕ} → Comes s room (accepted n image) → n ≡ length s → ComesWhole s room (accepted n image)
 
 -- ---- beginnings of a file

@@ -64,9 +64,10 @@ pub record Begun (s : List ℕ) (at : ℕ) (e : Entry) (v : ℕ) : Type 0 where
   pub first : Between at v (e .place1) (e .length1)
   pub second : Between at v (e .place2) (e .length2)
 
+-- or a field refuses it, inside an input in which it begins
 abbrev pub Headed : List ℕ → ℕ → Head → Type 0
 Headed s at (Head.Got e c) = Begun s at e (c .at)
-Headed s at (Head.Stop a p) = Field a
+Headed s at (Head.Stop a p) = Field a × (at ≤ length s → p ≤ length s)
 
 module _ (s : List ℕ) (at : ℕ) where
   header-told : Headed s at (headerAt s at)
@@ -82,9 +83,9 @@ module _ (s : List ℕ) (at : ℕ) where
         first = record { bounds = λ x y z. (omega arith, omega arith) };
         second = record { bounds = λ x y z. absurd (omega arith) };
       })
-      (λ k. two))
-      (λ j. two))
-      (λ i. two) (λ n e i j. two) (λ n e i u. three)
+      (λ k. (two, λ l. omega arith)))
+      (λ j. (two, λ l. omega arith)))
+      (λ i. (two, λ l. l)) (λ n e i j. (two, λ l. i)) (λ n e i u. (three, λ l. omega arith))
 
   message-told : Headed s at (messageAt s at)
   unfolding messageAt
@@ -99,9 +100,9 @@ module _ (s : List ℕ) (at : ℕ) where
         first = record { bounds = λ x y z. (omega arith, omega arith) };
         second = record { bounds = λ x y z. (omega arith, omega arith) };
       })
-      (λ k. two))
-      (λ j. two) (λ m f j k. two) (λ m f j v. three))
-      (λ i. two) (λ n e i j. two) (λ n e i u. three)
+      (λ k. (two, λ l. omega arith)))
+      (λ j. (two, λ l. i)) (λ m f j k. (two, λ l. j)) (λ m f j v. (three, λ l. omega arith)))
+      (λ i. (two, λ l. l)) (λ n e i j. (two, λ l. i)) (λ n e i u. (three, λ l. omega arith))
 
   pub head-told : (kind : ℕ) → Headed s at (headAt kind s at)
   head-told kind = picked (Headed s at) (eqb kind 0x31) _ _ (λ e. header-told) (λ e. message-told)
@@ -129,7 +130,7 @@ entry-told kind s at = go (headAt kind s at) (head-told s at kind)
         → Placed s at (gotHead Head.Stop x λ e v. pick (leb (v + e .length) (length s)) (Head.Got e (to (v + e .length))) (Head.Stop 2 (v - 4)))
     go (Head.Got e c) h = picked (Placed s at) (leb (c .at + e .length) (length s)) _ _
         (λ t. record { begun = subst (Begun s at e) (sym (h .place)) h; ends = rw (h .place); within = leb-true _ _ t }) (λ t. two)
-    go (Head.Stop a p) h = h
+    go (Head.Stop a p) h = h .0
 
 module _ (kind : ℕ) (s : List ℕ) (at : ℕ) where
   pub entry-cut : {a p : ℕ} → headAt kind s at ≡ Head.Stop a p → entryAt kind s at ≡ Head.Stop a p
@@ -306,16 +307,16 @@ all es z = record { cutting = record { answer = 0; used = z; count = length es }
 
 -- Of a trail the entries b are taken off and t is left, and there is an entry in t only where the room is full: either b is all of it, or it is refused.
 pub counting : (P : Cutting → Listed → Type 0) (b : List Entry) (room : ℕ) (t : Trail) → length b ≤ room → (0 < length (t .entries) → room ≤ length b)
-    → ((z : ℕ) → P (all b z .cutting) (all b z)) → ((a : ℕ) → P (refusedCut a) (uncut a)) → P (countedIn t (length b)) (listed (strict (puts b t)) room)
+    → ((z : ℕ) → P (all b z .cutting) (all b z)) → ((a p : ℕ) → P (refusedCut a p) (uncut a p)) → P (countedIn t (length b)) (listed (strict (puts b t)) room)
 counting P b room t h s y n = go (t .entries) (t .ending) s
   where
     go : (es : List Entry) (x : Ending) → (0 < length es → room ≤ length b)
         → P (countedIn (record { entries = es; ending = x }) (length b)) (listed (reach stops x (found (b ++ es))) room)
-    go es (halt a p) s = n a
+    go es (halt a p) s = n a p
     go [] (done z) s = rw (append-nil b, le-leb (length b) room h) (y z)
     go (e ∷ es) (done z) s =
         let m = length-append b (e ∷ es) in
-        rw (lt-leb (length (b ++ e ∷ es)) room (omega (arith, s (omega arith), m)), lt-ltb 0 (length (e ∷ es)) (omega arith)) (n 4)
+        rw (lt-leb (length (b ++ e ∷ es)) room (omega (arith, s (omega arith), m)), lt-ltb 0 (length (e ∷ es)) (omega arith)) (n 4 0)
 
 -- a cut that is counted, and a list that is cleared behind its entries, are what a cut comes to
 pub record Listing (l : List Entry) (k : Cutting) (w : Listed) : Type 0 where
@@ -329,7 +330,7 @@ listing l n t h s =
     let m = length-take-le n l h in
     rw m at
     (counting (Listing l) (take n l) (length l) t (omega arith) (λ e. omega (arith, s e)) (λ z. record { cutting = refl; left = rw m })
-    (λ a. record { cutting = refl; left = refl }))
+    (λ a p. record { cutting = refl; left = refl }))
 
 -- ---- the whole cut
 
@@ -351,8 +352,8 @@ seven : Cuts 7
 seven = record { low = omega arith; high = omega arith; room = λ e. omega arith; deep = λ e. omega arith; tree = λ e. omega arith }
 
 abbrev pub Versioned : List ℕ → Tag → Type 0
-Versioned s (Tag.Past c) = c .at ≡ 2
-Versioned s (Tag.Stop a p) = (2 ≤ a) × Cuts a
+Versioned s (Tag.Past c) = (c .at ≡ 2) × (2 ≤ length s)
+Versioned s (Tag.Stop a p) = (2 ≤ a) × Cuts a × (p ≤ length s)
 
 pub version-told : (s : List ℕ) → Versioned s (versionAt s)
 unfolding versionAt
@@ -360,13 +361,15 @@ version-told s = go (tagAt (0 ∷ []) s 0) refl
   where
     go : (x : Tag) → tagAt (0 ∷ []) s 0 ≡ x
         → Versioned s (pastTag Tag.Stop x λ p. got8 Tag.Stop (u8At s p) λ v q. pick (eqb v 0) (Tag.Past (to q)) (pick (eqb v 3) (Tag.Stop 7 p) (Tag.Stop 3 p)))
-    go (Tag.Stop a p) h = ⊎-elim (λ e. rw e (omega arith, field-cuts two)) (λ e. rw e (omega arith, field-cuts three)) (tag-stop s 0 (0 ∷ []) a p h (omega arith) .answer)
+    go (Tag.Stop a p) h =
+        let r = tag-stop s 0 (0 ∷ []) a p h (omega arith) in
+        ⊎-elim (λ e. rw e (omega arith, field-cuts two, r .within)) (λ e. rw e (omega arith, field-cuts three, r .within)) (r .answer)
     go (Tag.Past c) h =
         let r = tag-next s 0 (0 ∷ []) c h in
         go8 (Versioned s) Tag.Stop s (c .at) _
-        (λ i. picked (Versioned s) (eqb (getD s (c .at) 0) 0) _ _ (λ e. omega arith)
-        (λ e. picked (Versioned s) (eqb (getD s (c .at) 0) 3) _ _ (λ f. (omega arith, seven)) (λ f. (omega arith, field-cuts three))))
-        (λ i. (omega arith, field-cuts two))
+        (λ i. picked (Versioned s) (eqb (getD s (c .at) 0) 0) _ _ (λ e. (omega arith, omega arith))
+        (λ e. picked (Versioned s) (eqb (getD s (c .at) 0) 3) _ _ (λ f. (omega arith, seven, omega arith)) (λ f. (omega arith, field-cuts three, omega arith))))
+        (λ i. (omega arith, field-cuts two, omega (arith, r .within)))
 
 -- the entries of a packet that is cut
 pub record Split (s : List ℕ) (es : List Entry) : Type 0 where
@@ -397,7 +400,7 @@ front-told s =
     (λ t. go (leb-true _ _ t) (versionAt s) (version-told s)) (λ t. record { cuts = one; over = λ e. leb-false _ _ t })
   where
     go : length s ≤ limit.bytes → (x : Tag) → Versioned s x → Fronted s (pastTag U16.Stop x λ p. u16At s p)
-    go l (Tag.Past c) v = picked (Fronted s) (leb (c .at + 2) (length s)) _ _ (λ t. (l, omega arith, omega (arith, leb-true (c .at + 2) (length s) t))) (λ t. field-refuses s two)
+    go l (Tag.Past c) v = picked (Fronted s) (leb (c .at + 2) (length s)) _ _ (λ t. (l, omega (arith, v .0), omega (arith, v .0, leb-true (c .at + 2) (length s) t))) (λ t. field-refuses s two)
     go l (Tag.Stop a p) v = record { cuts = v .1; over = λ e. absurd (omega (arith, v .0)) }
 
 -- what follows the front
@@ -426,14 +429,14 @@ cut-told s = front (frontOf s) (front-told s)
 -- ---- one entry
 
 module _ (s : List ℕ) (number room : ℕ) where
-  pub entry-none : (x : Cut) {a p : ℕ} → Found.Stop a p ≡ foundIn x number → entryIn s x number room ≡ refused a
+  pub entry-none : (x : Cut) {a p : ℕ} → Found.Stop a p ≡ foundIn x number → entryIn s x number room ≡ refused a p
   entry-none (found es z) {a} {p} = go (ltb number (length es))
     where
       go : (t : Bool) → Found.Stop a p ≡ pick t (Found.Is (getD es number noEntry)) (Found.Stop 8 0)
-          → pick t (valueOf s (getD es number noEntry) room) (refused 8) ≡ refused a
+          → pick t (valueOf s (getD es number noEntry) room) (refused 8 0) ≡ refused a p
       go true e = let z : _≡_ {A = ℕ} 0 1 = cc in absurd (omega arith)
-      go false e = let f : 8 ≡ a = cc in rw f
-  entry-none (stops b q) {a} {p} = λ e. let f : b ≡ a = cc in rw f
+      go false e = let f : 8 ≡ a = cc in let g : 0 ≡ p = cc in rw (f, g)
+  entry-none (stops b q) {a} {p} = λ e. let f : b ≡ a = cc in let g : q ≡ p = cc in rw (f, g)
 
   -- the value's bytes are inside the packet, and it is read from them
   pub record Chosen (x : Cut) (e : Entry) : Type 0 where
@@ -476,18 +479,18 @@ run-halts (due r p d) made image h =
 kept-answers : (b : ℕ) (s : List ℕ) (c : ℕ) (d : Due) → Kept s c d → Answers (based b d)
 kept-answers b s c (end n) k = tt
 kept-answers b s c (stop a p) k = omega (arith, k .1 .low)
-kept-answers b s c (due r p d) k = kept-answers b s (c + length (bytesOf r)) d k
+kept-answers b s c (due r p d) k = kept-answers b s (c + length (bytesOf r)) d (k .1)
 
 -- a step judged, and the whole judged
-judge-finished : (base n : ℕ) (i : List ℕ) (x : Step) → Halts x → finished (judgedOf x base n) i ≡ judge n (finished x i)
-judge-finished base n i (Next c m) h = go (leb n (c .at))
+judge-finished : (p : Span) (i : List ℕ) (x : Step) → Halts x → finished (judgedOf x (p .place) (p .length)) i ≡ judge p (finished x i)
+judge-finished p i (Next c m) h = go (leb (p .length) (c .at))
   where
-    go : (t : Bool) → finished (pick t (Next c m) (Stop 9 (base + c .at))) i ≡ pick t (finished (Next c m) i) (refused 9)
+    go : (t : Bool) → finished (pick t (Next c m) (Stop 9 (p .place + c .at))) i ≡ pick t (finished (Next c m) i) (refused 9 (p .place + c .at))
     go true = refl
     go false = refl
-judge-finished base n i (Stop a p) h = rw (ne-eqb a 0 λ e. omega arith) (go (eqb a 2) (eqb a 3))
+judge-finished p i (Stop a q) h = rw (ne-eqb a 0 λ e. omega arith) (go (eqb a 2) (eqb a 3))
   where
-    go : (t u : Bool) → finished (pick t (Stop 9 p) (pick u (Stop 9 p) (Stop a p))) i ≡ pick t (refused 9) (pick u (refused 9) (refused a))
+    go : (t u : Bool) → finished (pick t (Stop 9 q) (pick u (Stop 9 q) (Stop a q))) i ≡ pick t (refused 9 q) (pick u (refused 9 q) (refused a q))
     go true u = refl
     go false true = refl
     go false false = refl
@@ -502,7 +505,7 @@ span-answer s image i p x l h r =
     let q = r ∙ ap (λ (d : Due). run d 0 image) (part-read (p .place) (held s p) 0 (omega arith) (omega arith)) in
     let w = kept-answers (p .place) (held s p) 0 v (kept limit.levels (held s p) 0 (omega arith)) in
     let a : Halts x = rw (ap (λ (y : Ran). y .step) q) (run-halts d 0 image w) in
-    rw (n, judge-finished (p .place) (p .length) i x a, finished-ran d image q)
+    rw (n, judge-finished p i x a, finished-ran d image q)
 
 -- a part of a packet that is inside it
 pub span-read : (s : List ℕ) (p : Span) (room : ℕ) → length s ≤ limit.bytes → p .place + p .length ≤ length s
@@ -510,10 +513,10 @@ pub span-read : (s : List ℕ) (p : Span) (room : ℕ) → length s ≤ limit.by
 unfolding readSpan
 span-read s p room l h = rw (le-leb _ _ l, le-leb _ _ h)
 
-pub span-over : (s : List ℕ) (place n room : ℕ) → limit.bytes < length s → readSpan s place n room ≡ refused 1
+pub span-over : (s : List ℕ) (place n room : ℕ) → limit.bytes < length s → readSpan s place n room ≡ refused 1 0
 unfolding readSpan
 span-over s place n room l = rw (lt-leb _ _ l)
 
-pub span-out : (s : List ℕ) (place n room : ℕ) → length s ≤ limit.bytes → insideOf s place n ≡ false → readSpan s place n room ≡ refused 8
+pub span-out : (s : List ℕ) (place n room : ℕ) → length s ≤ limit.bytes → insideOf s place n ≡ false → readSpan s place n room ≡ refused 8 0
 unfolding readSpan
 span-out s place n room l h = rw (le-leb _ _ l, h)

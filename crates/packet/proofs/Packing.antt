@@ -207,7 +207,7 @@ incomplete-read : (s : List ℕ) (room : ℕ) → settled (packetIn s) room ≡ 
 unfolding incompleteOf
 incomplete-read s room = go (leb (length s) limit.bytes)
   where
-    go : (t : Bool) → settled (pick t (packetAt s) (stop 1 0)) room ≡ pick t (settled (packetAt s) room) (refused 1)
+    go : (t : Bool) → settled (pick t (packetAt s) (stop 1 0)) room ≡ pick t (settled (packetAt s) room) (refused 1 0)
     go true = refl
     go false = settled-stop 1 0 room
 
@@ -229,11 +229,11 @@ packed-halts s image p =
     (picked Answers (leb (length s) limit.bytes) (packetAt s) (stop 1 0) (λ t. answered s 0 (packetAt s) (packet-kept s)) (λ t. omega arith)))
 
 module _ (s image : List ℕ) {after : List ℕ} where
-  pub whole-stop : {a p : ℕ} → Packed (Stop a p) after s image → wholeOf s (length image) ≡ refused a
+  pub whole-stop : {a p : ℕ} → Packed (Stop a p) after s image → wholeOf s (length image) ≡ refused a p
   unfolding wholeOf
   whole-stop {a} {p} k = let h = packed-halts s image k in rw (← packed-finished s image k, ne-eqb a 0 λ e. omega arith)
 
-  pub whole-more : {c : Cursor} {m : ℕ} → Packed (Next c m) after s image → c .at < length s → wholeOf s (length image) ≡ refused 3
+  pub whole-more : {c : Cursor} {m : ℕ} → Packed (Next c m) after s image → c .at < length s → wholeOf s (length image) ≡ refused 3 (c .at)
   unfolding wholeOf
   whole-more {c} k h = rw (← packed-finished s image k, lt-leb (length s) (c .at) h)
 

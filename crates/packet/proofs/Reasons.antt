@@ -1,5 +1,6 @@
--- A packet's reading goes forward and ends inside the input, lays at most three bytes for each byte that it reads, and is refused with 2, 3, 5 or 7.
-use Rattle.wire.proofs.Kit.{ℕ, zero, suc, _+_, _*_, _≤_, _≡_, sym, _∙_, List, _≢_, le-refl, arith, length, length-append, eqb}
+-- A packet's reading goes forward and ends inside the input, lays at most three bytes for each byte that it reads, and is refused with 2, 3, 5 or 7,
+-- at a place inside the input.
+use Rattle.wire.proofs.Kit.{ℕ, zero, suc, _+_, _*_, _≤_, List, _≢_, le-refl, arith, length, length-append, eqb}
 use Rattle.wire.specs.declared.cursor.Tag.{Tag}
 use Rattle.wire.specs.declared.cursor.Tag.the-variants as Tag
 use Rattle.wire.specs.Limit as limit
@@ -9,10 +10,10 @@ use Rattle.wire.proofs.Laws.{picked}
 use Rattle.wire.proofs.Stands.{go16}
 use Rattle.image.specs.declared.record.Record.{Record}
 use Rattle.image.specs.declared.record.Record.the-variants.{Packet}
-use Rattle.image.specs.Record.{bytesOf, moved}
-use Rattle.image.specs.Due.{Due, end, stop, due, _>>=_, based, Ends, Stops}
+use Rattle.image.specs.Record.{bytesOf}
+use Rattle.image.specs.Due.{Due, end, stop, due, _>>=_, Ends, Stops}
 use Rattle.image.specs.Whole.{bytes}
-use Rattle.image.proofs.Laws.{based-zero, size-bytes, size-placed}
+use Rattle.image.proofs.Settle.{AllDue}
 use Rattle.amf0.specs.Reading.{topValue}
 use Rattle.amf0.proofs.Reasons as values
 use Rattle.packet.specs.declared.head.Entry.{Entry}
@@ -35,29 +36,27 @@ field-tells f = record { low = omega arith; high = omega arith; room = λ e. ome
 value-tells : {a : ℕ} → values.Named a → Tells a
 value-tells n = record { low = n .low; high = omega arith; room = n .other; tree = λ e. omega arith }
 
--- c bytes are laid already, in all at most three for each byte up to the end
+-- c bytes are laid already, in all at most three for each byte up to the end; a refusal has one of those answers, at a place inside, and every record is due at one
 abbrev pub Kept : List ℕ → ℕ → Due → Type 0
 Kept s c (end n) = (c ≤ 3 * n) × (n ≤ length s)
-Kept s c (stop a p) = (c ≤ 3 * length s) × Tells a
-Kept s c (due r p d) = Kept s (c + length (bytesOf r)) d
+Kept s c (stop a p) = (c ≤ 3 * length s) × Tells a × (p ≤ length s)
+Kept s c (due r p d) = (p ≤ length s) × Kept s (c + length (bytesOf r)) d
 
 fewer : (s : List ℕ) (c b : ℕ) (d : Due) → c ≤ b → Kept s b d → Kept s c d
 fewer s c b (end n) h k = (omega arith, k .1)
-fewer s c b (stop a p) h k = (omega arith, k .1)
-fewer s c b (due r p d) h k = fewer s (c + length (bytesOf r)) (b + length (bytesOf r)) d (omega arith) k
+fewer s c b (stop a p) h k = (omega arith, k .1, k .2)
+fewer s c b (due r p d) h k = (k .0, fewer s (c + length (bytesOf r)) (b + length (bytesOf r)) d (omega arith) (k .1))
 
 bind-kept : (s : List ℕ) (c : ℕ) (d : Due) (k : ℕ → Due) → Kept s c d → ((n : ℕ) → n ≤ length s → Kept s (3 * n) (k n)) → Kept s c (d >>= k)
 bind-kept s c (end n) k h g = fewer s c (3 * n) (k n) (h .0) (g n (h .1))
 bind-kept s c (stop a p) k h g = h
-bind-kept s c (due r p d) k h g = bind-kept s (c + length (bytesOf r)) d k h g
+bind-kept s c (due r p d) k h g = (h .0, bind-kept s (c + length (bytesOf r)) d k (h .1) g)
 
--- a part's reading too
-pub value-kept : (b : ℕ) (s : List ℕ) (c : ℕ) (d : Due) → values.Kept s c d → Kept s c (based b d)
-value-kept b s c (end n) k = k
-value-kept b s c (stop a p) k = (k .0, value-tells (k .1))
-value-kept b s c (due r p d) k =
-    let e : length (bytesOf (moved b r)) ≡ length (bytesOf r) = size-bytes (moved b r) ∙ size-placed (λ p. b + p) r ∙ sym (size-bytes r) in
-    fewer s (c + length (bytesOf (moved b r))) (c + length (bytesOf r)) (based b d) (omega arith) (value-kept b s (c + length (bytesOf r)) d k)
+-- so is a value's
+value-kept : (s : List ℕ) (c : ℕ) (d : Due) → values.Kept s c d → Kept s c d
+value-kept s c (end n) k = k
+value-kept s c (stop a p) k = (k .0, value-tells (k .1), k .2)
+value-kept s c (due r p d) k = (k .0, value-kept s (c + length (bytesOf r)) d (k .1))
 
 -- ---- a packet
 
@@ -67,11 +66,11 @@ record-small e = picked (λ (r : Record). length (bytesOf r) ≤ 11) (eqb (e .ki
 
 entry-kept : (s : List ℕ) (at : ℕ) (k : ℕ → Due) (x : Head) → at ≤ length s → Headed s at x → ((n : ℕ) → n ≤ length s → Kept s (3 * n) (k n))
     → Kept s (3 * at) (gotHead stop x λ e v. due (recordOf e) at (k v))
-entry-kept s at k (Head.Got e c) l h g = fewer s _ (3 * c .at) (k (c .at)) (omega (arith, record-small e, h .from)) (g (c .at) (h .within))
-entry-kept s at k (Head.Stop a p) l h g = (omega arith, field-tells h)
+entry-kept s at k (Head.Got e c) l h g = (l, fewer s _ (3 * c .at) (k (c .at)) (omega (arith, record-small e, h .from)) (g (c .at) (h .within)))
+entry-kept s at k (Head.Stop a p) l h g = (omega arith, field-tells (h .0), h .1 l)
 
-pub plain-kept : (s : List ℕ) (at : ℕ) → at ≤ length s → Kept s (3 * at) (topValue s at)
-plain-kept s at h = rw (based-zero (topValue s at)) at (value-kept 0 s (3 * at) (topValue s at) (values.kept limit.levels s at h))
+plain-kept : (s : List ℕ) (at : ℕ) → at ≤ length s → Kept s (3 * at) (topValue s at)
+plain-kept s at h = value-kept s (3 * at) (topValue s at) (values.kept limit.levels s at h)
 
 entries-kept : (kind : ℕ) (s : List ℕ) (n at : ℕ) → at ≤ length s → Kept s (3 * at) (entriesAt kind s n at)
 unfolding entriesAt
@@ -87,15 +86,17 @@ version-kept : (s : List ℕ) (n : ℕ → ℕ → ℕ) (x : Tag) → Versioned 
     due (Packet h (n h q)) 0
     (entriesAt 0x31 s h q >>= λ e. got16 stop (u16At s e) λ m f. entriesAt 0x32 s m f))
 unfolding bytesOf
-version-kept s n (Tag.Stop a p) v = let c = v .1 in (omega arith, record { low = v .0; high = c .high; room = c .room; tree = c .tree })
+version-kept s n (Tag.Stop a p) v = let c = v .1 in (omega arith, record { low = v .0; high = c .high; room = c .room; tree = c .tree }, v .2)
 version-kept s n (Tag.Past c) v = go16 (Kept s 0) stop s (c .at) _
     (λ i.
-    let d : Due = entriesAt 0x31 s (number (bytesAt 2 s (c .at))) (c .at + 2) in
-    bind-kept s 5 d _ (fewer s 5 (3 * (c .at + 2)) d (omega arith) (entries-kept 0x31 s _ (c .at + 2) i))
-    (λ n l. go16 (Kept s (3 * n)) stop s n _
-    (λ j. fewer s (3 * n) (3 * (n + 2)) (entriesAt 0x32 s (number (bytesAt 2 s n)) (n + 2)) (omega arith) (entries-kept 0x32 s _ (n + 2) j))
-    (λ j. (omega arith, field-tells two))))
-    (λ i. (omega arith, field-tells two))
+    let d : Due = entriesAt 0x31 s (number (bytesAt 2 s (c .at))) (c .at + 2) in (
+      omega arith,
+      bind-kept s 5 d _ (fewer s 5 (3 * (c .at + 2)) d (omega arith) (entries-kept 0x31 s _ (c .at + 2) i))
+          (λ n l. go16 (Kept s (3 * n)) stop s n _
+          (λ j. fewer s (3 * n) (3 * (n + 2)) (entriesAt 0x32 s (number (bytesAt 2 s n)) (n + 2)) (omega arith) (entries-kept 0x32 s _ (n + 2) j))
+          (λ j. (omega arith, field-tells two, l))),
+    ))
+    (λ i. (omega arith, field-tells two, omega (arith, v .0, v .1)))
 
 pub packet-kept : (s : List ℕ) → Kept s 0 (packetAt s)
 unfolding packetAt
@@ -107,19 +108,29 @@ pub small : (s : List ℕ) (c : ℕ) (d : Due) → Kept s c d → c + length (by
 unfolding bytes
 small s c (end n) k = omega arith
 small s c (stop a p) k = omega arith
-small s c (due r p d) k = omega (arith, small s (c + length (bytesOf r)) d k, length-append (bytesOf r) (bytes d))
+small s c (due r p d) k = omega (arith, small s (c + length (bytesOf r)) d (k .1), length-append (bytesOf r) (bytes d))
 
 pub tells : (s : List ℕ) (c : ℕ) (d : Due) → Kept s c d → (a p : ℕ) → Stops d a p → Tells a
 tells s c (end n) k a p t = absurd t
 tells s c (stop b q) k a p t = rw (t .0) (k .1)
-tells s c (due r q d) k a p t = tells s (c + length (bytesOf r)) d k a p t
+tells s c (due r q d) k a p t = tells s (c + length (bytesOf r)) d (k .1) a p t
 
 pub answered : (s : List ℕ) (c : ℕ) (d : Due) → Kept s c d → Answers d
 answered s c (end n) k = tt
 answered s c (stop a p) k = omega (arith, k .1 .low)
-answered s c (due r p d) k = answered s (c + length (bytesOf r)) d k
+answered s c (due r p d) k = answered s (c + length (bytesOf r)) d (k .1)
 
 pub forward : (s : List ℕ) (c : ℕ) (d : Due) → Kept s c d → (n : ℕ) → Ends d n → (c ≤ 3 * n) × (n ≤ length s)
 forward s c (end m) k n e = (omega arith, omega arith)
 forward s c (stop a p) k n e = absurd e
-forward s c (due r p d) k n e = let f = forward s (c + length (bytesOf r)) d k n e in (omega arith, f .1)
+forward s c (due r p d) k n e = let f = forward s (c + length (bytesOf r)) d (k .1) n e in (omega arith, f .1)
+
+pub stops-inside : (s : List ℕ) (c : ℕ) (d : Due) → Kept s c d → (a p : ℕ) → Stops d a p → p ≤ length s
+stops-inside s c (end n) k a p t = absurd t
+stops-inside s c (stop b q) k a p t = rw (t .1) (k .2)
+stops-inside s c (due r q d) k a p t = stops-inside s (c + length (bytesOf r)) d (k .1) a p t
+
+pub due-inside : (s : List ℕ) (c : ℕ) (d : Due) → Kept s c d → AllDue (λ r p. p ≤ length s) d
+due-inside s c (end n) k = tt
+due-inside s c (stop a p) k = tt
+due-inside s c (due r p d) k = (k .0, due-inside s (c + length (bytesOf r)) d (k .1))

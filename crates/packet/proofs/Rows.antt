@@ -66,4 +66,4 @@ rowing row n room t h s r =
     (rw (r .count) at
     (counting (Rowing row) (r .entries) room t (omega (arith, r .count)) (λ e. omega (arith, s e, r .count))
     (λ z. record { cutting = refl; left = rw (m, r .count, r .front) })
-    (λ a. record { cutting = refl; left = refl })))
+    (λ a p. record { cutting = refl; left = refl })))

@@ -38,4 +38,4 @@ pub record Keeps (s t : List ℕ) (es : List Entry) : Type 0 where
   pub changed : (k room : ℕ) → k < length es → let e = getD es k noEntry in
       Judged (e .place) (spanOf t e) (readOf (spanOf t e) room) (readEntry t k room)
   -- and there are no more entries
-  pub past : (k room : ℕ) → length es ≤ k → readEntry t k room ≡ refused 8
+  pub past : (k room : ℕ) → length es ≤ k → readEntry t k room ≡ refused 8 0

@@ -67,14 +67,14 @@ Out x (W.End z) = x ≡ done z
 Out x (W.Stop a p) = x ≡ halt a p
 Out x (W.At kind more c) = ⊥
 
-abbrev pub refusedCut : ℕ → Cutting
-refusedCut a = uncut a .cutting
+abbrev pub refusedCut : (answer place : ℕ) → Cutting
+refusedCut a p = uncut a p .cutting
 
 -- what a cut comes to where n entries of it are in the list and this trail is left
 abbrev pub countedIn : Trail → ℕ → Cutting
 countedIn t n =
-    reach (λ a p. refusedCut a) (t .ending) λ z.
-    pick (ltb 0 (length (t .entries))) (refusedCut 4) (record { answer = 0; used = z; count = n })
+    reach refusedCut (t .ending) λ z.
+    pick (ltb 0 (length (t .entries))) (refusedCut 4 0) (record { answer = 0; used = z; count = n })
 
 -- ---- an entry
 

@@ -87,14 +87,15 @@ pub record Listed : Type 0 where
   pub cutting : Cutting
   pub entries : List Entry
 
-abbrev pub uncut : ℕ → Listed
-uncut a = record { cutting = record { answer = a; used = 0; count = 0 }; entries = [] }
+-- a refusal, by what stands at a place: that is returned in place of the packet's bytes
+abbrev pub uncut : (answer place : ℕ) → Listed
+uncut a p = record { cutting = record { answer = a; used = p; count = 0 }; entries = [] }
 
--- a list that is too short is 4, where the cut itself is good
+-- a list that is too short is 4, which has no place, where the cut itself is good
 abbrev pub listed : Cut → ℕ → Listed
 listed (found es z) room =
-    pick (leb (length es) room) (record { cutting = record { answer = 0; used = z; count = length es }; entries = es }) (uncut 4)
-listed (stops a p) room = uncut a
+    pick (leb (length es) room) (record { cutting = record { answer = 0; used = z; count = length es }; entries = es }) (uncut 4 0)
+listed (stops a p) room = uncut a p
 
 -- what cutting a packet comes to, in a list of so many elements
 unfoldable pub listOf : List ℕ → ℕ → Listed
@@ -125,11 +126,11 @@ valueOf s e room = answerOf oneValue s (span e) room
 -- the value in a part of a packet: 1 where the packet is over the limit, and 8 where the part is not inside it
 unfoldable pub readSpan : List ℕ → ℕ → ℕ → ℕ → Whole
 readSpan s place n room =
-    pick (leb (length s) limit.bytes) (pick (insideOf s place n) (answerOf oneValue s (spanAt place n) room) (refused 8)) (refused 1)
+    pick (leb (length s) limit.bytes) (pick (insideOf s place n) (answerOf oneValue s (spanAt place n) room) (refused 8 0)) (refused 1 0)
 
 abbrev pub entryIn : List ℕ → Cut → ℕ → ℕ → Whole
-entryIn s (stops a p) number room = refused a
-entryIn s (found es n) number room = pick (ltb number (length es)) (valueOf s (getD es number noEntry) room) (refused 8)
+entryIn s (stops a p) number room = refused a p
+entryIn s (found es n) number room = pick (ltb number (length es)) (valueOf s (getD es number noEntry) room) (refused 8 0)
 
 -- what reading entry `number` comes to, in a room
 unfoldable pub readEntry : List ℕ → ℕ → ℕ → Whole

@@ -2,8 +2,8 @@
 use Rattle.wire.specs.Kit.{ℕ, _≡_, refl, List, [], _∷_, map}
 use Rattle.wire.specs.Utf8.{ends}
 use Rattle.wire.specs.Field.{u8At, u16At, u32At, u64At, strAt, textAt, tagAt}
-use Rattle.image.specs.Record.{bytesOf}
-use Rattle.image.specs.Whole.{Whole, accepted, refused, bytes, ended, settled}
+use Rattle.image.specs.Record.{bytesOf, size}
+use Rattle.image.specs.Whole.{Whole, accepted, refused, inRoom}
 use Rattle.amf0.specs.Marker.{markerOf}
 use Rattle.amf0.specs.Fields.{fieldsAt}
 use Rattle.amf0.specs.Reading.{items, pair, pairs, follow, value}
@@ -28,17 +28,17 @@ infixr 0 _and_
 abbrev _and_ : {A : Type 0} → A → List A → List A
 e and es = e ∷ es
 
--- a cut of so many bytes with so many entries, and one that is refused
+-- a cut of so many bytes with so many entries, and one that is refused with an answer at a place
 abbrev cutting : ℕ → ℕ → Cutting
 cutting u n = record { answer = 0; used = u; count = n }
 
-abbrev uncut : ℕ → Cutting
-uncut a = record { answer = a; used = 0; count = 0 }
+abbrev uncut : ℕ → ℕ → Cutting
+uncut a p = record { answer = a; used = p; count = 0 }
 
 -- an input that every call refuses alike
-infix 1 _refused-by_
-abbrev _refused-by_ : List ℕ → ℕ → Example
-s refused-by a = s whole refused a part refused a cut uncut a entry refused a
+infix 1 _refused-by_at_
+abbrev _refused-by_at_ : List ℕ → ℕ → ℕ → Example
+s refused-by a at p = s whole refused a p part refused a p cut uncut a p entry refused a p
 
 -- a message "a" whose value is declared to have one byte, and then these bytes
 abbrev message : List ℕ → List ℕ
@@ -55,23 +55,23 @@ shown =
 abbrev table : List Example
 table =
     null whole accepted 16 shown part accepted 16 shown cut cutting 16 1 entry accepted 1 (0x05 ∷ [])
-    and message (0x04 ∷ []) whole refused 3 part refused 3 cut cutting 16 1 entry refused 9
-    and message (0x05 ∷ 0x05 ∷ []) whole refused 3 part accepted 16 shown cut uncut 3 entry refused 3
-    and message [] refused-by 2
+    and message (0x04 ∷ []) whole refused 3 15 part refused 3 15 cut cutting 16 1 entry refused 9 15
+    and message (0x05 ∷ 0x05 ∷ []) whole refused 3 16 part accepted 16 shown cut uncut 3 16 entry refused 3 16
+    and message [] whole refused 2 15 part refused 2 15 cut uncut 2 11 entry refused 2 11
     and 0x00 ∷ 0x00 ∷ 0x00 ∷ 0x00 ∷ 0x00 ∷ 0x00 ∷ []
     whole accepted 6 (0x30 ∷ 0x00 ∷ 0x00 ∷ 0x00 ∷ 0x00 ∷ [])
     part accepted 6 (0x30 ∷ 0x00 ∷ 0x00 ∷ 0x00 ∷ 0x00 ∷ [])
     cut cutting 6 0
-    entry refused 8
-    and 0x00 ∷ 0x03 ∷ [] refused-by 7
-    and 0x00 ∷ 0x01 ∷ [] refused-by 3
+    entry refused 8 0
+    and 0x00 ∷ 0x03 ∷ [] refused-by 7 at 1
+    and 0x00 ∷ 0x01 ∷ [] refused-by 3 at 1
     and []
 
 abbrev found : List ℕ → Example
 found s = s whole wholeOf s 24 part incompleteOf s 24 cut listOf s 1 .cutting entry readEntry s 0 24
 
 pub examples : map (λ e. found (e .input)) table ≡ table
-unfolding wholeOf incompleteOf packetAt entriesAt versionAt headerAt messageAt frontOf cutOf listOf walk entryAt readEntry bytes ended settled bytesOf value items pair pairs
+unfolding wholeOf incompleteOf packetAt entriesAt versionAt headerAt messageAt frontOf cutOf listOf walk entryAt readEntry inRoom bytesOf size value items pair pairs
     follow fieldsAt markerOf u8At u16At u32At u64At textAt strAt tagAt ends
 examples = refl
 
@@ -89,12 +89,12 @@ p for n gives w = record { place = p; size = n; result = w }
 abbrev spans-table : List Span
 spans-table =
     15 for 1 gives accepted 1 (0x05 ∷ [])
-    and 15 for 2 gives refused 8
-    and 16 for 0 gives refused 9
-    and 16 for 1 gives refused 8
-    and 17 for 0 gives refused 8
+    and 15 for 2 gives refused 8 0
+    and 16 for 0 gives refused 9 16
+    and 16 for 1 gives refused 8 0
+    and 17 for 0 gives refused 8 0
     and []
 
 pub spans : map (λ x. x .place for x .size gives readSpan null (x .place) (x .size) 24) spans-table ≡ spans-table
-unfolding readSpan bytes ended settled bytesOf value items pair pairs follow fieldsAt markerOf u8At u16At u32At u64At textAt strAt ends
+unfolding readSpan inRoom bytesOf size value items pair pairs follow fieldsAt markerOf u8At u16At u32At u64At textAt strAt ends
 spans = refl

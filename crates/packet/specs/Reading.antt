@@ -41,7 +41,7 @@ unfoldable pub packetAt : List ℕ → Due
 packetAt s = pastTag stop (versionAt s) λ p. got16 stop (u16At s p) (bodyAt s)
 
 unfoldable pub incompleteOf : List ℕ → ℕ → Whole
-incompleteOf s room = pick (leb (length s) limit.bytes) (settled (packetAt s) room) (refused 1)
+incompleteOf s room = pick (leb (length s) limit.bytes) (settled (packetAt s) room) (refused 1 0)
 
 -- the whole reading: bytes left over are 3, after everything else
 unfoldable pub wholeOf : List ℕ → ℕ → Whole

@@ -2,8 +2,8 @@
 use Rattle.wire.specs.Kit.{ℕ, _≡_, refl, List, [], _∷_, _++_, map, Bool, true, false}
 use Rattle.wire.specs.Utf8.{ends}
 use Rattle.wire.specs.Field.{u8At, u16At, u24At, u32At, u64At, strAt, textAt, tagAt}
-use Rattle.image.specs.Record.{bytesOf}
-use Rattle.image.specs.Whole as whole
+use Rattle.image.specs.Record.{bytesOf, size}
+use Rattle.image.specs.Whole.{inRoom}
 use Rattle.image.specs.Taking.{flagAt, shortAt, longAt, u16, u32, u64, flag, short, long, zoned, bodyAt, recordAt}
 use Rattle.image.specs.Out as out
 use Rattle.image.specs.Out.{Written, written, row}
@@ -64,7 +64,7 @@ table =
     and []
 
 pub examples : map (λ e. rewriteOf wholeOf (e .input) 60 (e .setting) 40) table ≡ map (λ e. e .result) table
-unfolding wholeOf incompleteOf packetAt entriesAt versionAt headerAt messageAt whole.bytes whole.ended whole.settled bytesOf value items pair pairs follow
+unfolding wholeOf incompleteOf packetAt entriesAt versionAt headerAt messageAt inRoom bytesOf size value items pair pairs follow
     fieldsAt markerOf u8At u16At u24At u32At u64At textAt strAt tagAt ends flagAt shortAt longAt u16 u32 u64 flag short long zoned bodyAt recordAt out.settled
     out.ended out.bytes row writing.value writing.items writing.pairs writing.dense writing.rest writing.valueAt label entry entries packet
 examples = refl

@@ -32,7 +32,7 @@ ghost use Rattle.image.specs.Whole.{padded};
 ghost use Rattle.packet.specs.Entry.{strict, cutOf, noEntry, listOf, filled, readSpan, readEntry, foundIn};
 ghost use Rattle.packet.specs.Code.{restOf, refusedCut, countedIn, judgedOf};
 
-// What a cut returns: the bytes of the packet, and the number of its entries.
+// What a cut returns: the answer, the bytes of the packet, or on a refusal the place, and the number of its entries.
 pub struct Cutting {
     pub answer: u8,
     pub used: usize,
@@ -73,12 +73,12 @@ pub fn nth(packet: &[u8], number: usize) -> Found
     first(packet, x)
 }
 
-fn uncut(answer: u8) -> Cutting
-    ensures { λ r. ⌜ r ≡ refusedCut answer ⌝ }
+fn uncut(answer: u8, place: usize) -> Cutting
+    ensures { λ r. ⌜ r ≡ refusedCut answer place ⌝ }
 {
     Cutting {
         answer: answer,
-        used: 0,
+        used: place,
         count: 0,
     }
 }
@@ -88,16 +88,16 @@ pub(crate) fn counted(packet: &[u8], w: Walk, n: usize) -> Cutting
     ensures { λ r. ⌜ r ≡ countedIn (restOf (now (packet .entry)) w) n ⌝ }
 {
     match w {
-        Walk::Stop(a, _) => uncut(a),
+        Walk::Stop(a, p) => uncut(a, p),
         Walk::End(z) => Cutting {
             answer: ACCEPTED,
             used: z,
             count: n,
         },
         Walk::At(_, _, _) => match run_out(packet, w) {
-            Walk::Stop(a, _) => uncut(a),
-            Walk::End(_) => uncut(NO_ROOM),
-            Walk::At(_, _, _) => uncut(NO_ROOM),
+            Walk::Stop(a, p) => uncut(a, p),
+            Walk::End(_) => uncut(NO_ROOM, 0),
+            Walk::At(_, _, _) => uncut(NO_ROOM, 0),
         },
     }
 }

@@ -4,9 +4,10 @@ use Rattle.wire.proofs.Kit.{length-append, eqb, eqb-true, eqb-false}
 use Rattle.wire.specs.Number.{Bytes}
 use Rattle.wire.specs.Limit as limit
 use Rattle.wire.proofs.Stands.{Here, bytes-left}
-use Rattle.image.specs.Whole.{bytes, refused}
+use Rattle.image.specs.Whole.{bytes, refused, all}
 use Rattle.amf0_theorems.proofs.Leading.{longer}
-use Rattle.amf0_theorems.proofs.Refused.{either, ended-stop, still-refused}
+use Rattle.amf0_theorems.proofs.Refused.{still-refused}
+use Rattle.image.proofs.Settle.{either, on-stops}
 use Rattle.amf0_theorems.specs.Refusal.{Field}
 use Rattle.packet.specs.Packet.{Label, Packet, Encoded}
 use Rattle.packet.specs.Shown.{Within}
@@ -100,25 +101,25 @@ module _ {hs ms : List Slice} (s r : List ℕ) (bs : Bytes (s ++ r)) (exact : Cu
       (b .0, cut-refused-exactly s 2 (b .0) ss .1 (RefusedCut.not-cut small (b .1)))
 
   -- A proper beginning of a packet that its declared lengths cut exactly is, within the limit, refused with 2 by `cut`, whatever the list.
-  pub cut-beginning : (room : ℕ) → listOf s room ≡ uncut 2
+  pub cut-beginning : (room : ℕ) → (p : ℕ) × (listOf s room ≡ uncut 2 p)
   unfolding listOf
-  cut-beginning room = rw (cut-begun .1)
+  cut-beginning room = (cut-begun .0, rw (cut-begun .1))
 
   -- So it is by `nth`.
   pub nth-beginning : (number : ℕ) → (p : ℕ) × (foundIn (cutOf s) number ≡ Found.Stop 2 p)
   nth-beginning number = (cut-begun .0, rw (cut-begun .1))
 
   -- And by `parse_entry`.
-  pub entry-beginning : (number room : ℕ) → readEntry s number room ≡ refused 2
+  pub entry-beginning : (number room : ℕ) → (p : ℕ) × (readEntry s number room ≡ refused 2 p)
   unfolding readEntry
-  entry-beginning number room = rw (cut-begun .1)
+  entry-beginning number room = (cut-begun .0, rw (cut-begun .1))
 
 -- ---- the whole reading, over what is proved of values
 
 module _ (p : Packet) (s r : List ℕ) (room : ℕ) (packet : Encoded p (s ++ r)) (deep : Within limit.levels p) (proper : 1 ≤ length r)
     (small : length s ≤ limit.bytes) where
   -- A proper beginning of a packet whose values are not too deep is, within the limit and where it is not refused for room, refused with 2.
-  pub incomplete-beginning : incompleteOf s room .reading .answer ≢ 4 → incompleteOf s room ≡ refused 2
+  pub incomplete-beginning : incompleteOf s room .reading .answer ≢ 4 → (p : ℕ) × (incompleteOf s room ≡ refused 2 p)
   incomplete-beginning n =
       let more : More whole = record { inside = λ r q x f h i. longer q h i } in
       let bs = encoded-bytes packet in
@@ -130,9 +131,9 @@ module _ (p : Packet) (s r : List ℕ) (room : ℕ) (packet : Encoded p (s ++ r)
       let fits : length (bytes (packetAt s)) ≤ room =
       either (length (bytes (packetAt s))) room (λ i. i) (λ i. absurd (n (incomplete-room-exact s room small .1 i)))
       in
-      roomy s room small fits ∙ ended-stop (packetAt s) (bytes (packetAt s)) 2 (b .0) (packet-refused s 2 (b .0) ss .1 (b .1))
+      (b .0, roomy s room small fits ∙ on-stops (packetAt s) 2 (b .0) _ _ (packet-refused s 2 (b .0) ss .1 (b .1)))
 
   -- So it is by the whole reading.
-  pub parse-beginning : wholeOf s room .reading .answer ≢ 4 → wholeOf s room ≡ refused 2
+  pub parse-beginning : wholeOf s room .reading .answer ≢ 4 → (p : ℕ) × (wholeOf s room ≡ refused 2 p)
   unfolding wholeOf
-  parse-beginning n = rw (incomplete-beginning λ four. n (rw four))
+  parse-beginning n = let b = incomplete-beginning λ four. n (rw four) in (b .0, ap (all s) (b .1))

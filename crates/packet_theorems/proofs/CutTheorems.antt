@@ -53,11 +53,12 @@ cut-more s room more h = go (cutOf s)
         picked (λ w. w .cutting .answer ≢ 4 → listed (found es z) more ≡ w) (leb (length es) room) _ _
         (λ t n. rw (le-leb (length es) more (omega (arith, leb-true (length es) room t)))) (λ t n. absurd (n refl))
 
--- A refused cut returns 0 and 0, and has no entry of a list.
-pub cut-refused : (s : List ℕ) (room : ℕ) → listOf s room .cutting .answer ≢ 0 → listOf s room ≡ uncut (listOf s room .cutting .answer)
+-- A refused cut returns a place for the packet's bytes, counts 0, and has no entry of a list.
+pub cut-refused : (s : List ℕ) (room : ℕ) → listOf s room .cutting .answer ≢ 0
+    → listOf s room ≡ uncut (listOf s room .cutting .answer) (listOf s room .cutting .used)
 cut-refused s room = go (listOf s room) (comes-list s room)
   where
-    go : (w : Listed) → ComesList s room w → w .cutting .answer ≢ 0 → w ≡ uncut (w .cutting .answer)
+    go : (w : Listed) → ComesList s room w → w .cutting .answer ≢ 0 → w ≡ uncut (w .cutting .answer) (w .cutting .used)
     go w (ComesList.not-cut e) ne = refl
     go w (ComesList.too-short e h) ne = refl
     go w (ComesList.cut e h) ne = absurd (ne refl)

@@ -48,7 +48,7 @@ module _ (s t : List ℕ) (es : List Entry) (n : ℕ) (cut : cutOf s ≡ found e
       (value-judged t (span (getD es k noEntry)) room (omega (arith, c .small, change .long)) (omega (arith, c .all, change .long)))
 
   -- No entry has another number.
-  pub past : (k room : ℕ) → length es ≤ k → readEntry t k room ≡ refused 8
+  pub past : (k room : ℕ) → length es ≤ k → readEntry t k room ≡ refused 8 0
   unfolding readEntry
   past k room h = rw (same-cut, cut, le-ltb k (length es) h)
 

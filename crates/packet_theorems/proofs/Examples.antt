@@ -3,8 +3,8 @@ use Rattle.wire.proofs.Kit.{ℕ, _<_, _≤_, _≡_, refl, sym, _∙_, _⊎_, in
 use lib.ListN.{List·getD-append}
 use Rattle.wire.specs.Utf8.{ends}
 use Rattle.wire.specs.Field.{u8At, u16At, u32At, strAt, textAt, tagAt}
-use Rattle.image.specs.Record.{bytesOf}
-use Rattle.image.specs.Whole.{accepted, refused, bytes, ended, settled}
+use Rattle.image.specs.Record.{bytesOf, size}
+use Rattle.image.specs.Whole.{accepted, refused, inRoom}
 use Rattle.amf0.specs.Standard.{Item, Tree, Encodes, Row}
 use Rattle.amf0.specs.Standard.UTF-8.{short}
 use Rattle.amf0.specs.Reading.{value, follow}
@@ -38,7 +38,7 @@ cut = refl
 
 -- the whole reading accepts it in a room of 17 bytes
 whole : wholeOf good 17 .reading .answer ≡ 0
-unfolding wholeOf incompleteOf packetAt entriesAt versionAt headerAt messageAt u8At u16At u32At strAt textAt tagAt ends settled bytes ended value follow fieldsAt markerOf bytesOf
+unfolding wholeOf incompleteOf packetAt entriesAt versionAt headerAt messageAt u8At u16At u32At strAt textAt tagAt ends inRoom value follow fieldsAt markerOf bytesOf size
 whole = refl
 
 exact : Exact good
@@ -60,11 +60,11 @@ agrees = demand3 .agreed good 17 (omega arith) exact whole
 
 -- its entry is the null, and the bent one is damaged, both in a room of a byte
 pub accepts : readEntry good 0 1 ≡ accepted 1 (0x05 ∷ [])
-unfolding readEntry frontOf cutOf walk entryAt versionAt headerAt messageAt u8At u16At u32At strAt textAt tagAt ends settled bytes ended value follow fieldsAt markerOf bytesOf
+unfolding readEntry frontOf cutOf walk entryAt versionAt headerAt messageAt u8At u16At u32At strAt textAt tagAt ends inRoom value follow fieldsAt markerOf bytesOf size
 accepts = refl
 
-pub damaged : readEntry bent 0 1 ≡ refused 9
-unfolding readEntry frontOf cutOf walk entryAt versionAt headerAt messageAt u8At u16At u32At strAt textAt tagAt ends settled bytes ended value follow fieldsAt markerOf bytesOf
+pub damaged : readEntry bent 0 1 ≡ refused 9 15
+unfolding readEntry frontOf cutOf walk entryAt versionAt headerAt messageAt u8At u16At u32At strAt textAt tagAt ends inRoom value follow fieldsAt markerOf bytesOf size
 damaged = refl
 
 -- and the bent packet is the other with a byte in its value changed, and keeps what is beside

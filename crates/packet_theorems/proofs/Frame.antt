@@ -108,7 +108,7 @@ front-same : {s t : List ℕ} → length s ≤ limit.bytes → length t ≤ limi
 unfolding frontOf
 front-same {s} {t} i j m =
     rw (le-leb (length t) limit.bytes j, le-leb (length s) limit.bytes i, version-same m)
-    (past-same U16.Stop (versionAt s) _ _ λ c e. let r = rw e at (version-told s) in u16-same m (c .at) (omega arith) (omega (arith, r)))
+    (past-same U16.Stop (versionAt s) _ _ λ c e. let r = rw e at (version-told s) in u16-same m (c .at) (omega arith) (omega (arith, r .0)))
 
 -- a packet was cut: within the limit and up to its last byte, and it is cut alike where the same bytes stand beside the values
 pub record Cutted (s : List ℕ) (es : List Entry) (n : ℕ) : Type 0 where

@@ -1,6 +1,7 @@
 -- `Demand3` is the customer's third demand. `Theorems` and `CutTheorems` have what is proved of the calls one by one, `PacketTheorems` of packets as the Rust
--- has them, `CutExactly` of what is cut, `Refusals` which field refuses a packet, `Reasons` and `Beginnings` what that says of the calls, `WriteTheorems` what is
--- proved of the writer and of the round trip, `EntryTrip` of the trip of an entry, and `Room` of the room. The files below each are what it is proved by.
+-- has them, `CutExactly` of what is cut, `Refusals` which field refuses a packet and `Dues` which record, `Reasons` and `Beginnings` what that says of the
+-- calls, `WriteTheorems` what is proved of the writer and of the round trip, `EntryTrip` of the trip of an entry, and `Room` of the room. The files below each are
+-- what it is proved by.
 pub mod Demand3
 pub mod Same
 pub mod Frame
@@ -36,3 +37,4 @@ pub mod Cutting
 pub mod CutExactly
 pub mod Room
 pub mod EntryTrip
+pub mod Dues

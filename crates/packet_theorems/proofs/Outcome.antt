@@ -11,12 +11,13 @@ use Rattle.packet.specs.declared.entry.Found.the-variants as Found
 use Rattle.packet.specs.Reading.{packetAt}
 use Rattle.packet.specs.Entry.{Cut, found, stops, cutOf, Listed, uncut, listed, listOf, span, readSpan, entryIn, readEntry, foundIn}
 use Rattle.packet.proofs.Laws.{cut-told, entry-none, entry-chosen}
-use Rattle.packet.proofs.Reasons.{packet-kept, small, tells, forward}
+use Rattle.packet.proofs.Reasons.{packet-kept, small, tells, forward, stops-inside, due-inside}
+use Rattle.image.proofs.Settle.{due-lacks}
 use Rattle.packet_theorems.proofs.Frame.{cut-read}
 
 -- ---- the incomplete reading
 
--- it ends inside the packet, is refused with another answer than 1 and 4, and makes at most three bytes for each of the packet
+-- it ends inside the packet, is refused at a place inside it, by a field with another answer than 1 and 4, and makes at most three bytes for each of the packet
 pub packet-bounded : (s : List ℕ) → Bounded s (packetAt s)
 packet-bounded s =
     let k = packet-kept s in
@@ -25,13 +26,15 @@ packet-bounded s =
       low = λ a p t. tells s 0 (packetAt s) k a p t .low;
       other = λ a p t. tells s 0 (packetAt s) k a p t .room;
       small = omega (arith, small s 0 (packetAt s) k);
+      inside = stops-inside s 0 (packetAt s) k;
+      due-at = λ room p l. due-lacks (λ r q. q ≤ length s) (packetAt s) 0 room p (due-inside s 0 (packetAt s) k) l .1;
     }
 
 -- ---- an entry
 
 -- a part of a packet is over the limit or not inside it, or else answers by its bytes
-pub span-either : (P : Whole → Type 0) (s : List ℕ) (place n room : ℕ) → (limit.bytes < length s → P (refused 1))
-    → (length s ≤ limit.bytes → length s < place + n → P (refused 8))
+pub span-either : (P : Whole → Type 0) (s : List ℕ) (place n room : ℕ) → (limit.bytes < length s → P (refused 1 0))
+    → (length s ≤ limit.bytes → length s < place + n → P (refused 8 0))
     → (length s ≤ limit.bytes → place + n ≤ length s → P (answerOf oneValue s (spanAt place n) room)) → P (readSpan s place n room)
 unfolding readSpan
 span-either P s place n room f g h =
@@ -40,7 +43,7 @@ span-either P s place n room f g h =
     (λ t. f (leb-false _ _ t))
 
 -- an entry is refused as the cut is, or for want of it, or else answers by its bytes
-pub entry-either : (P : Whole → Type 0) (s : List ℕ) (number room : ℕ) → ((a p : ℕ) → foundIn (cutOf s) number ≡ Found.Stop a p → P (refused a))
+pub entry-either : (P : Whole → Type 0) (s : List ℕ) (number room : ℕ) → ((a p : ℕ) → foundIn (cutOf s) number ≡ Found.Stop a p → P (refused a p))
     → ((e : Entry) → foundIn (cutOf s) number ≡ Found.Is e → length s ≤ limit.bytes → e .place + e .length ≤ length s → P (answerOf oneValue s (span e) room))
     → P (readEntry s number room)
 unfolding readEntry
@@ -54,8 +57,8 @@ entry-either P s number room f g = go (foundIn (cutOf s) number) refl
 
 -- the cut into a list
 pub data ComesList (s : List ℕ) (room : ℕ) : Listed → Type 0 where
-  not-cut : {a p : ℕ} → cutOf s ≡ stops a p → ComesList s room (uncut a)
-  too-short : {es : List Entry} → cutOf s ≡ found es (length s) → room < length es → ComesList s room (uncut 4)
+  not-cut : {a p : ℕ} → cutOf s ≡ stops a p → ComesList s room (uncut a p)
+  too-short : {es : List Entry} → cutOf s ≡ found es (length s) → room < length es → ComesList s room (uncut 4 0)
   cut : {es : List Entry} → cutOf s ≡ found es (length s) → length es ≤ room
       → ComesList s room (record { cutting = record { answer = 0; used = length s; count = length es }; entries = es })
 

@@ -13,7 +13,8 @@ use Rattle.amf0.specs.Shown.{Shows}
 use Rattle.amf0_theorems.proofs.Spans.{length-based, Takes, past, lies-within, alone, all-value}
 use Rattle.amf0_theorems.proofs.Telling as telling
 use Rattle.amf0_theorems.proofs.Spelling.{shown}
-use Rattle.amf0_theorems.proofs.Call.{Taken, ended-at, value-bounded}
+use Rattle.amf0_theorems.proofs.Call.{Taken, value-bounded}
+use Rattle.image.proofs.Settle.{on-ends}
 use Rattle.packet.specs.declared.head.Entry.{Entry}
 use Rattle.packet.specs.Packet.{Packet, Encoded}
 use Rattle.packet.specs.Shown.{ShowsPacket, Within}
@@ -75,7 +76,7 @@ pub complete-incomplete : (p : Packet) (x r : List ℕ) (room : ℕ) → Encoded
 complete-incomplete p x r room e l h i =
     let t = packet-told (x ++ r) r e (record { same = refl }) l in
     let d : Due = packetAt (x ++ r) in
-    rw (roomy (x ++ r) room h (omega (arith, packet-bounded (x ++ r) .small)), ended-at d (bytes d) (length x) (t .ends))
+    rw (roomy (x ++ r) room h (omega (arith, packet-bounded (x ++ r) .small)), on-ends d (length x) _ _ (t .ends))
     (record { answer = refl; used = refl; shows = t .shows h })
 
 -- And by the whole reading, where nothing follows it.
@@ -85,7 +86,7 @@ unfolding wholeOf
 complete p s room e l h i =
     let t = packet-told s [] e (record { same = sym (append-nil s) }) l in
     let d : Due = packetAt s in
-    rw (roomy s room h (omega (arith, packet-bounded s .small)), ended-at d (bytes d) (length s) (t .ends), le-leb (length s) (length s) (le-refl (length s)))
+    rw (roomy s room h (omega (arith, packet-bounded s .small)), on-ends d (length s) _ _ (t .ends), le-leb (length s) (length s) (le-refl (length s)))
     (record { answer = refl; used = refl; shows = t .shows h })
 
 -- Within the limit, and where the room is three times the input, the whole reading accepts exactly the standard's packets.

@@ -4,7 +4,7 @@ use Rattle.wire.proofs.Kit.{ltb-true, ltb-false, ne-eqb}
 use Rattle.wire.specs.Number.{Bytes}
 use Rattle.wire.specs.Limit as limit
 use Rattle.wire.proofs.Laws.{picked}
-use Rattle.image.specs.Whole.{Whole, bytes, refused, ended, settled, all}
+use Rattle.image.specs.Whole.{Whole, refused, inRoom, all}
 use Rattle.amf0.specs.Span.{Span, spanAt, Fault}
 use Rattle.amf0_theorems.proofs.Call.{call-either}
 use Rattle.amf0_theorems.specs.Refusal.{Field, Refuses}
@@ -19,12 +19,13 @@ use Rattle.packet.proofs.Laws.{cut-told, entry-none, entry-chosen}
 use Rattle.packet_theorems.specs.Refusal.{Way, whole, Entries, IsPacket, Seven, RefusedPacket, RefusedCut}
 use Rattle.packet_theorems.specs.Why.{Readable, Comes, ComesWhole, ComesList, ComesNth, ComesEntry, ComesSpan}
 use Rattle.packet_theorems.proofs.Outcome as outcome
-use Rattle.packet_theorems.proofs.Outcome.{comes-list, span-either}
+use Rattle.packet_theorems.proofs.Outcome.{comes-list, span-either, entry-either}
 use Rattle.packet_theorems.proofs.CutExactly.{cut-sound}
 use Rattle.packet_theorems.proofs.Whole.{packet-found, encoded-row}
 use Rattle.packet_theorems.proofs.Ways.{seven-version}
 use Rattle.packet_theorems.proofs.Refusals.{packet-refused, cut-refused-exactly}
-use Rattle.amf0_theorems.proofs.Spans.{all-here, left-behind, comes-value}
+use Rattle.amf0_theorems.proofs.Spans.{all-here, left-behind, comes-value, value-inside}
+use Rattle.amf0_theorems.proofs.Refused.{refused-inside}
 use Rattle.amf0_theorems.specs.Spans.{LeftOver, ComesValue}
 
 -- ---- the grammar and the packet as the Rust has it
@@ -91,6 +92,41 @@ nth-reasons s number bs = go (cutOf s) refl
         let f = cut-sound s es z bs e in
         picked (ComesNth s number) (ltb number (length es)) _ _ (λ t. ComesNth.is f (ltb-true _ _ t)) (λ t. ComesNth.no-entry f (ltb-false _ _ t))
 
+-- ---- places
+
+left-inside : {P : List ℕ → Type 0} {s : List ℕ} {a p : ℕ} → LeftOver P s a p → p ≤ length s
+left-inside (LeftOver.behind {x} b r i) = omega (arith, length-append x (b ∷ r))
+
+-- what refuses a cut is inside the packet
+cut-refused-inside : {s : List ℕ} {a p : ℕ} → RefusedCut s a p → p ≤ length s
+cut-refused-inside (RefusedCut.over-limit l) = omega arith
+cut-refused-inside (RefusedCut.not-cut l (RefusedPacket.version-3 Seven.begins)) = omega arith
+cut-refused-inside (RefusedCut.not-cut l (RefusedPacket.field q)) = refused-inside q (omega arith)
+cut-refused-inside (RefusedCut.left-over l x) = left-inside x
+
+-- The bytes of a packet that was cut, or the place of a refusal, are inside the packet.
+pub cut-inside : (s : List ℕ) (room : ℕ) → Bytes s → listOf s room .cutting .used ≤ length s
+cut-inside s room bs = go (cut-reasons s room bs)
+  where
+    go : {w : Listed} → ComesList s room w → w .cutting .used ≤ length s
+    go (ComesList.not-cut q) = cut-refused-inside q
+    go (ComesList.too-short c l) = omega arith
+    go (ComesList.cut c l) = omega arith
+
+-- So is the place of a refusal of `nth`,
+pub nth-inside : (s : List ℕ) (number a p : ℕ) → Bytes s → foundIn (cutOf s) number ≡ Found.Stop a p → p ≤ length s
+nth-inside s number a p bs = go (nth-reasons s number bs)
+  where
+    go : {f : Found} → ComesNth s number f → f ≡ Found.Stop a p → p ≤ length s
+    go (ComesNth.not-cut {p = q} r) e = let same : q ≡ p = cc in omega (arith, cut-refused-inside r)
+    go (ComesNth.no-entry c l) e = let same : 0 ≡ p = cc in omega arith
+    go (ComesNth.is c l) e = let z : _≡_ {A = ℕ} 0 1 = cc in absurd (omega arith)
+
+-- and so are the bytes that `parse_entry` used, or the place of its refusal.
+pub entry-inside : (s : List ℕ) (number room : ℕ) → Bytes s → readEntry s number room .reading .used ≤ length s
+entry-inside s number room bs =
+    entry-either (λ w. w .reading .used ≤ length s) s number room (λ a p h. nth-inside s number a p bs h) (λ e h l i. value-inside s (span e) room i)
+
 -- ---- answers
 
 -- the answers of fields
@@ -128,9 +164,9 @@ cut-seven-of (RefusedCut.left-over l x) e = absurd (omega (arith, left-three x))
 -- ---- version 3
 
 -- an input of version 3 is refused at once, whatever the room
-seven-read : (s : List ℕ) (room : ℕ) → length s ≤ limit.bytes → Seven s → incompleteOf s room ≡ refused 7
-unfolding incompleteOf packetAt settled bytes ended
-seven-read s room l v = rw (le-leb (length s) limit.bytes l, seven-version v, le-leb 0 room (omega arith))
+seven-read : (s : List ℕ) (room : ℕ) → length s ≤ limit.bytes → Seven s → incompleteOf s room ≡ refused 7 1
+unfolding incompleteOf packetAt inRoom
+seven-read s room l v = rw (le-leb (length s) limit.bytes l, seven-version v)
 
 seven-cut : (s : List ℕ) → Bytes s → length s ≤ limit.bytes → Seven s → cutOf s ≡ stops 7 1
 seven-cut s bs l v = cut-refused-exactly s 7 1 bs .1 (RefusedCut.not-cut l (RefusedPacket.version-3 v))
@@ -160,7 +196,7 @@ nth-seven s number bs = (λ x. go (nth-reasons s number bs) (x .1), λ x. (1, rw
 pub reasons : (s : List ℕ) (room : ℕ) → Bytes s → Comes s room (incompleteOf s room)
 unfolding incompleteOf
 reasons s room bs =
-    call-either s (packetAt s) room (Comes s room) Comes.over-limit Comes.no-room
+    call-either s (packetAt s) room (Comes s room) Comes.over-limit (λ i p j. Comes.no-room i j)
     (λ i j n e.
     let f = packet-found s n bs e in
     let p : Readable (f .row) = record { packet = f .packet; encoded = f .encoded; within = f .within } in
@@ -229,7 +265,7 @@ unfolding readEntry
 entry-seven s number room bs = (go (entry-reasons s number room bs), λ x. rw (seven-cut s bs (x .0) (x .1)))
   where
     other : {i : Span} {w : Whole} → ComesValue s i room w → w .reading .answer ≢ 7
-    other (ComesValue.no-room h) e = omega arith
+    other (ComesValue.no-room q h) e = omega arith
     other (ComesValue.deep h q) e = omega arith
     other (ComesValue.damaged h q a) e = omega arith
     other (ComesValue.unused h x) e = omega arith

@@ -3,16 +3,17 @@ use Rattle.wire.proofs.Kit.{ℕ, _*_, _≤_, _<_, _≡_, refl, ap, _≢_, _↔_
 use Rattle.wire.specs.Limit as limit
 use Rattle.wire.specs.Text.{insideOf}
 use Rattle.image.specs.Out.{written}
-use Rattle.image.specs.Whole.{Whole, bytes, refused, all}
+use Rattle.image.specs.Due.{Lacks}
+use Rattle.image.specs.Whole.{Whole, bytes, accepted, refused, all}
 use Rattle.amf0.specs.Span.{Span, spanAt, judge, inSpan, answerOf, oneValue}
-use Rattle.amf0_theorems.proofs.More.{More, settled-more, pick-more, pass-more, any-room}
+use Rattle.amf0_theorems.proofs.More.{More, in-room-more, pick-more, pass-more, any-room, all-refusal}
 use Rattle.amf0_theorems.proofs.Room.{alike-length}
 use Rattle.packet.specs.Reading.{packetAt, incompleteOf, wholeOf}
 use Rattle.packet.specs.Entry.{Cut, found, stops, cutOf, noEntry, span, readSpan, entryIn, readEntry}
 use Rattle.packet.specs.Writing.{writeOf}
 use Rattle.packet.specs.Written.{rewriteOf}
 use Rattle.packet_theorems.proofs.Taken.{whole-taken}
-use Rattle.packet_theorems.proofs.Theorems.{over-all, incomplete-room-exact}
+use Rattle.packet_theorems.proofs.Theorems.{over-all, incomplete-room-exact, incomplete-room-place}
 use Rattle.packet_theorems.proofs.WriteTheorems.{RoundTrip, round-trip, again}
 use Rattle.packet_theorems.proofs.WriteOutcome.{WasRead}
 
@@ -20,12 +21,12 @@ use Rattle.packet_theorems.proofs.WriteOutcome.{WasRead}
 
 -- the value in a span
 value-more : (s : List ℕ) (p : Span) → More (answerOf oneValue s p)
-value-more s p = pass-more (judge (p .length)) (λ w four. rw four) (settled-more (inSpan oneValue s p))
+value-more s p = pass-more (judge p) (λ w four. rw four) (in-room-more (inSpan oneValue s p) accepted refused)
 
 -- Where a room does, every larger room gives the same to `parse_incomplete`.
 pub incomplete-more : (s : List ℕ) (room more : ℕ) → room ≤ more → incompleteOf s room .reading .answer ≢ 4 → incompleteOf s more ≡ incompleteOf s room
 unfolding incompleteOf
-incomplete-more s = pick-more (leb (length s) limit.bytes) (refused 1) (settled-more (packetAt s))
+incomplete-more s = pick-more (leb (length s) limit.bytes) (refused 1 0) (in-room-more (packetAt s) accepted refused)
 
 -- And to `parse`.
 pub parse-more : (s : List ℕ) (room more : ℕ) → room ≤ more → wholeOf s room .reading .answer ≢ 4 → wholeOf s more ≡ wholeOf s room
@@ -39,13 +40,13 @@ entry-more s number = go (cutOf s)
   where
     go : (x : Cut) → More (entryIn s x number)
     go (stops a p) = λ room more h n. refl
-    go (found es z) = pick-more (ltb number (length es)) (refused 8) (value-more s (span (getD es number noEntry)))
+    go (found es z) = pick-more (ltb number (length es)) (refused 8 0) (value-more s (span (getD es number noEntry)))
 
 -- And to `parse_span`.
 pub span-more : (s : List ℕ) (place n room more : ℕ) → room ≤ more → readSpan s place n room .reading .answer ≢ 4 → readSpan s place n more ≡ readSpan s place n room
 unfolding readSpan
 span-more s place n =
-    pick-more (leb (length s) limit.bytes) (refused 1) (pick-more (insideOf s place n) (refused 8) (value-more s (spanAt place n)))
+    pick-more (leb (length s) limit.bytes) (refused 1 0) (pick-more (insideOf s place n) (refused 8 0) (value-more s (spanAt place n)))
 
 -- ---- the room
 
@@ -57,6 +58,11 @@ parse-room-exact s room h =
       over-all (λ w. w .reading .answer ≡ 4 → room < length (bytes (packetAt s))) s room (x .0) (λ e. absurd (omega arith)),
       λ l. let four = x .1 l in rw four,
     )
+
+-- And its place is then that of the first record that has no room.
+pub parse-room-place : (s : List ℕ) (room p : ℕ) → length s ≤ limit.bytes → wholeOf s room ≡ refused 4 p ↔ Lacks (packetAt s) 0 room p
+unfolding wholeOf
+parse-room-place s room p h = all-refusal s (incompleteOf s room) 4 p (λ z. omega arith) (λ z. omega arith) (incomplete-room-place s room p h)
 
 -- what was written of a packet that was read is not refused for room where the first image has room.
 holds : {s b : List ℕ} {exact : Bool} {v : Whole} (more room : ℕ) → RoundTrip s b exact v (wholeOf b more) → length (v .bytes) ≤ room

@@ -1,11 +1,11 @@
 -- What a reading accepts: a reading that ends inside the packet, within the limit and the room.
 use Rattle.wire.proofs.Kit.{ℕ, _≤_, _≡_, List, arith, length, subst}
 use Rattle.wire.specs.Limit as limit
-use Rattle.image.specs.Whole.{bytes, ended}
+use Rattle.image.specs.Whole.{bytes}
 use Rattle.amf0_theorems.proofs.Call.{Taken, call-roomy, call-takes}
 use Rattle.packet.specs.Reading.{packetAt, incompleteOf, wholeOf}
 use Rattle.packet_theorems.proofs.Outcome.{packet-bounded}
-use Rattle.image.proofs.Settle.{all-cases}
+use Rattle.image.proofs.Settle.{ended, all-cases}
 
 -- an incomplete reading in a room that is large enough
 pub roomy : (s : List ℕ) (room : ℕ) → length s ≤ limit.bytes → length (bytes (packetAt s)) ≤ room → incompleteOf s room ≡ ended (packetAt s) (bytes (packetAt s))

@@ -2,6 +2,7 @@
 use Rattle.wire.proofs.Kit.{ℕ, _*_, _≤_, _<_, _≡_, refl, sym, ap, _∙_, _≢_, _↔_, List, arith, length, ltb, lt-leb}
 use Rattle.wire.specs.Limit as limit
 use Rattle.wire.proofs.Laws.{picked, pick-no}
+use Rattle.image.specs.Due.{Lacks}
 use Rattle.image.specs.Whole.{Whole, bytes, refused, all}
 use Rattle.packet.specs.declared.head.Entry.{Entry}
 use Rattle.packet.specs.declared.entry.Found.{Found}
@@ -11,11 +12,11 @@ use Rattle.packet.specs.Reading.{packetAt, incompleteOf, wholeOf}
 use Rattle.packet.specs.Entry.{Cut, found, stops, cutOf, readSpan, readEntry, foundIn, span}
 use Rattle.packet.proofs.Laws.{Splits, cut-told, entry-chosen, span-read}
 use Rattle.packet.proofs.Reasons.{packet-kept, tells}
-use Rattle.amf0.specs.Span.{Span, spanAt, held, oneValue}
-use Rattle.amf0_theorems.proofs.Call.{value-sober, value-bounded, call-answers, call-refused, call-over-limit, call-room-exact, call-room, call-takes}
+use Rattle.amf0.specs.Span.{Span, spanAt, held, inSpan, oneValue}
+use Rattle.amf0_theorems.proofs.Call.{value-sober, value-bounded, call-answers, call-refused, call-over-limit, call-room-exact, call-room-place, call-room, call-inside, call-takes}
 use Rattle.amf0_theorems.proofs.Spans.{length-based, held-length, answer-either, answer-known, answer-refused, answer-takes, TakesSpan}
 use Rattle.packet_theorems.proofs.Outcome.{packet-bounded, span-either, entry-either}
-use Rattle.image.proofs.Settle.{all-cases}
+use Rattle.image.proofs.Settle.{lacks-over, all-cases}
 
 -- ---- the answers
 
@@ -32,8 +33,8 @@ incomplete-answers s room =
     let b = tells s 0 (packetAt s) (packet-kept s) a p t in
     record { high = b .high; tree = b .tree }
 
--- what holds of the incomplete reading and of a refusal with 3 holds of the whole one
-pub over-all : (P : Whole → Type 0) (s : List ℕ) (room : ℕ) → P (incompleteOf s room) → P (refused 3) → P (wholeOf s room)
+-- what holds of the incomplete reading, and of a refusal with 3 where that one ends, holds of the whole one
+pub over-all : (P : Whole → Type 0) (s : List ℕ) (room : ℕ) → P (incompleteOf s room) → P (refused 3 (incompleteOf s room .reading .used)) → P (wholeOf s room)
 unfolding wholeOf
 over-all P s room f g = all-cases s (incompleteOf s room) P (λ a. f) (λ a l. g) (λ a l. f)
 
@@ -151,18 +152,28 @@ entry-span s number room e f =
 
 -- ---- refusals
 
--- A refused call returns 0 and 0, and has no byte of an image.
-pub incomplete-refused : (s : List ℕ) (room : ℕ) → incompleteOf s room .reading .answer ≢ 0 → incompleteOf s room ≡ refused (incompleteOf s room .reading .answer)
+-- A refused call returns a place for the bytes used, makes none, and has no byte of an image.
+pub incomplete-refused : (s : List ℕ) (room : ℕ) → incompleteOf s room .reading .answer ≢ 0
+    → incompleteOf s room ≡ refused (incompleteOf s room .reading .answer) (incompleteOf s room .reading .used)
 unfolding incompleteOf
 incomplete-refused s room = call-refused s (packetAt s) room
 
-pub parse-refused : (s : List ℕ) (room : ℕ) → wholeOf s room .reading .answer ≢ 0 → wholeOf s room ≡ refused (wholeOf s room .reading .answer)
-parse-refused s room = over-all (λ w. w .reading .answer ≢ 0 → w ≡ refused (w .reading .answer)) s room (incomplete-refused s room) (λ ne. refl)
+pub parse-refused : (s : List ℕ) (room : ℕ) → wholeOf s room .reading .answer ≢ 0
+    → wholeOf s room ≡ refused (wholeOf s room .reading .answer) (wholeOf s room .reading .used)
+parse-refused s room = over-all (λ w. w .reading .answer ≢ 0 → w ≡ refused (w .reading .answer) (w .reading .used)) s room (incomplete-refused s room) (λ ne. refl)
 
 pub entry-refused : (s : List ℕ) (number room : ℕ) → readEntry s number room .reading .answer ≢ 0
-    → readEntry s number room ≡ refused (readEntry s number room .reading .answer)
-entry-refused s number room = entry-either (λ w. w .reading .answer ≢ 0 → w ≡ refused (w .reading .answer)) s number room (λ a p h ne. refl)
+    → readEntry s number room ≡ refused (readEntry s number room .reading .answer) (readEntry s number room .reading .used)
+entry-refused s number room = entry-either (λ w. w .reading .answer ≢ 0 → w ≡ refused (w .reading .answer) (w .reading .used)) s number room (λ a p h ne. refl)
     (λ e h l i. answer-refused oneValue s (span e) i (value-sober _) room)
+
+-- The bytes used by `parse_incomplete` or `parse`, or the place of their refusal, are inside the input.
+pub incomplete-inside : (s : List ℕ) (room : ℕ) → incompleteOf s room .reading .used ≤ length s
+unfolding incompleteOf
+incomplete-inside s room = call-inside s (packetAt s) room (packet-bounded s)
+
+pub parse-inside : (s : List ℕ) (room : ℕ) → wholeOf s room .reading .used ≤ length s
+parse-inside s room = let n = incomplete-inside s room in over-all (λ w. w .reading .used ≤ length s) s room n n
 
 -- ---- the room
 
@@ -177,6 +188,11 @@ pub incomplete-room-exact : (s : List ℕ) (room : ℕ) → length s ≤ limit.b
 unfolding incompleteOf
 incomplete-room-exact s room = call-room-exact s (packetAt s) room (packet-bounded s)
 
+-- And its place is then that of the first record that has no room.
+pub incomplete-room-place : (s : List ℕ) (room p : ℕ) → length s ≤ limit.bytes → incompleteOf s room ≡ refused 4 p ↔ Lacks (packetAt s) 0 room p
+unfolding incompleteOf
+incomplete-room-place s room p = call-room-place s (packetAt s) room (packet-bounded s) p
+
 pub parse-room : (s : List ℕ) (room : ℕ) → 3 * length s ≤ room → wholeOf s room .reading .answer ≢ 4
 parse-room s room h = over-all (λ w. w .reading .answer ≢ 4) s room (incomplete-room s room h) (λ e. omega arith)
 
@@ -187,7 +203,7 @@ span-room s place n room h =
     let p : Span = spanAt place n in
     span-either P s place n room (λ l e. omega arith) (λ l i e. omega arith) λ l i.
     answer-either oneValue s p i (value-sober _) room P
-    (λ r e. omega (arith, length-based place (oneValue (held s p)), value-bounded (held s p) .small, held-length s p i)) (λ r q t e. omega arith) (λ r a q t k e. omega arith)
+    (λ q r e. omega (arith, lacks-over (inSpan oneValue s p) 0 room q r, length-based place (oneValue (held s p)), value-bounded (held s p) .small, held-length s p i)) (λ r q t e. omega arith) (λ r a q t k e. omega arith)
     (λ r m t k e. omega arith) (λ r t e. omega arith)
 
 -- So it is for an entry in a room of three bytes for each byte of its span: the other entries don't count.

@@ -1,7 +1,9 @@
 -- What the packet calls can come to in a room, and when: a room too small refuses before any other reason but the limit. What stands in the input, which
--- field refuses it, and into what it is cut, is said by the grammars; that a room is too small, by the records that the definitions find.
+-- field refuses it, and into what it is cut, is said by the grammars; that a room is too small, by the records that the definitions find. A refusal has the place
+-- of the field, or of the record, that is its reason.
 use Rattle.wire.specs.Kit.{ℕ, _+_, _≤_, _<_, _≡_, List, _++_, length, getD}
 use Rattle.wire.specs.Limit as limit
+use Rattle.image.specs.Due.{Lacks}
 use Rattle.image.specs.Whole.{Whole, bytes, accepted, refused}
 use Rattle.amf0.specs.Span.{spanAt}
 use Rattle.amf0_theorems.specs.Spans.{LeftOver, ComesValue}
@@ -25,26 +27,26 @@ pub record Readable (x : List ℕ) : Type 0 where
 
 -- the incomplete reading
 pub data Comes (s : List ℕ) (room : ℕ) : Whole → Type 0 where
-  over-limit : limit.bytes < length s → Comes s room (refused 1)
-  no-room : length s ≤ limit.bytes → room < length (bytes (packetAt s)) → Comes s room (refused 4)
-  not-read : {a p : ℕ} → length s ≤ limit.bytes → length (bytes (packetAt s)) ≤ room → RefusedPacket whole s a p → Comes s room (refused a)
+  over-limit : limit.bytes < length s → Comes s room (refused 1 0)
+  no-room : {p : ℕ} → length s ≤ limit.bytes → Lacks (packetAt s) 0 room p → Comes s room (refused 4 p)
+  not-read : {a p : ℕ} → length s ≤ limit.bytes → length (bytes (packetAt s)) ≤ room → RefusedPacket whole s a p → Comes s room (refused a p)
   read : {x : List ℕ} (r : List ℕ) → length s ≤ limit.bytes → length (bytes (packetAt s)) ≤ room → s ≡ x ++ r → Readable x
       → Comes s room (accepted (length x) (bytes (packetAt s)))
 
 -- the reading to the last byte
 pub data ComesWhole (s : List ℕ) (room : ℕ) : Whole → Type 0 where
-  over-limit : limit.bytes < length s → ComesWhole s room (refused 1)
-  no-room : length s ≤ limit.bytes → room < length (bytes (packetAt s)) → ComesWhole s room (refused 4)
-  not-read : {a p : ℕ} → length s ≤ limit.bytes → length (bytes (packetAt s)) ≤ room → RefusedPacket whole s a p → ComesWhole s room (refused a)
-  left-over : {a p : ℕ} → length s ≤ limit.bytes → length (bytes (packetAt s)) ≤ room → LeftOver Readable s a p → ComesWhole s room (refused a)
+  over-limit : limit.bytes < length s → ComesWhole s room (refused 1 0)
+  no-room : {p : ℕ} → length s ≤ limit.bytes → Lacks (packetAt s) 0 room p → ComesWhole s room (refused 4 p)
+  not-read : {a p : ℕ} → length s ≤ limit.bytes → length (bytes (packetAt s)) ≤ room → RefusedPacket whole s a p → ComesWhole s room (refused a p)
+  left-over : {a p : ℕ} → length s ≤ limit.bytes → length (bytes (packetAt s)) ≤ room → LeftOver Readable s a p → ComesWhole s room (refused a p)
   read : length s ≤ limit.bytes → length (bytes (packetAt s)) ≤ room → Readable s → ComesWhole s room (accepted (length s) (bytes (packetAt s)))
 
 -- ---- the cut
 
 -- the cut into a list
 pub data ComesList (s : List ℕ) (room : ℕ) : Listed → Type 0 where
-  not-cut : {a p : ℕ} → RefusedCut s a p → ComesList s room (uncut a)
-  too-short : {es : List Entry} → CutInto s es → room < length es → ComesList s room (uncut 4)
+  not-cut : {a p : ℕ} → RefusedCut s a p → ComesList s room (uncut a p)
+  too-short : {es : List Entry} → CutInto s es → room < length es → ComesList s room (uncut 4 0)
   cut : {es : List Entry} → CutInto s es → length es ≤ room
       → ComesList s room (record { cutting = record { answer = 0; used = length s; count = length es }; entries = es })
 
@@ -58,12 +60,12 @@ pub data ComesNth (s : List ℕ) (number : ℕ) : Found → Type 0 where
 
 -- the reading of entry `number`
 pub data ComesEntry (s : List ℕ) (number room : ℕ) : Whole → Type 0 where
-  not-cut : {a p : ℕ} → RefusedCut s a p → ComesEntry s number room (refused a)
-  no-entry : {es : List Entry} → CutInto s es → length es ≤ number → ComesEntry s number room (refused 8)
+  not-cut : {a p : ℕ} → RefusedCut s a p → ComesEntry s number room (refused a p)
+  no-entry : {es : List Entry} → CutInto s es → length es ≤ number → ComesEntry s number room (refused 8 0)
   found : {es : List Entry} {w : Whole} → CutInto s es → number < length es → ComesValue s (span (getD es number noEntry)) room w → ComesEntry s number room w
 
 -- the reading of n bytes from a place on
 pub data ComesSpan (s : List ℕ) (place n room : ℕ) : Whole → Type 0 where
-  over-limit : limit.bytes < length s → ComesSpan s place n room (refused 1)
-  outside : length s ≤ limit.bytes → length s < place + n → ComesSpan s place n room (refused 8)
+  over-limit : limit.bytes < length s → ComesSpan s place n room (refused 1 0)
+  outside : length s ≤ limit.bytes → length s < place + n → ComesSpan s place n room (refused 8 0)
   inside : {w : Whole} → length s ≤ limit.bytes → place + n ≤ length s → ComesValue s (spanAt place n) room w → ComesSpan s place n room w

@@ -19,6 +19,11 @@
 //     0C  make_index(image, text, an index of a bytes)             answer count index
 //     0D  find(image, text, index, path), where the second row     1 place, or 0 0
 //         is the index of a bytes, the path of b, and the text
+//     0F  parse_span(first row, place b, a length that the second  answer used made image
+//         row has in four bytes, an image of a bytes)
+//     10  nth(first row, number b)                                 answer place, and the entry as in 09; zeros for the one that isn't there
+//
+// Where a reading or a cut is refused, `used` is the place of the refusal. A second row of 0D or 0F that is too short prints `over` too.
 mod output;
 
 ghost use Prim.Native.Nat.{_<_, _≤_};
@@ -33,7 +38,10 @@ use output::number;
 use output::row;
 use output::word;
 use packet::entry::Cutting;
+use packet::entry::Found;
 use packet::entry::cut;
+use packet::entry::nth;
+use packet::entry::parse_span;
 use packet::head::Entry;
 use wire::cursor::Cursor;
 use wire::cursor::U32;
@@ -184,6 +192,18 @@ fn read_entry(input: &[u8], number: usize, image: &mut [u8]) {
     tell_reading(packet::entry::parse_entry(input, number, image), image);
 }
 
+// The value at a place of a packet; `length` has its length in four bytes.
+fn read_span(input: &[u8], place: usize, length: &[u8], image: &mut [u8]) {
+    let c = Cursor { at: 0 };
+    match c.be_u32(length) {
+        U32::Got(n, _) => {
+            fill(image, UNREAD);
+            tell_reading(parse_span(input, place, n as usize, image), image);
+        }
+        U32::Stop(_, _) => word(b"over\n"),
+    }
+}
+
 // An entry that no packet has.
 fn unread_entry() -> Entry {
     Entry {
@@ -236,6 +256,22 @@ fn cut_packet(input: &[u8], n: usize)
         let e = list[i];
         tell_entry(e);
         i += 1;
+    }
+    word(b"\n");
+}
+
+fn tell_found(found: Found) {
+    match found {
+        Found::Is(e) => {
+            word(b"0 0");
+            tell_entry(e);
+        }
+        Found::Stop(a, place) => {
+            number(a as usize);
+            word(b" ");
+            number(place);
+            word(b" 0.0.0.0.0.0.0.0");
+        }
     }
     word(b"\n");
 }
@@ -304,6 +340,8 @@ fn call(operation: u8, b: usize, first: &[u8], second: &[u8], buffer: &mut [u8])
         0x08 => write_packet(first, second, b == 1, buffer),
         0x0A => read_entry(first, b, buffer),
         0x0C => index_keys(first, second, buffer),
+        0x0F => read_span(first, b, second, buffer),
+        0x10 => tell_found(nth(first, b)),
         _ => word(b"no such operation\n"),
     }
 }

@@ -22,8 +22,8 @@ pub row-nth : (s : List ℕ) (room n k : ℕ) → k < listOf s room .cutting .co
 unfolding listOf
 row-nth s room n k = go (cutOf s)
   where
-    fit : (es : List Entry) (z : ℕ) (t : Bool) → k < pick t (all es z) (uncut 4) .cutting .count
-        → take 8 (drop (8 * k) (rowOf (pick t (all es z) (uncut 4) .entries) n)) ≡ foundNumbers (foundIn (found es z) k)
+    fit : (es : List Entry) (z : ℕ) (t : Bool) → k < pick t (all es z) (uncut 4 0) .cutting .count
+        → take 8 (drop (8 * k) (rowOf (pick t (all es z) (uncut 4 0) .entries) n)) ≡ foundNumbers (foundIn (found es z) k)
     fit es z true h = rw (lt-ltb k (length es) h) (numbers-at es (replicate (n - length (numbersOf es)) 0) k h)
     fit es z false h = absurd (omega arith)
 

@@ -5,7 +5,14 @@
 //!
 //! A reading fills an image, a row of records ([`record_at`]); a text in it is a place and a length in the input ([`part`]). Past what is made the image is
 //! zero, and all of it where a reading is refused. A refused writing changes nothing. An [`index`] beside an image finds a value by its keys ([`find`]).
+//!
+//! A refused reading tells why and where: a [`Refusal`] has the [`Answer`] and the place in the input. So does [`packet_cut`]. The other calls tell the answer
+//! alone: writings and [`index`] read no input, [`record_at`] was given its place, and [`packet_nth`] is refused where [`packet_cut`] is, which tells the place.
+//! A `Refusal` turns into its `Answer` by `?`, and both are errors.
 #![no_std]
+
+use core::error::Error;
+use core::fmt;
 
 mod sys {
     extern "C" {
@@ -60,10 +67,10 @@ mod sys {
     }
 }
 
-/// Why a call was refused: the answers of the library but 0.
+/// Why a call was refused: the answers of the library but 0. `answer as u8` is its number.
 #[derive(Clone, Copy, Debug, PartialEq, Eq)]
 #[repr(u8)]
-pub enum Refusal {
+pub enum Answer {
     OverLimit = 1,
     NotWhole = 2,
     NotRight = 3,
@@ -75,8 +82,63 @@ pub enum Refusal {
     Damaged = 9,
 }
 
-fn judged<T>(answer: u8, value: T) -> Result<T, Refusal> {
-    use Refusal::*;
+impl Answer {
+    /// What the answer means.
+    pub fn words(self) -> &'static str {
+        match self {
+            Answer::OverLimit => "an input, a text, an image or the output is over its limit",
+            Answer::NotWhole => "a field is not whole, or a count or a length exceeds the bytes that are left",
+            Answer::NotRight => "a fixed byte is wrong, a text is not UTF-8, a value's marker is 04, 09 or 0E, or bytes are left over",
+            Answer::NoRoom => "there is no room in the image, the output, the index or the list of entries",
+            Answer::TooDeep => "a value stands at depth 33",
+            Answer::NoTree => "the image is no tree of the kind that the call takes, or names a text that isn't inside or isn't UTF-8",
+            Answer::OtherVersion => "the version byte of the packet is 03",
+            Answer::NoEntry => "the packet has no such entry, or no such part",
+            Answer::Damaged => "the entry is damaged",
+        }
+    }
+}
+
+impl fmt::Display for Answer {
+    fn fmt(&self, f: &mut fmt::Formatter<'_>) -> fmt::Result {
+        write!(f, "refused with answer {}: {}", *self as u8, self.words())
+    }
+}
+
+impl Error for Answer {}
+
+/// A reading or a cut that was refused: why, and the place in the input, counted from its first byte, of the first byte of the field that caused it.
+///
+/// For [`Answer::NoRoom`] and [`Answer::TooDeep`] it is the marker of the value; for another record that didn't fit it is the first byte of the key's length, the
+/// end marker, the first byte of the length of a header's or a message's first text, or that of the file or packet itself, 0. For bytes left over it is the
+/// first of them. For [`Answer::OverLimit`], [`Answer::NoEntry`] and a list too short it is 0. In an entry it counts from the packet's start.
+/// `include/riddoskam.h` has it answer by answer ("Places").
+#[derive(Clone, Copy, Debug, PartialEq, Eq)]
+pub struct Refusal {
+    pub answer: Answer,
+    pub place: usize,
+}
+
+impl fmt::Display for Refusal {
+    /// `refused with answer 3 at byte 572: ..`; without a byte for the answers that never have a place.
+    fn fmt(&self, f: &mut fmt::Formatter<'_>) -> fmt::Result {
+        match self.answer {
+            Answer::OverLimit | Answer::NoEntry => self.answer.fmt(f),
+            answer => write!(f, "refused with answer {} at byte {}: {}", answer as u8, self.place, answer.words()),
+        }
+    }
+}
+
+impl Error for Refusal {}
+
+impl From<Refusal> for Answer {
+    fn from(refusal: Refusal) -> Answer {
+        refusal.answer
+    }
+}
+
+fn judged<T>(answer: u8, value: T) -> Result<T, Answer> {
+    use Answer::*;
     Err(match answer {
         0 => return Ok(value),
         1 => OverLimit,
@@ -92,6 +154,11 @@ fn judged<T>(answer: u8, value: T) -> Result<T, Refusal> {
     })
 }
 
+/// Of a reading or a cut, whose place is told where the bytes used would be.
+fn placed<T>(answer: u8, used: usize, value: T) -> Result<T, Refusal> {
+    judged(answer, value).map_err(|answer| Refusal { answer, place: used })
+}
+
 /// A reading that was accepted: the bytes of the input that it used, and the bytes of the image that it made.
 #[derive(Clone, Copy, Debug, PartialEq, Eq)]
 pub struct Reading {
@@ -105,7 +172,7 @@ fn read(by: Reader, input: &[u8], image: &mut [u8]) -> Result<Reading, Refusal> 
     let mut r = Reading { used: 0, made: 0 };
     // SAFETY: each pointer stands with the length of its slice, and a `&mut` overlaps nothing.
     let answer = unsafe { by(input.as_ptr(), input.len(), image.as_mut_ptr(), image.len(), &mut r.used, &mut r.made) };
-    judged(answer, r)
+    placed(answer, r.used, r)
 }
 
 /// One value at the front of the input.
@@ -140,11 +207,11 @@ pub fn packet_parse_entry(packet: &[u8], number: usize, image: &mut [u8]) -> Res
     let answer = unsafe {
         sys::riddoskam_packet_parse_entry(packet.as_ptr(), packet.len(), number, image.as_mut_ptr(), image.len(), &mut r.used, &mut r.made)
     };
-    judged(answer, r)
+    placed(answer, r.used, r)
 }
 
 /// The value that is a part of a packet, read as the value of an entry: for an entry of a cut this is [`packet_parse_entry`], without cutting again.
-/// [`Refusal::NoEntry`] where the part is not inside the packet.
+/// [`Answer::NoEntry`] where the part is not inside the packet.
 pub fn packet_parse_span(packet: &[u8], value: Text, image: &mut [u8]) -> Result<Reading, Refusal> {
     let mut r = Reading { used: 0, made: 0 };
     // SAFETY: as in `read`.
@@ -160,12 +227,12 @@ pub fn packet_parse_span(packet: &[u8], value: Text, image: &mut [u8]) -> Result
             &mut r.made,
         )
     };
-    judged(answer, r)
+    placed(answer, r.used, r)
 }
 
 type Writer = unsafe extern "C" fn(*const u8, usize, *const u8, usize, *mut u8, usize, &mut usize) -> u8;
 
-fn write(by: Writer, image: &[u8], text: &[u8], out: &mut [u8]) -> Result<usize, Refusal> {
+fn write(by: Writer, image: &[u8], text: &[u8], out: &mut [u8]) -> Result<usize, Answer> {
     let mut count = 0;
     // SAFETY: as in `read`.
     let answer = unsafe { by(image.as_ptr(), image.len(), text.as_ptr(), text.len(), out.as_mut_ptr(), out.len(), &mut count) };
@@ -173,17 +240,17 @@ fn write(by: Writer, image: &[u8], text: &[u8], out: &mut [u8]) -> Result<usize,
 }
 
 /// Writes the value of an image, whose texts stand in `text`: the number of bytes written.
-pub fn write_value(image: &[u8], text: &[u8], out: &mut [u8]) -> Result<usize, Refusal> {
+pub fn write_value(image: &[u8], text: &[u8], out: &mut [u8]) -> Result<usize, Answer> {
     write(sys::riddoskam_write_value, image, text, out)
 }
 
 /// Writes the file of an image; the length field is set anew.
-pub fn lso_write_to_bytes(image: &[u8], text: &[u8], out: &mut [u8]) -> Result<usize, Refusal> {
+pub fn lso_write_to_bytes(image: &[u8], text: &[u8], out: &mut [u8]) -> Result<usize, Answer> {
     write(sys::riddoskam_lso_write_to_bytes, image, text, out)
 }
 
 /// Writes the packet of an image, with exact lengths or with FFFFFFFF.
-pub fn packet_write_to_bytes(image: &[u8], text: &[u8], exact_lengths: bool, out: &mut [u8]) -> Result<usize, Refusal> {
+pub fn packet_write_to_bytes(image: &[u8], text: &[u8], exact_lengths: bool, out: &mut [u8]) -> Result<usize, Answer> {
     let mut count = 0;
     // SAFETY: as in `read`.
     let answer = unsafe {
@@ -251,8 +318,8 @@ impl From<Numbers> for Entry {
     }
 }
 
-/// Entry `number` of a packet that its declared lengths cut exactly.
-pub fn packet_nth(packet: &[u8], number: usize) -> Result<Entry, Refusal> {
+/// Entry `number` of a packet that its declared lengths cut exactly. A refusal has no place here; where the cut is refused, [`packet_cut`] tells it.
+pub fn packet_nth(packet: &[u8], number: usize) -> Result<Entry, Answer> {
     let mut e = [0; 8];
     // SAFETY: as in `read`.
     let answer = unsafe { sys::riddoskam_packet_nth(packet.as_ptr(), packet.len(), number, &mut e) };
@@ -267,13 +334,13 @@ pub struct Cutting {
 }
 
 /// All entries of a packet that its declared lengths cut exactly, in one walk. They stand at the front of the list, which is zero behind them, and all zero
-/// where the cut is refused; [`Refusal::NoRoom`] where the list is too short.
+/// where the cut is refused; [`Answer::NoRoom`] where the list is too short.
 pub fn packet_cut(packet: &[u8], list: &mut [Numbers]) -> Result<Cutting, Refusal> {
     let mut c = Cutting { used: 0, count: 0 };
     // SAFETY: as in `read`; a slice of arrays of eight is a row of eight times as many numbers.
     let answer =
         unsafe { sys::riddoskam_packet_cut(packet.as_ptr(), packet.len(), list.as_mut_ptr().cast(), 8 * list.len(), &mut c.used, &mut c.count) };
-    judged(answer, c)
+    placed(answer, c.used, c)
 }
 
 /// A record of an image.
@@ -309,8 +376,8 @@ pub enum Record {
     Lso { stored: u32, name: Text },
 }
 
-/// The record at a place of an image, and the place behind it; [`Refusal::NoTree`] where none stands there.
-pub fn record_at(image: &[u8], at: usize) -> Result<(Record, usize), Refusal> {
+/// The record at a place of an image, and the place behind it; [`Answer::NoTree`] where none stands there.
+pub fn record_at(image: &[u8], at: usize) -> Result<(Record, usize), Answer> {
     use Record::*;
     let mut f = [0; 5];
     let mut next = 0;
@@ -338,7 +405,7 @@ pub fn record_at(image: &[u8], at: usize) -> Result<(Record, usize), Refusal> {
         0x32 => Message { target: text(1), response: text(3) },
         0x33 => Lso { stored: f[1] as u32, name: text(2) },
         // No record has another kind.
-        _ => return Err(Refusal::NoTree),
+        _ => return Err(Answer::NoTree),
     };
     Ok((record, next))
 }
@@ -346,7 +413,7 @@ pub fn record_at(image: &[u8], at: usize) -> Result<(Record, usize), Refusal> {
 /// Makes the index of a value's or a file's image, whose texts stand in `text`: the number of its keys, for each of which it has 13 bytes. Past them it is
 /// zero, and all of it where it is refused. Twice the image's length is always room enough. Index, image and text go together: whoever reads anew makes it
 /// anew.
-pub fn index(image: &[u8], text: &[u8], index: &mut [u8]) -> Result<usize, Refusal> {
+pub fn index(image: &[u8], text: &[u8], index: &mut [u8]) -> Result<usize, Answer> {
     write(sys::riddoskam_index, image, text, index)
 }
 

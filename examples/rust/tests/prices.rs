@@ -2,6 +2,10 @@ use riddoskam::*;
 
 const FILE: &[u8] = include_bytes!("../../../samples/prices.sol");
 
+fn refusal(answer: Answer, place: usize) -> Refusal {
+    Refusal { answer, place }
+}
+
 /// The place behind the value at a place.
 fn behind(image: &[u8], at: usize) -> usize {
     let (record, mut next) = record_at(image, at).unwrap();
@@ -94,9 +98,9 @@ fn a_price_by_the_index() {
     // Its own length is room enough, a byte less isn't; an index that is all zero finds the first record alone.
     assert_eq!(index(tree, FILE, &mut keys[..13 * count]), Ok(count));
     let short = &mut keys[..13 * count - 1];
-    assert_eq!(index(tree, FILE, short), Err(Refusal::NoRoom));
+    assert_eq!(index(tree, FILE, short), Err(Answer::NoRoom));
     assert!(short.iter().all(|&b| b == 0));
-    assert_eq!(index(&image, FILE, &mut keys), Err(Refusal::NoTree));
+    assert_eq!(index(&image, FILE, &mut keys), Err(Answer::NoTree));
     assert_eq!(keys, [0; 2 * 436]);
     assert_eq!((find(tree, FILE, &keys, &[]), find(tree, FILE, &keys, &["A-01"])), (Some(0), None));
 }
@@ -126,10 +130,10 @@ fn the_last_pair_of_a_key() {
     // What is no value's and no file's image.
     let p = packet();
     let made = packet_parse(&p, &mut image).unwrap().made;
-    assert_eq!(index(&image[..made], &p, &mut keys), Err(Refusal::NoTree));
-    assert_eq!(index(&[], &[], &mut keys), Err(Refusal::NoTree));
+    assert_eq!(index(&image[..made], &p, &mut keys), Err(Answer::NoTree));
+    assert_eq!(index(&[], &[], &mut keys), Err(Answer::NoTree));
     assert_eq!((find(&image[..made], &p, &keys, &[]), find(&[], &[], &keys, &[])), (None, None));
-    assert_eq!(index(&[5], &vec![0; 1_048_577], &mut keys), Err(Refusal::OverLimit));
+    assert_eq!(index(&[5], &vec![0; 1_048_577], &mut keys), Err(Answer::OverLimit));
     assert_eq!(index(&[5], &[], &mut []), Ok(0));
 }
 
@@ -146,20 +150,73 @@ fn a_file_is_written_as_it_was_read() {
 #[test]
 fn refused() {
     let mut image = [0xA5; 64];
-    assert_eq!(lso_parse(&FILE[..600], &mut [0; 2000]), Err(Refusal::NotRight));
-    assert!(lso_parse_incomplete(&FILE[..600], &mut [0; 2000]).unwrap().used < 600);
-    assert_eq!(lso_parse(FILE, &mut image), Err(Refusal::NoRoom));
+    // The element that is cut off begins where the incomplete reading ends.
+    assert_eq!(lso_parse(&FILE[..600], &mut [0; 2000]), Err(refusal(Answer::NotRight, 572)));
+    assert_eq!(lso_parse_incomplete(&FILE[..600], &mut [0; 2000]).unwrap().used, 572);
+    // The record that does not fit is the one of the value whose marker stands there: the boolean under "shown" of the first shelf.
+    assert_eq!(lso_parse(FILE, &mut image), Err(refusal(Answer::NoRoom, 105)));
     assert_eq!(image, [0; 64]);
     let mut out = [0x5A; 16];
-    assert_eq!(write_value(&[0x04], &[], &mut out), Err(Refusal::NoTree));
-    assert_eq!(write_value(&[0x00, 1, 2, 3, 4, 5, 6, 7, 8], &[], &mut out[..8]), Err(Refusal::NoRoom));
+    assert_eq!(write_value(&[0x04], &[], &mut out), Err(Answer::NoTree));
+    assert_eq!(write_value(&[0x00, 1, 2, 3, 4, 5, 6, 7, 8], &[], &mut out[..8]), Err(Answer::NoRoom));
     assert_eq!(out, [0x5A; 16]);
-    assert_eq!(parse_single_element(&[], &mut []), Err(Refusal::NotWhole));
-    assert_eq!(parse_single_element(&[5], &mut []), Err(Refusal::NoRoom));
-    assert_eq!(parse_single_element(&vec![5; 1_048_577], &mut image), Err(Refusal::OverLimit));
+    assert_eq!(parse_single_element(&[], &mut []), Err(refusal(Answer::NotWhole, 0)));
+    assert_eq!(parse_single_element(&[5], &mut []), Err(refusal(Answer::NoRoom, 0)));
+    assert_eq!(parse_single_element(&vec![5; 1_048_577], &mut image), Err(refusal(Answer::OverLimit, 0)));
     let deep: Vec<u8> = [0x0A, 0, 0, 0, 1].repeat(32).into_iter().chain([5]).collect();
-    assert_eq!(parse_single_element(&deep, &mut [0; 1000]), Err(Refusal::TooDeep));
-    assert_eq!(packet_parse(&[0, 3], &mut image), Err(Refusal::OtherVersion));
+    assert_eq!(parse_single_element(&deep, &mut [0; 1000]), Err(refusal(Answer::TooDeep, 160)));
+    assert_eq!(packet_parse(&[0, 3], &mut image), Err(refusal(Answer::OtherVersion, 1)));
+}
+
+#[test]
+fn where_it_broke() {
+    let mut image = [0; 2000];
+    let mut place = |input: &[u8]| parse_single_element(input, &mut image).map_err(|r| (r.answer, r.place));
+    // A text that is not whole begins behind its length, and so does one that is not UTF-8, whichever byte is wrong.
+    assert_eq!(place(b"\x02\0\x03ab"), Err((Answer::NotWhole, 3)));
+    assert_eq!(place(b"\x02\0\x03ab\xFF"), Err((Answer::NotRight, 3)));
+    // A date's zone, a count that is too large, a marker inside, a byte missing behind a key.
+    assert_eq!(place(b"\x0B\0\0\0\0\0\0\0\0\x01"), Err((Answer::NotWhole, 9)));
+    assert_eq!(place(b"\x0A\0\0\0\x02\x05"), Err((Answer::NotWhole, 1)));
+    assert_eq!(place(b"\x0A\0\0\0\x02\x05\x04"), Err((Answer::NotRight, 6)));
+    assert_eq!(place(b"\x03\0\x01k"), Err((Answer::NotWhole, 4)));
+    // A signature whose last byte is wrong: the signature.
+    let mut file = FILE.to_vec();
+    file[15] = 1;
+    assert_eq!(lso_parse(&file, &mut image), Err(refusal(Answer::NotRight, 6)));
+    assert_eq!(lso_parse_incomplete(&file, &mut image), Err(refusal(Answer::NotRight, 6)));
+    // No room for a key, for its value and for the end of an object.
+    let object = b"\x03\0\x01k\x05\0\0\x09";
+    for (room, at) in [(0, 0), (6, 1), (7, 4), (8, 7)] {
+        assert_eq!(parse_single_element(object, &mut image[..room]), Err(refusal(Answer::NoRoom, at)));
+    }
+}
+
+#[test]
+fn refusals_in_words() {
+    let why = lso_parse(&FILE[..600], &mut [0; 2000]).unwrap_err();
+    assert_eq!(
+        why.to_string(),
+        "refused with answer 3 at byte 572: a fixed byte is wrong, a text is not UTF-8, a value's marker is 04, 09 or 0E, or bytes are left over"
+    );
+    assert_eq!(packet_nth(&packet(), 3).unwrap_err().to_string(), "refused with answer 8: the packet has no such entry, or no such part");
+    assert_eq!(packet_parse_entry(&packet(), 3, &mut []).unwrap_err().to_string(), Answer::NoEntry.to_string());
+    // Both are errors, and a refusal turns into its answer where only that is asked for.
+    fn first_kind(input: &[u8], image: &mut [u8]) -> Result<Record, Answer> {
+        let made = parse_single_element(input, image)?.made;
+        Ok(record_at(&image[..made], 0)?.0)
+    }
+    assert_eq!(first_kind(&[5], &mut [0; 3]), Ok(Record::Null));
+    assert_eq!(first_kind(&[4], &mut [0; 3]), Err(Answer::NotRight));
+    fn count(input: &[u8], image: &mut [u8], keys: &mut [u8]) -> Result<usize, Box<dyn std::error::Error>> {
+        let made = parse_single_element(input, image)?.made;
+        Ok(index(&image[..made], input, keys)?)
+    }
+    assert_eq!(count(b"\x03\0\0\x05\0\0\x09", &mut [0; 21], &mut [0; 13]).unwrap(), 1);
+    let why = count(b"\x03\0\0\x05\0\0\x09", &mut [0; 8], &mut [0; 13]).unwrap_err();
+    assert_eq!(why.downcast_ref(), Some(&refusal(Answer::NoRoom, 6)));
+    let why = count(b"\x03\0\0\x05\0\0\x09", &mut [0; 21], &mut [0; 12]).unwrap_err();
+    assert_eq!(why.downcast_ref(), Some(&Answer::NoRoom));
 }
 
 #[test]
@@ -169,18 +226,22 @@ fn a_bent_byte_costs_one_shelf() {
     assert_eq!(packet_parse(&p, &mut image).unwrap().used, p.len());
     let second = packet_nth(&p, 1).unwrap();
     p[second.value.place] = 4;
-    assert_eq!(packet_parse(&p, &mut image), Err(Refusal::NotRight));
-    let price = |k: usize, image: &mut [u8]| {
+    assert_eq!(packet_parse(&p, &mut image), Err(refusal(Answer::NotRight, second.value.place)));
+    // Where the answer is enough, `?` takes the one out of a refusal.
+    let price = |k: usize, image: &mut [u8]| -> Result<_, Answer> {
         let entry = packet_nth(&p, k)?;
         let Role::Message { target, .. } = entry.role else { panic!("{entry:?}") };
         let made = packet_parse_entry(&p, k, image)?.made;
         Ok((part(&p, target), cents(&image[..made], &p, 0)))
     };
     assert_eq!(price(0, &mut image), Ok((&b"A-01"[..], Some(127.0))));
-    assert_eq!(price(1, &mut image), Err(Refusal::Damaged));
+    assert_eq!(price(1, &mut image), Err(Answer::Damaged));
     assert_eq!(image, [0; 300]);
     assert_eq!(price(2, &mut image), Ok((&b"A-03"[..], Some(83.0))));
-    assert_eq!(price(3, &mut image), Err(Refusal::NoEntry));
+    assert_eq!(price(3, &mut image), Err(Answer::NoEntry));
+    // The place is one of the packet: the marker that is bent.
+    assert_eq!(packet_parse_entry(&p, 1, &mut image), Err(refusal(Answer::Damaged, second.value.place)));
+    assert_eq!(packet_parse_entry(&p, 3, &mut image), Err(refusal(Answer::NoEntry, 0)));
 }
 
 #[test]
@@ -198,25 +259,33 @@ fn all_shelves_by_one_cut() {
     let second = Entry::from(list[1]).value;
     p[second.place] = 4;
     assert_eq!(packet_cut(&p, &mut list), Ok(whole));
-    let price = |k: usize, image: &mut [u8]| {
+    let price = |k: usize, image: &mut [u8]| -> Result<_, Refusal> {
         let made = packet_parse_span(&p, Entry::from(list[k]).value, image)?.made;
         Ok(cents(&image[..made], &p, 0))
     };
     assert_eq!(price(0, &mut image), Ok(Some(127.0)));
-    assert_eq!(price(1, &mut image), Err(Refusal::Damaged));
+    assert_eq!(price(1, &mut image), Err(refusal(Answer::Damaged, second.place)));
     assert_eq!(image, [0; 300]);
     assert_eq!(price(2, &mut image), Ok(Some(83.0)));
     // A list that is too short; a packet that its lengths do not cut; parts that are no value, or none of the packet.
     let mut short = [[0xA5; 8]; 2];
-    assert_eq!(packet_cut(&p, &mut short), Err(Refusal::NoRoom));
+    assert_eq!(packet_cut(&p, &mut short), Err(refusal(Answer::NoRoom, 0)));
     assert_eq!(short, [[0; 8]; 2]);
-    assert_eq!(packet_cut(&p[..p.len() - 1], &mut list), Err(Refusal::NotWhole));
-    assert_eq!(list, [[0; 8]; 4]);
     let third = packet_nth(&p, 2).unwrap().value;
-    assert_eq!(packet_parse_span(&p, Text { length: third.length - 1, ..third }, &mut image), Err(Refusal::Damaged));
-    assert_eq!(packet_parse_span(&p, Text { length: third.length + 1, ..third }, &mut image), Err(Refusal::NoEntry));
-    assert_eq!(packet_parse_span(&p, Text { place: usize::MAX, length: 2 }, &mut image), Err(Refusal::NoEntry));
-    assert_eq!(packet_parse_span(&p, third, &mut image[..4]), Err(Refusal::NoRoom));
+    // The declared length is what is wrong with it: it stands in the four bytes before the value.
+    assert_eq!(packet_cut(&p[..p.len() - 1], &mut list), Err(refusal(Answer::NotWhole, third.place - 4)));
+    assert_eq!(list, [[0; 8]; 4]);
+    // The end marker is missing, behind an empty key.
+    let behind = third.place + third.length;
+    assert_eq!(packet_parse_span(&p, Text { length: third.length - 1, ..third }, &mut image), Err(refusal(Answer::Damaged, behind - 1)));
+    assert_eq!(packet_parse_span(&p, Text { length: third.length + 1, ..third }, &mut image), Err(refusal(Answer::NoEntry, 0)));
+    assert_eq!(packet_parse_span(&p, Text { place: usize::MAX, length: 2 }, &mut image), Err(refusal(Answer::NoEntry, 0)));
+    // The key has no room.
+    assert_eq!(packet_parse_span(&p, third, &mut image[..4]), Err(refusal(Answer::NoRoom, third.place + 1)));
+    // A part that goes on into the next message leaves that unused.
+    let first = packet_nth(&p, 0).unwrap().value;
+    let longer = Text { length: first.length + 3, ..first };
+    assert_eq!(packet_parse_span(&p, longer, &mut image), Err(refusal(Answer::Damaged, first.place + first.length)));
 }
 
 #[test]
@@ -228,9 +297,10 @@ fn lengths_as_asked() {
     let n = packet_write_to_bytes(&image[..made], &p, true, &mut out).unwrap();
     assert_eq!(&out[..n], &p[..]);
     let n = packet_write_to_bytes(&image[..made], &p, false, &mut out).unwrap();
-    assert_eq!(packet_nth(&out[..n], 0), Err(Refusal::NotWhole));
+    assert_eq!(packet_nth(&out[..n], 0), Err(Answer::NotWhole));
     let place = packet_nth(&p, 0).unwrap().value.place;
     assert_eq!(out[place - 4..place], [0xFF; 4]);
+    assert_eq!(packet_cut(&out[..n], &mut []), Err(refusal(Answer::NotWhole, place - 4)));
 }
 
 #[test]
@@ -243,7 +313,7 @@ fn a_header_and_its_flag() {
     assert_eq!(record_at(&image, 0).unwrap().0, Record::Packet { headers: 1, messages: 0 });
     assert_eq!(record_at(&image, 5).unwrap(), (Record::Header { name: Text { place: 6, length: 1 }, flag: true }, 12));
     assert_eq!(record_at(&image[..made], 12).unwrap(), (Record::Null, 13));
-    assert_eq!(record_at(&image[..made], 13), Err(Refusal::NoTree));
+    assert_eq!(record_at(&image[..made], 13), Err(Answer::NoTree));
 }
 
 #[test]

@@ -7,7 +7,7 @@ use Rattle.lso.proofs.read.parse.Tie as tie
 
 returns : tie.Need-returns
 returns c =
-    let e = whole-refused _ _ _ (incomplete-ran _ _ (rw (c .before .before .before .before .before .a .given .1) at (c .before .before .before .before .before .before .before .before .before .parse-file .ensures .0))) in
+    let e = whole-refused _ _ _ _ (incomplete-ran _ _ (rw (c .before .before .before .before .before .a .given .1) at (c .before .before .before .before .before .before .before .before .before .parse-file .ensures .0))) in
     (rw (sym e) (c .before .before .finish .ensures .0), rw (sym e, sym (c .before .before .before .before .before .before .before .before .before .parse-file .kept .0)) (c .before .before .finish .ensures .1))
 
 returns-2 : tie.Need-returns-2
