@@ -1,8 +1,10 @@
 // A packet read by entry: an entry that can't be read is said to be damaged, and the others are shown all the same.
-use crate::refusal::refusal;
 use crate::tree::header;
 use crate::tree::message;
 use crate::tree::tree;
+use faults::fault::refused;
+use faults::field::of_entry;
+use faults::field::of_packet;
 use figures::page::Page;
 use figures::page::word;
 use image::reading::Reading;
@@ -26,12 +28,23 @@ fn head(page: &mut Page, used: &mut usize, input: &[u8], e: Entry) {
     }
 }
 
-fn told(page: &mut Page, used: &mut usize, input: &[u8], r: Reading, image: &[u8]) {
+// A refusal of the value of an entry, of which the reading had the bytes up to its end.
+fn damaged(page: &mut Page, used: &mut usize, input: &[u8], e: Entry, r: Reading) {
+    let at = e.place;
+    let length = e.length;
+    if at <= input.len() {
+        if length <= input.len() - at {
+            let read = part(input, 0, at + length);
+            refused(page, used, input, read, of_entry(at), r, 4);
+        }
+    }
+}
+
+fn told(page: &mut Page, used: &mut usize, input: &[u8], e: Entry, r: Reading, image: &[u8]) {
     if r.answer == ACCEPTED {
         tree(page, used, input, part(image, 0, r.made), 2);
     } else {
-        word(page, used, b"    ");
-        refusal(page, used, r.answer);
+        damaged(page, used, input, e, r);
     }
 }
 
@@ -41,28 +54,39 @@ fn value(
     used: &mut usize,
     input: &[u8],
     number: usize,
-    length: usize,
+    e: Entry,
     image: &mut [u8],
 ) {
+    let length = e.length;
     if length <= image.len() / 3 {
         let room = 3 * length;
         let r = parse_entry(input, number, &mut image[..room]);
-        told(page, used, input, r, image);
+        told(page, used, input, e, r, image);
     }
+}
+
+// A refusal of the cut.
+fn uncut(page: &mut Page, used: &mut usize, input: &[u8], answer: u8, place: usize) {
+    let r = Reading {
+        answer: answer,
+        used: place,
+        made: 0,
+    };
+    refused(page, used, input, input, of_packet(true), r, 0);
 }
 
 // Shows an entry, and says whether there was one of that number.
 fn entry(page: &mut Page, used: &mut usize, input: &[u8], number: usize, image: &mut [u8]) -> bool {
     match nth(input, number) {
-        Found::Stop(answer, _) => {
+        Found::Stop(answer, place) => {
             if answer != NO_ENTRY {
-                refusal(page, used, answer);
+                uncut(page, used, input, answer, place);
             }
             false
         }
         Found::Is(e) => {
             head(page, used, input, e);
-            value(page, used, input, number, e.length, image);
+            value(page, used, input, number, e, image);
             true
         }
     }

@@ -1,6 +1,6 @@
 // The value to which keys lead in a file, by an index that is made for this one way.
-use crate::refusal::refusal;
 use crate::tree::value_at;
+use faults::refusal::refusal;
 use figures::page::Page;
 use figures::page::word;
 use index::find::Way;

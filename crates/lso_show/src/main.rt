@@ -2,17 +2,26 @@
 // is to be read by entry, and `value` that it is one AMF0 value. `lso_show get FILE KEY..` shows the one value of an LSO file to which the keys lead.
 mod entries;
 mod get;
-mod refusal;
 mod tree;
 
+use amf0::read::parse_value;
+use faults::fault::not_read;
+use faults::fault::refused;
+use faults::field::Spot;
+use faults::field::of_file;
+use faults::field::of_packet;
+use faults::field::of_value;
 use figures::page::Page;
 use figures::page::decimal;
 use figures::page::end;
 use figures::page::word;
 use image::reading::Reading;
+use image::reading::Step;
 use libc::STDOUT_FILENO;
-use refusal::refusal;
 use wire::answer::ACCEPTED;
+use wire::answer::NOT_RIGHT;
+use wire::cursor::Cursor;
+use wire::cursor::Text;
 use wire::limit::BYTES;
 use wire::text::part;
 
@@ -62,16 +71,81 @@ fn first_depth(form: Form) -> usize {
     }
 }
 
-// Bytes behind what was read: a whole reading of a file or a packet refuses them.
-fn left_over(page: &mut Page, used: &mut usize, form: Form, place: usize, length: usize) {
+// Where the walk to a refusal's place begins.
+fn first_spot(form: Form) -> Spot {
     match form {
-        Form::Value => word(page, used, b"bytes left over from @"),
-        _ => word(page, used, b"refused, answer 3: bytes left over from @"),
+        Form::File => of_file(),
+        Form::Keys(_) => of_file(),
+        Form::Value => of_value(),
+        _ => of_packet(false),
     }
+}
+
+fn not_right(place: usize) -> Reading {
+    Reading {
+        answer: NOT_RIGHT,
+        used: place,
+        made: 0,
+    }
+}
+
+// The place of the field that is wrong in an element of a file which can't be read.
+fn wrong_in(input: &[u8], image: &mut [u8], at: usize) -> usize {
+    match (Cursor { at: at }).parse_string(input) {
+        Text::Stop(_, p) => p,
+        Text::Got(_, _, q) => match parse_value(image, input, 0, q, 0) {
+            Step::Stop(_, p) => p,
+            // The zero behind the value.
+            Step::Next(c, _) => c.at,
+        },
+    }
+}
+
+// A file's end that can't be read: what is wrong there, and where the reading ends before it.
+fn unread(page: &mut Page, used: &mut usize, input: &[u8], image: &mut [u8], place: usize) {
+    let r = not_right(wrong_in(input, image, place));
+    refused(page, used, input, input, of_file(), r, 0);
+    if place <= input.len() {
+        not_read(page, used, place, input.len() - place);
+    }
+}
+
+// Bytes behind a lone value are no refusal.
+fn behind_value(page: &mut Page, used: &mut usize, place: usize, length: usize) {
+    word(page, used, b"bytes left over from @");
     decimal(page, used, place as u64);
     word(page, used, b" on: ");
     decimal(page, used, length as u64);
     word(page, used, b"\n");
+}
+
+// Bytes behind what was read: a whole reading of a file or a packet refuses them.
+fn left_over(
+    page: &mut Page,
+    used: &mut usize,
+    form: Form,
+    input: &[u8],
+    image: &mut [u8],
+    place: usize,
+) {
+    match form {
+        Form::File => unread(page, used, input, image, place),
+        Form::Keys(_) => unread(page, used, input, image, place),
+        Form::Value => {
+            if place <= input.len() {
+                behind_value(page, used, place, input.len() - place);
+            }
+        }
+        _ => refused(
+            page,
+            used,
+            input,
+            input,
+            of_packet(false),
+            not_right(place),
+            0,
+        ),
+    }
 }
 
 // The tree that was read, or the one value of it that is asked for.
@@ -85,12 +159,12 @@ fn show_read(page: &mut Page, used: &mut usize, form: Form, input: &[u8], image:
 fn show_whole(page: &mut Page, used: &mut usize, form: Form, input: &[u8], image: &mut [u8]) {
     let r = parse(form, input, image);
     if r.answer != ACCEPTED {
-        refusal(page, used, r.answer);
+        refused(page, used, input, input, first_spot(form), r, 0);
         return;
     }
     show_read(page, used, form, input, part(image, 0, r.made));
     if r.used < input.len() {
-        left_over(page, used, form, r.used, input.len() - r.used);
+        left_over(page, used, form, input, image, r.used);
     }
 }
 

@@ -3,7 +3,7 @@ use figures::page::Page;
 use figures::page::decimal;
 use figures::page::word;
 
-fn reason(page: &mut Page, used: &mut usize, answer: u8) {
+pub(crate) fn reason(page: &mut Page, used: &mut usize, answer: u8) {
     match answer {
         1 => word(page, used, b"there are more than 1,048,576 bytes"),
         2 => word(
@@ -19,13 +19,14 @@ fn reason(page: &mut Page, used: &mut usize, answer: u8) {
         4 => word(page, used, b"the tree does not fit its buffer"),
         5 => word(page, used, b"a value stands at depth 33"),
         6 => word(page, used, b"it is not a tree"),
-        7 => word(page, used, b"the packet has version 3"),
+        7 => word(page, used, b"the packet has version 3 (AMF3)"),
         8 => word(page, used, b"there is no such entry"),
         9 => word(page, used, b"the entry is damaged"),
         _ => word(page, used, b"for no known reason"),
     }
 }
 
+// A refusal that has no place.
 pub fn refusal(page: &mut Page, used: &mut usize, answer: u8) {
     word(page, used, b"refused, answer ");
     decimal(page, used, answer as u64);

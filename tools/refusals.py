@@ -1,0 +1,242 @@
+"""What lso_show has to say of a refused input, made anew in Python: the place, why and where, the bytes there. It shares no code with the program, and goes
+another way: it reads an input from its front, by recursion, up to the first field that is refused, where the program is told the place by the library and
+walks there.
+
+of_file(data), of_packet(data) and of_value(data) give the lines that must stand last, or none where nothing is refused. of_entries(data) gives the lines of a
+refused cut, and of a cut that is accepted those of each entry."""
+
+LEVELS, LONGEST, INNERMOST = 32, 40, 4
+NO_VALUES = {4: "04 (movie clip)", 9: "09 (object end)", 14: "0E (record set)"}
+ESCAPES = {"\t": "\\t", "\n": "\\n", "\r": "\\r", '"': '\\"', "\\": "\\\\"}
+
+
+class Broke(Exception):
+    def __init__(self, answer, place, why, where="", wrong=None):
+        super().__init__(answer, place, why, where, wrong)
+        self.answer, self.place, self.why, self.where, self.wrong = self.args
+
+
+def escaped(text):
+    return "".join(ESCAPES.get(c, c if 0x20 <= ord(c) < 0x7F or 0x9F < ord(c) else f"\\u00{ord(c):02x}") for c in text)
+
+
+def quoted(text):
+    if len(text) <= LONGEST:
+        return f'"{escaped(text.decode())}"'
+    return f'"{escaped(text[:LONGEST].decode(errors="ignore"))}"..'
+
+
+def amount(n, thing):
+    return f"{n} {thing}" if n == 1 else f"{n} {thing}s"
+
+
+def of(names, outer):
+    """A way, from the innermost name to what holds them all."""
+    names = names[::-1]
+    told = names[:INNERMOST] + ([".."] if INNERMOST < len(names) else []) + ([outer] if outer else [])
+    return "".join(" of " + name for name in told)
+
+
+class Walk:
+    def __init__(self, data, called, at=0):
+        self.data, self.called, self.at, self.spans = data, called, at, []
+
+    def left(self):
+        return len(self.data) - self.at
+
+    def take(self, size, name, where):
+        if self.left() < size:
+            due = f"ends in the middle of {name} ({size} bytes are due, {self.left()} {'is' if self.left() == 1 else 'are'} there)"
+            raise Broke(2, self.at, f"{self.called} {due if self.left() else f'ends where {name} is due'}", where)
+        self.at += size
+        return self.data[self.at - size : self.at]
+
+    def number(self, size, name, where):
+        return int.from_bytes(self.take(size, name, where), "big")
+
+    def text(self, size, where):
+        n = self.number(size, "a text's length", where)
+        place = self.at
+        text = self.take(n, "a text", where)
+        try:
+            text.decode()
+        except UnicodeDecodeError as why:
+            raise Broke(3, place, "text is not UTF-8", where, place + why.start)
+        return text
+
+    def fixed(self, want, name, why, where=""):
+        place = self.at
+        if self.take(len(want), name, where) != want:
+            raise Broke(3, place, why, where)
+
+    def version(self, where, other):
+        place = self.at
+        version = self.number(1, "the version", where)
+        if version == 3 and other:
+            raise Broke(7, place, "the packet has version 3 (AMF3)")
+        if version:
+            raise Broke(3, place, f"the version is {version}{' (AMF3)' if version == 3 else ''}, and 0 (AMF0) is due", where)
+
+    def value(self, names, outer):
+        where = ", in the value" + of(names, outer) if names or outer else ""
+        place = self.at
+        marker = self.number(1, "a value's marker", where)
+        if marker in NO_VALUES:
+            raise Broke(3, place, NO_VALUES[marker] + " is no value's marker", where)
+        if LEVELS <= len(names):
+            raise Broke(5, place, "a value stands at depth 33", where)
+        if marker in (2, 12, 15):
+            self.text(2 if marker == 2 else 4, where)
+        elif marker == 10:
+            self.items(names, outer, where)
+        elif marker == 16:
+            self.text(2, ", in the class name" + of(names, outer))
+        for size, name in {
+            0: [(8, "a number")],
+            1: [(1, "a boolean")],
+            7: [(2, "a reference's index")],
+            8: [(4, "an ECMA array's length")],
+            11: [(8, "a date"), (2, "a date's zone")],
+        }.get(marker, []):
+            self.take(size, name, where)
+        if marker in (3, 8, 16):
+            self.pairs(names, outer)
+
+    def items(self, names, outer, where):
+        place = self.at
+        count = self.number(4, "an array's count", where)
+        if self.left() < count:
+            raise Broke(2, place, f"an array counts {amount(count, 'value')}, with only {amount(self.left(), 'byte')} left", where)
+        for i in range(count):
+            self.value(names + [f"item {i}"], outer)
+
+    def key(self, before, around):
+        return quoted(self.text(2, (f", in the key behind {before}" if before else ", in the first key") + around))
+
+    def pairs(self, names, outer):
+        before = None
+        while True:
+            before = self.key(before, of(names, outer))
+            if self.data[self.at : self.at + 1] == b"\x09":
+                self.at += 1
+                return
+            self.value(names + [before], outer)
+
+    def header(self):
+        where = ", in the file's header"
+        self.fixed(b"\0\xbf", "00 BF", "00 BF is due at a file's beginning")
+        self.take(4, "the stored length", where)
+        self.fixed(b"TCSO\0\4\0\0\0\0", "the signature", "the signature TCSO 00 04 00 00 00 00 is due", where)
+        self.text(2, ", in the file's name")
+        for _ in range(3):
+            self.fixed(b"\0", "padding", "a zero is due (padding)", where)
+        self.version(where, False)
+
+    def element(self, before):
+        key = self.key(before, "")
+        self.value([], key)
+        self.fixed(b"\0", "a zero", "a zero is due", ", behind the value of " + key)
+        return key
+
+    def packet(self, cut):
+        self.fixed(b"\0", "a zero", "a zero is due at a packet's beginning")
+        self.version("", True)
+        for number in range(self.number(2, "the count of headers", "")):
+            name = quoted(self.text(2, f", in the name of header {number}"))
+            self.take(1, "a header's flag", f", in the flag of header {number} {name}")
+            self.entry(f"header {number} {name}", cut)
+        for number in range(self.number(2, "the count of messages", "")):
+            name = f"message {number} to " + quoted(self.text(2, f", in the target of message {number}"))
+            self.text(2, ", in the response of " + name)
+            self.entry(name, cut)
+        self.end()
+
+    def entry(self, name, cut):
+        place, where = self.at, ", in the length of " + name
+        length = self.number(4, "an entry's length", where)
+        if not cut:
+            self.value([], name)
+        elif self.left() < length:
+            raise Broke(2, place, f"an entry declares {amount(length, 'byte')}, with only {amount(self.left(), 'byte')} left", where)
+        else:
+            self.spans.append((self.at, self.at + length))
+            self.at += length
+
+    def end(self):
+        if self.left():
+            raise Broke(3, self.at, f"bytes left over: {self.left()}")
+
+
+def byte(place):
+    return f"byte {place} (0x{place:X})"
+
+
+def line(data, start):
+    row = data[start : start + 16]
+    letters = "".join(chr(b) if 0x20 <= b < 0x7F else "." for b in row)
+    return f"{start:06X}" + (f"  {row.hex(' ').upper():47}  {letters}" if row else "")
+
+
+def lines(data, broke, answer, indent=0, before=""):
+    """The lines of a refusal: two lines of hex where there are as many, the place in the middle of them if it can be."""
+    start = broke.place // 16 * 16
+    column = broke.place - start
+    rows = [line(data, start), " " * (8 + 3 * column) + "^^"]
+    following = start + 16 < len(data)
+    if start and (column < 8 or not following):
+        rows.insert(0, line(data, start - 16))
+    elif following:
+        rows.append(line(data, start + 16))
+    said = [f"refused at {byte(broke.place)}: {before}{broke.why}{broke.where} (answer {answer})"] + ["  " + row for row in rows]
+    if broke.wrong not in (None, broke.place):
+        said.append(f"the text breaks at {byte(broke.wrong)}")
+    return [" " * indent + row for row in said]
+
+
+def broken(walk, *words):
+    try:
+        walk(*words)
+    except Broke as broke:
+        return broke
+    return None
+
+
+def of_file(data):
+    walk = Walk(data, "the file")
+    broke = broken(walk.header)
+    if broke:
+        return lines(data, broke, broke.answer)
+    key = None
+    while walk.left():
+        start = walk.at
+        try:
+            key = walk.element(key)
+        except Broke as broke:
+            if broke.answer == 5:
+                return lines(data, broke, 5)
+            return lines(data, broke, 3) + [f"the first element not read begins at {byte(start)}; left over: {amount(len(data) - start, 'byte')}"]
+    return []
+
+
+def of_packet(data):
+    broke = broken(Walk(data, "the packet").packet, False)
+    return lines(data, broke, broke.answer) if broke else []
+
+
+def of_value(data):
+    broke = broken(Walk(data, "the input").value, [], None)
+    return lines(data, broke, broke.answer) if broke else []
+
+
+def of_entries(data):
+    walk = Walk(data, "the packet")
+    broke = broken(walk.packet, True)
+    return (lines(data, broke, broke.answer), []) if broke else ([], [of_entry(data, *span) for span in walk.spans])
+
+
+def of_entry(data, start, end):
+    walk = Walk(data[:end], "it", start)
+    broke = broken(walk.value, [], None) or broken(walk.end)
+    if not broke:
+        return []
+    return lines(data, broke, 5, 4) if broke.answer == 5 else lines(data, broke, 9, 4, "the entry is damaged: ")
