@@ -1,6 +1,6 @@
 -- A reading goes forward and ends inside the input, lays at most three bytes for each byte that it reads, and is refused with 2, 3 or 5, at a
 -- place inside the input.
-use Rattle.wire.proofs.Kit.{ℕ, zero, suc, _+_, _*_, _≤_, _<_, _≢_, List, le-refl, arith, length, getD, length-append, leb, eqb}
+use Rattle.wire.proofs.Kit.{ℕ, zero, suc, _+_, _*_, _≤_, _<_, _≢_, List, le-refl, arith, length, getD, leb, eqb}
 use Rattle.wire.specs.Number.{number}
 use Rattle.wire.specs.Field.{bytesAt, textAt, gotText}
 use Rattle.wire.proofs.Laws.{picked}
@@ -8,9 +8,8 @@ use Rattle.wire.proofs.Stands.{go8, go16, go32, go64, goText}
 use Rattle.image.specs.declared.record.Record.{Record}
 use Rattle.image.specs.declared.record.Record.the-variants as R
 use Rattle.image.specs.Record.{bytesOf}
-use Rattle.image.specs.Due.{Due, end, stop, due, _>>=_, Ends, Stops}
-use Rattle.image.specs.Whole.{bytes}
-use Rattle.image.proofs.Settle.{AllDue}
+use Rattle.image.specs.Due.{Due, stop, due, _>>=_}
+use Rattle.image.proofs.Kept.{Kept, fewer, bind-kept}
 use Rattle.amf0.specs.declared.read.Follow.{Follow}
 use Rattle.amf0.specs.declared.read.Follow.the-variants.{Nothing, Pairs, Values}
 use Rattle.amf0.specs.declared.read.Fields.{Fields}
@@ -36,23 +35,6 @@ three = record { low = omega arith; high = omega arith; other = λ e. omega arit
 
 five : Named 5
 five = record { low = omega arith; high = omega arith; other = λ e. omega arith }
-
--- c bytes are laid already, in all at most three for each byte up to the end; a refusal has one of those answers, at a place inside, and every record is due
--- at one
-abbrev pub Kept : List ℕ → ℕ → Due → Type 0
-Kept s c (end n) = (c ≤ 3 * n) × (n ≤ length s)
-Kept s c (stop a p) = (c ≤ 3 * length s) × Named a × (p ≤ length s)
-Kept s c (due r p d) = (p ≤ length s) × Kept s (c + length (bytesOf r)) d
-
-pub fewer : (s : List ℕ) (c b : ℕ) (d : Due) → c ≤ b → Kept s b d → Kept s c d
-fewer s c b (end n) h k = (omega arith, k .1)
-fewer s c b (stop a p) h k = (omega arith, k .1, k .2)
-fewer s c b (due r p d) h k = (k .0, fewer s (c + length (bytesOf r)) (b + length (bytesOf r)) d (omega arith) (k .1))
-
-pub bind-kept : (s : List ℕ) (c : ℕ) (d : Due) (k : ℕ → Due) → Kept s c d → ((n : ℕ) → c ≤ 3 * n → n ≤ length s → Kept s (3 * n) (k n)) → Kept s c (d >>= k)
-bind-kept s c (end n) k h g = fewer s c (3 * n) (k n) (h .0) (g n (h .0) (h .1))
-bind-kept s c (stop a p) k h g = h
-bind-kept s c (due r p d) k h g = (h .0, bind-kept s (c + length (bytesOf r)) d k (h .1) λ n l. g n (omega arith))
 
 -- ---- the fields of a marker
 
@@ -101,35 +83,35 @@ module _ (s : List ℕ) (at : ℕ) (l : at < length s) where
 
 -- ---- values, and what follows them
 
-module _ (s : List ℕ) (u : ℕ → Due) (g : (at : ℕ) → at ≤ length s → Kept s (3 * at) (u at)) where
-  items-kept : (n at : ℕ) → at ≤ length s → Kept s (3 * at) (items u n at)
+module _ (s : List ℕ) (u : ℕ → Due) (g : (at : ℕ) → at ≤ length s → Kept Named s (3 * at) (u at)) where
+  items-kept : (n at : ℕ) → at ≤ length s → Kept Named s (3 * at) (items u n at)
   unfolding items
   items-kept zero at h = (le-refl _, h)
-  items-kept (suc n) at h = bind-kept s (3 * at) (u at) (items u n) (g at h) λ q i. items-kept n q
+  items-kept (suc n) at h = bind-kept Named s (3 * at) (u at) (items u n) (g at h) λ q i. items-kept n q
 
-  pair-kept : (k : ℕ → Due) (at p n q : ℕ) → at + 2 ≤ q → q ≤ length s → ((m : ℕ) → q ≤ m → m ≤ length s → Kept s (3 * m) (k m))
-      → Kept s (3 * at) (pair u k s at p n q)
+  pair-kept : (k : ℕ → Due) (at p n q : ℕ) → at + 2 ≤ q → q ≤ length s → ((m : ℕ) → q ≤ m → m ≤ length s → Kept Named s (3 * m) (k m))
+      → Kept Named s (3 * at) (pair u k s at p n q)
   unfolding pair bytesOf
-  pair-kept k at p n q h i f = go8 (Kept s (3 * at)) stop s q _
-      (λ l. picked (Kept s (3 * at)) (eqb (getD s q 0) 9) _ _ (λ e. (i, (omega arith, omega arith)))
-      (λ e. (omega arith, fewer s (3 * at + 6) (3 * q) (u q >>= k) (omega arith) (bind-kept s (3 * q) (u q) k (g q i) λ m j. f m (omega arith)))))
+  pair-kept k at p n q h i f = go8 (Kept Named s (3 * at)) stop s q _
+      (λ l. picked (Kept Named s (3 * at)) (eqb (getD s q 0) 9) _ _ (λ e. (i, (omega arith, omega arith)))
+      (λ e. (omega arith, fewer Named s (3 * at + 6) (3 * q) (u q >>= k) (omega arith) (bind-kept Named s (3 * q) (u q) k (g q i) λ m j. f m (omega arith)))))
       (λ l. (omega arith, two, i))
 
-  pairs-kept : (fuel at : ℕ) → length s ≤ at + fuel → at ≤ length s → Kept s (3 * at) (pairs u s fuel at)
+  pairs-kept : (fuel at : ℕ) → length s ≤ at + fuel → at ≤ length s → Kept Named s (3 * at) (pairs u s fuel at)
   unfolding pairs
   pairs-kept zero at h i = (omega arith, two, i)
-  pairs-kept (suc fuel) at h i = goText (Kept s (3 * at)) stop s at 2 _
+  pairs-kept (suc fuel) at h i = goText (Kept Named s (3 * at)) stop s at 2 _
       (λ n e j v. pair-kept (pairs u s fuel) at (at + 2) n (at + 2 + n) (omega arith) j λ m l. pairs-kept fuel m (omega arith))
       (λ j. (omega arith, two, i)) (λ n e j l. (omega arith, two, j)) (λ n e j v. (omega arith, three, omega arith))
 
-  follow-kept : (f : Follow) (at : ℕ) → at ≤ length s → Kept s (3 * at) (follow u s f at)
+  follow-kept : (f : Follow) (at : ℕ) → at ≤ length s → Kept Named s (3 * at) (follow u s f at)
   unfolding follow
   follow-kept Nothing at h = (le-refl _, h)
   follow-kept Pairs at h = pairs-kept (length s) at (omega arith) h
   follow-kept (Values n) at h = items-kept n at h
 
-  node-kept : (at : ℕ) (x : Fields) → at ≤ length s → KeptFields s at x → Kept s (3 * at) (gotFields stop x λ r f q. due r at (follow u s f q))
-  node-kept at (Got r f c) h k = (h, fewer s (3 * at + length (bytesOf r)) (3 * c .at) (follow u s f (c .at)) (k .0) (follow-kept f (c .at) (k .1)))
+  node-kept : (at : ℕ) (x : Fields) → at ≤ length s → KeptFields s at x → Kept Named s (3 * at) (gotFields stop x λ r f q. due r at (follow u s f q))
+  node-kept at (Got r f c) h k = (h, fewer Named s (3 * at + length (bytesOf r)) (3 * c .at) (follow u s f (c .at)) (k .0) (follow-kept f (c .at) (k .1)))
   node-kept at (Stop a p) h k = (omega arith, k .0, k .1)
 
 -- where no level is left
@@ -137,33 +119,8 @@ shut-named : (t : Marked) → Named (shut t)
 shut-named (Value k) = five
 shut-named Refused = three
 
-pub kept : (left : ℕ) (s : List ℕ) (at : ℕ) → at ≤ length s → Kept s (3 * at) (value left s at)
+pub kept : (left : ℕ) (s : List ℕ) (at : ℕ) → at ≤ length s → Kept Named s (3 * at) (value left s at)
 unfolding value
-kept zero s at h = go8 (Kept s (3 * at)) stop s at _ (λ l. (omega arith, shut-named (markerOf (getD s at 0)), h)) (λ l. (omega arith, two, h))
-kept (suc left) s at h = go8 (Kept s (3 * at)) stop s at _
+kept zero s at h = go8 (Kept Named s (3 * at)) stop s at _ (λ l. (omega arith, shut-named (markerOf (getD s at 0)), h)) (λ l. (omega arith, two, h))
+kept (suc left) s at h = go8 (Kept Named s (3 * at)) stop s at _
     (λ l. node-kept s (value left s) (kept left s) at (behind s at (at + 1) (markerOf (getD s at 0))) h (fields-kept s at l)) (λ l. (omega arith, two, h))
-
--- ---- what that says of a reading
-
-pub forward : (s : List ℕ) (c n : ℕ) (d : Due) → Kept s c d → Ends d n → (c ≤ 3 * n) × (n ≤ length s)
-forward s c n (end m) k e = (omega arith, omega arith)
-forward s c n (stop a p) k e = absurd e
-forward s c n (due r p d) k e = let f = forward s (c + length (bytesOf r)) n d (k .1) e in (omega arith, f .1)
-
-pub small : (s : List ℕ) (c : ℕ) (d : Due) → Kept s c d → c + length (bytes d) ≤ 3 * length s
-unfolding bytes
-small s c (end n) k = omega arith
-small s c (stop a p) k = omega arith
-small s c (due r p d) k = omega (arith, small s (c + length (bytesOf r)) d (k .1), length-append (bytesOf r) (bytes d))
-
--- a refusal is at a place inside, by a field
-pub stops-inside : (s : List ℕ) (c a p : ℕ) (d : Due) → Kept s c d → Stops d a p → p ≤ length s
-stops-inside s c a p (end n) k e = absurd e
-stops-inside s c a p (stop b q) k e = rw (e .1) (k .2)
-stops-inside s c a p (due r q d) k e = stops-inside s (c + length (bytesOf r)) a p d (k .1) e
-
--- and every record is due at one
-pub due-inside : (s : List ℕ) (c : ℕ) (d : Due) → Kept s c d → AllDue (λ r p. p ≤ length s) d
-due-inside s c (end n) k = tt
-due-inside s c (stop a p) k = tt
-due-inside s c (due r p d) k = (k .0, due-inside s (c + length (bytesOf r)) d (k .1))

@@ -1,14 +1,14 @@
 -- A call that settles a reading of an input in a room, the input within the limit: what it comes to, whatever it reads.
-use Rattle.wire.proofs.Kit.{ℕ, zero, suc, _+_, _*_, _≤_, _<_, _≡_, refl, ap, _∙_, _≢_, _↔_, List, arith, length, leb, leb-true, leb-false}
+use Rattle.wire.proofs.Kit.{ℕ, zero, suc, _*_, _≤_, _<_, _≡_, refl, ap, _∙_, _≢_, _↔_, List, arith, length, leb, leb-true, leb-false}
 use Rattle.wire.specs.Choice.{pick}
 use Rattle.wire.specs.Limit as limit
 use Rattle.wire.proofs.Laws.{picked, pick-yes, pick-no}
-use Rattle.image.specs.Record.{bytesOf}
-use Rattle.image.specs.Due.{Due, end, stop, due, Ends, Stops, Lacks}
+use Rattle.image.specs.Due.{Due, Ends, Stops, Lacks}
 use Rattle.image.specs.Whole.{Whole, bytes, accepted, refused, settled}
+use Rattle.image.proofs.Kept.{ends-kept, stops-kept, small, due-inside}
 use Rattle.image.proofs.Settle.{either, on-case, ended, lacks-over, over-lacks, due-lacks, settled-fits, settled-lacks, answer-of, used-of}
 use Rattle.amf0.specs.Span.{Fault, Sober, oneValue}
-use Rattle.amf0.proofs.Reasons.{Named, Kept, kept, forward, small, stops-inside, due-inside}
+use Rattle.amf0.proofs.Reasons.{Named, kept}
 
 -- a reading in a room has no room, or ends, or is refused
 pub settled-either : (P : Whole → Type 0) (d : Due) (room : ℕ) → ((p : ℕ) → Lacks d 0 room p → P (refused 4 p))
@@ -29,16 +29,11 @@ fault (suc (suc (suc (suc zero)))) m = absurd (m .other refl)
 fault (suc (suc (suc (suc (suc zero))))) m = Fault.too-deep
 fault (suc (suc (suc (suc (suc (suc a)))))) m = absurd (omega arith)
 
-kept-faults : (s : List ℕ) (c : ℕ) (d : Due) (a p : ℕ) → Kept s c d → Stops d a p → Fault a
-kept-faults s c (end n) a p k t = absurd t
-kept-faults s c (stop b q) a p k t = rw (t .0) (fault b (k .1))
-kept-faults s c (due r q d) a p k t = kept-faults s (c + length (bytesOf r)) d a p (k .1) t
-
 -- it is sober
 pub value-sober : (x : List ℕ) → Sober x (oneValue x)
 value-sober x =
     let k = kept limit.levels x 0 (omega arith) in
-    record { within = λ n e. forward x 0 n (oneValue x) k e .1; faults = λ a p. kept-faults x 0 (oneValue x) a p k }
+    record { within = λ n e. ends-kept Named x 0 n (oneValue x) k e .1; faults = λ a p t. fault a (stops-kept Named x 0 a p (oneValue x) k t .0) }
 
 -- ---- the call
 
@@ -60,9 +55,9 @@ value-bounded s =
       within = v .within;
       low = λ a p t. low (v .faults a p t);
       other = λ a p t. other (v .faults a p t);
-      small = omega (arith, small s 0 (oneValue s) k);
-      inside = λ a p. stops-inside s 0 a p (oneValue s) k;
-      due-at = λ room p l. due-lacks (λ r q. q ≤ length s) (oneValue s) 0 room p (due-inside s 0 (oneValue s) k) l .1;
+      small = omega (arith, small Named s 0 (oneValue s) k);
+      inside = λ a p t. stops-kept Named s 0 a p (oneValue s) k t .1;
+      due-at = λ room p l. due-lacks (λ r q. q ≤ length s) (oneValue s) 0 room p (due-inside Named s 0 (oneValue s) k) l .1;
     }
   where
     low : {a : ℕ} → Fault a → 2 ≤ a

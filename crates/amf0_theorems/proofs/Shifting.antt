@@ -18,7 +18,8 @@ use Rattle.amf0.specs.declared.read.Fields.the-variants.{Got, Stop}
 use Rattle.amf0.specs.Marker.{markerOf}
 use Rattle.amf0.specs.Fields.{fieldsAt, behind, gotFields}
 use Rattle.amf0.specs.Reading.{items, pair, pairs, follow, value}
-use Rattle.amf0.proofs.Reasons.{kept, forward}
+use Rattle.image.proofs.Kept.{ends-kept}
+use Rattle.amf0.proofs.Reasons.{Named, kept}
 
 bind-moves : (a : ℕ) (d : Due) (k l : ℕ → Due) → ((n : ℕ) → Ends d n → k (a + n) ≡ shifted a (l n)) → shifted a d >>= k ≡ shifted a (d >>= l)
 bind-moves a (end n) k l h = h n refl
@@ -112,7 +113,7 @@ unfolding value Moved
 shift zero x s at = both8 (Moved x s) stop stop x s at _ _ (λ l. refl) (λ l. refl)
 shift (suc left) x s at = both8 (Moved x s) stop stop x s at _ _
     (λ l. rw (behind-moves x s at (at + 1) (markerOf (getD s at 0)))
-    (node-moves x s (value left (x ++ s)) (value left s) (λ q n h e. omega (arith, forward s (3 * q) n (value left s q) (kept left s q h) e .0))
+    (node-moves x s (value left (x ++ s)) (value left s) (λ q n h e. omega (arith, ends-kept Named s (3 * q) n (value left s q) (kept left s q h) e .0))
     (shift left x s) at (behind s at (at + 1) (markerOf (getD s at 0)))))
     (λ l. refl)
 

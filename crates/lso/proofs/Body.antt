@@ -17,9 +17,10 @@ use Rattle.image.specs.declared.reading.Step.the-variants.{Next, Stop}
 use Rattle.image.specs.Due.{Due, end, stop, due, _>>=_, Ends, Stops, onEnd, ran, run}
 use Rattle.image.specs.Whole.{bytes}
 use Rattle.image.proofs.Laws.{size-bytes, size-some, run-then, run-halt}
+use Rattle.image.proofs.Kept.{Kept, fewer, bind-kept, ends-kept, stops-kept, small, due-inside}
 use Rattle.image.proofs.Settle.{on-case, one-end, ends-not, AllDue, due-bind, run-went, run-stopped}
 use Rattle.amf0.specs.Reading.{topValue}
-use Rattle.amf0.proofs.Reasons.{Named, two, three, Kept, fewer, bind-kept, small, due-inside}
+use Rattle.amf0.proofs.Reasons.{Named, two, three}
 use Rattle.amf0.proofs.Reasons as values
 use Rattle.lso.specs.File.{version, signature}
 use Rattle.lso.specs.Reading.{headerAt, closing, keyedAt, elementAt, Element, Body, takes, tries, bodyAt, kept, dueIn, everDue}
@@ -75,35 +76,23 @@ pub element-out : (s : List ℕ) (at : ℕ) → length s ≤ at → elementAt s 
 unfolding elementAt textAt
 element-out s at h = rw (lt-leb (at + 2) (length s) (omega arith))
 
-closing-kept : (s : List ℕ) (n : ℕ) → n ≤ length s → Kept s (3 * n) (closing s n)
+closing-kept : (s : List ℕ) (n : ℕ) → n ≤ length s → Kept Named s (3 * n) (closing s n)
 closing-kept s n h = go (tagAt (0 ∷ []) s n) refl
   where
-    go : (t : Tag) → tagAt (0 ∷ []) s n ≡ t → Kept s (3 * n) (pastTag stop t end)
+    go : (t : Tag) → tagAt (0 ∷ []) s n ≡ t → Kept Named s (3 * n) (pastTag stop t end)
     go (Tag.Past c) e = let r = tag-next s n (0 ∷ []) c e in (omega arith, omega arith)
     go (Tag.Stop a p) e = let r = tag-stop s n (0 ∷ []) a p e h in (omega arith, field-named (r .answer), r .within)
 
-element-kept : (s : List ℕ) (at : ℕ) → at ≤ length s → Kept s (3 * at) (elementAt s at)
+element-kept : (s : List ℕ) (at : ℕ) → at ≤ length s → Kept Named s (3 * at) (elementAt s at)
 unfolding elementAt bytesOf
-element-kept s at h = goText (Kept s (3 * at)) stop s at 2 _
+element-kept s at h = goText (Kept Named s (3 * at)) stop s at 2 _
     (λ n e i u.
     let q : ℕ = at + 2 + n in (
       h,
-      fewer s (3 * at + 6) (3 * q) (topValue s q >>= closing s) (omega arith)
-          (bind-kept s (3 * q) (topValue s q) (closing s) (values.kept limit.levels s q i) (λ m l. closing-kept s m)),
+      fewer Named s (3 * at + 6) (3 * q) (topValue s q >>= closing s) (omega arith)
+          (bind-kept Named s (3 * q) (topValue s q) (closing s) (values.kept limit.levels s q i) (λ m l. closing-kept s m)),
     ))
     (λ i. (omega arith, two, h)) (λ n e i j. (omega arith, two, i)) (λ n e i u. (omega arith, three, omega arith))
-
--- what that says of a reading that ends, and of one that stops
-ends-kept : (s : List ℕ) (c n : ℕ) (d : Due) → Kept s c d → Ends d n → (c + length (bytes d) ≤ 3 * n) × (n ≤ length s)
-unfolding bytes
-ends-kept s c n (end m) k e = (omega arith, omega arith)
-ends-kept s c n (stop a p) k e = absurd e
-ends-kept s c n (due r p d) k e = let f = ends-kept s (c + length (bytesOf r)) n d (k .1) e in (omega (arith, length-append (bytesOf r) (bytes d)), f .1)
-
-stops-kept : (s : List ℕ) (c a p : ℕ) (d : Due) → Kept s c d → Stops d a p → Named a
-stops-kept s c a p (end m) k e = absurd e
-stops-kept s c a p (stop b q) k e = rw (e .0) (k .1)
-stops-kept s c a p (due r q d) k e = stops-kept s (c + length (bytesOf r)) a p d (k .1) e
 
 -- ---- the body
 
@@ -158,7 +147,7 @@ module _ (s : List ℕ) where
   stopped-here : (at a p : ℕ) → at ≤ length s → Stops (elementAt s at) a p → Ended s at (tries at (elementAt s at))
   stopped-here at a p l t =
       let k = element-kept s at l in
-      record { row = Row.none; tried = refl; answer = a; place = p; stopped = t; known = stops-kept s (3 * at) a p (elementAt s at) k t; within = l; small = small s (3 * at) (elementAt s at) k }
+      record { row = Row.none; tried = refl; answer = a; place = p; stopped = t; known = stops-kept Named s (3 * at) a p (elementAt s at) k t .0; within = l; small = small Named s (3 * at) (elementAt s at) k }
 
   body-ended : (fuel at : ℕ) → length s ≤ fuel + at → at ≤ length s → Ended s at (bodyAt s fuel at)
   unfolding bodyAt
@@ -168,7 +157,7 @@ module _ (s : List ℕ) where
   body-ended (suc fuel) at h l =
       body-case (Ended s at) s fuel at
       (λ e t.
-      let z = ends-kept s (3 * at) (e .next) (elementAt s at) (element-kept s at l) (t .ends) in
+      let z = ends-kept Named s (3 * at) (e .next) (elementAt s at) (element-kept s at l) (t .ends) in
       let some = element-some s at e t in
       let r = body-ended fuel (e .next) (omega arith) (z .1) in
       let b : Body = bodyAt s fuel (e .next) in
@@ -197,7 +186,7 @@ row-due P s f {at} Row.none l = f at l
 row-due P s f {at} {n} (Row.more {e} {es} t r) l =
     rw (t .read)
     (due-bind P (elementAt s at) (λ m. dueIn es (elementAt s n)) (f at l)
-    λ m i. row-due P s f r (ends-kept s (3 * at) _ (elementAt s at) (element-kept s at l) (t .ends) .1))
+    λ m i. row-due P s f r (ends-kept Named s (3 * at) _ (elementAt s at) (element-kept s at l) (t .ends) .1))
 
 module _ (P : Record → ℕ → Type 0) (s : List ℕ) (f : (at : ℕ) → at ≤ length s → AllDue P (elementAt s at)) (g : (stored p n : ℕ) → P (Lso stored p n) 0)
     (p : ℕ) (e : Ends (headerAt s) p) where
@@ -210,7 +199,7 @@ module _ (P : Record → ℕ → Type 0) (s : List ℕ) (f : (at : ℕ) → at �
 
 -- every place at which a record falls due is inside
 pub ever-inside : (s : List ℕ) (p : ℕ) → Ends (headerAt s) p → AllDue (λ r q. q ≤ length s) (everDue s p)
-ever-inside s = ever-due (λ r q. q ≤ length s) s (λ at l. due-inside s (3 * at) (elementAt s at) (element-kept s at l)) (λ stored p n. omega arith)
+ever-inside s = ever-due (λ r q. q ≤ length s) s (λ at l. due-inside Named s (3 * at) (elementAt s at) (element-kept s at l)) (λ stored p n. omega arith)
 
 -- ---- the body carried out
 

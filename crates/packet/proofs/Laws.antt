@@ -25,7 +25,8 @@ use Rattle.image.proofs.Laws.{clear-more}
 use Rattle.image.proofs.Settle.{finished-ran}
 use Rattle.amf0.specs.Reading.{valueIn}
 use Rattle.amf0.proofs.Laws.{part-read}
-use Rattle.amf0.proofs.Reasons.{Kept, kept}
+use Rattle.image.proofs.Kept.{Kept}
+use Rattle.amf0.proofs.Reasons.{Named, kept}
 use Rattle.packet.specs.declared.head.Entry.{Entry}
 use Rattle.packet.specs.declared.head.Head.{Head}
 use Rattle.packet.specs.declared.head.Head.the-variants as Head
@@ -476,10 +477,16 @@ run-halts (due r p d) made image h =
     picked (λ (x : Ran). Halts (x .step)) (leb (made + size r) (length image)) _ _
     (λ t. run-halts d (made + size r) (sets image made (bytesOf r)) h) (λ t. omega arith)
 
-kept-answers : (b : ℕ) (s : List ℕ) (c : ℕ) (d : Due) → Kept s c d → Answers (based b d)
-kept-answers b s c (end n) k = tt
-kept-answers b s c (stop a p) k = omega (arith, k .1 .low)
-kept-answers b s c (due r p d) k = kept-answers b s (c + length (bytesOf r)) d (k .1)
+-- a reading whose refusals are 2 or more
+pub answered : (N : ℕ → Type 0) → ((a : ℕ) → N a → 2 ≤ a) → (s : List ℕ) (c : ℕ) (d : Due) → Kept N s c d → Answers d
+answered N h s c (end n) k = tt
+answered N h s c (stop a p) k = omega (arith, h a (k .1))
+answered N h s c (due r p d) k = answered N h s (c + length (bytesOf r)) d (k .1)
+
+based-answers : (b : ℕ) (d : Due) → Answers d → Answers (based b d)
+based-answers b (end n) h = h
+based-answers b (stop a p) h = h
+based-answers b (due r p d) h = based-answers b d h
 
 -- a step judged, and the whole judged
 judge-finished : (p : Span) (i : List ℕ) (x : Step) → Halts x → finished (judgedOf x (p .place) (p .length)) i ≡ judge p (finished x i)
@@ -503,7 +510,8 @@ span-answer s image i p x l h r =
     let v = oneValue (held s p) in
     let d = inSpan oneValue s p in
     let q = r ∙ ap (λ (d : Due). run d 0 image) (part-read (p .place) (held s p) 0 (omega arith) (omega arith)) in
-    let w = kept-answers (p .place) (held s p) 0 v (kept limit.levels (held s p) 0 (omega arith)) in
+    let k = kept limit.levels (held s p) 0 (omega arith) in
+    let w = based-answers (p .place) v (answered Named (λ a m. m .low) (held s p) 0 v k) in
     let a : Halts x = rw (ap (λ (y : Ran). y .step) q) (run-halts d 0 image w) in
     rw (n, judge-finished p i x a, finished-ran d image q)
 

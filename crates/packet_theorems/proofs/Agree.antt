@@ -14,7 +14,8 @@ use Rattle.image.specs.Due.{Due, end, stop, due, based, Ends}
 use Rattle.image.specs.Whole.{Whole, bytes, accepted}
 use Rattle.image.proofs.Settle.{bytes-bind}
 use Rattle.amf0.specs.Reading.{topValue}
-use Rattle.amf0.proofs.Reasons.{kept, forward}
+use Rattle.image.proofs.Kept.{ends-kept}
+use Rattle.amf0.proofs.Reasons.{Named, kept}
 use Rattle.packet.specs.declared.head.Entry.{Entry}
 use Rattle.packet.specs.declared.head.Head.{Head}
 use Rattle.packet.specs.declared.head.Head.the-variants as Head
@@ -60,7 +61,7 @@ exactly-reads kind s es at z bs (Exactly.more {e} {c} {es = fs} h v x) = go (exa
     go r d =
         let next = sym (d .place) in
         let u = topValue s (e .place) in
-        let b = forward s (3 * e .place) (e .place + e .length) u (kept limit.levels s (e .place) (omega (arith, d .place, d .within))) v .1 in
+        let b = ends-kept Named s (3 * e .place) (e .place + e .length) u (kept limit.levels s (e .place) (omega (arith, d .place, d .within))) v .1 in
         let a = alone s (e .place) (e .length) bs b v in
         record {
           walks = rw (h, next, le-leb (e .place + e .length) (length s) b, r .walks);

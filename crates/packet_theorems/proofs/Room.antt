@@ -6,14 +6,14 @@ use Rattle.image.specs.Out.{written}
 use Rattle.image.specs.Due.{Lacks}
 use Rattle.image.specs.Whole.{Whole, bytes, accepted, refused, all}
 use Rattle.amf0.specs.Span.{Span, spanAt, judge, inSpan, answerOf, oneValue}
-use Rattle.amf0_theorems.proofs.More.{More, in-room-more, pick-more, pass-more, any-room, all-refusal}
+use Rattle.amf0_theorems.proofs.More.{More, in-room-more, pick-more, pass-more, any-room, all-iff, all-refusal}
 use Rattle.amf0_theorems.proofs.Room.{alike-length}
 use Rattle.packet.specs.Reading.{packetAt, incompleteOf, wholeOf}
 use Rattle.packet.specs.Entry.{Cut, found, stops, cutOf, noEntry, span, readSpan, entryIn, readEntry}
 use Rattle.packet.specs.Writing.{writeOf}
 use Rattle.packet.specs.Written.{rewriteOf}
 use Rattle.packet_theorems.proofs.Taken.{whole-taken}
-use Rattle.packet_theorems.proofs.Theorems.{over-all, incomplete-room-exact, incomplete-room-place}
+use Rattle.packet_theorems.proofs.Theorems.{incomplete-room-exact, incomplete-room-place}
 use Rattle.packet_theorems.proofs.WriteTheorems.{RoundTrip, round-trip, again}
 use Rattle.packet_theorems.proofs.WriteOutcome.{WasRead}
 
@@ -53,11 +53,7 @@ span-more s place n =
 -- Within the limit, `parse` gives 4 exactly where the records that it finds have more bytes than the room.
 pub parse-room-exact : (s : List ℕ) (room : ℕ) → length s ≤ limit.bytes → wholeOf s room .reading .answer ≡ 4 ↔ room < length (bytes (packetAt s))
 unfolding wholeOf
-parse-room-exact s room h =
-    let x = incomplete-room-exact s room h in (
-      over-all (λ w. w .reading .answer ≡ 4 → room < length (bytes (packetAt s))) s room (x .0) (λ e. absurd (omega arith)),
-      λ l. let four = x .1 l in rw four,
-    )
+parse-room-exact s room h = all-iff s (incompleteOf s room) 4 (λ z. omega arith) (λ z. omega arith) (incomplete-room-exact s room h)
 
 -- And its place is then that of the first record that has no room.
 pub parse-room-place : (s : List ℕ) (room p : ℕ) → length s ≤ limit.bytes → wholeOf s room ≡ refused 4 p ↔ Lacks (packetAt s) 0 room p

@@ -11,7 +11,8 @@ use Rattle.packet.specs.Head.{frontOf}
 use Rattle.packet.specs.Reading.{packetAt, incompleteOf, wholeOf}
 use Rattle.packet.specs.Entry.{Cut, found, stops, cutOf, readSpan, readEntry, foundIn, span}
 use Rattle.packet.proofs.Laws.{Splits, cut-told, entry-chosen, span-read}
-use Rattle.packet.proofs.Reasons.{packet-kept, tells}
+use Rattle.image.proofs.Kept.{stops-kept}
+use Rattle.packet.proofs.Reasons.{Tells, packet-kept}
 use Rattle.amf0.specs.Span.{Span, spanAt, held, inSpan, oneValue}
 use Rattle.amf0_theorems.proofs.Call.{value-sober, value-bounded, call-answers, call-refused, call-over-limit, call-room-exact, call-room-place, call-room, call-inside, call-takes}
 use Rattle.amf0_theorems.proofs.Spans.{length-based, held-length, answer-either, answer-known, answer-refused, answer-takes, TakesSpan}
@@ -30,7 +31,7 @@ unfolding incompleteOf
 incomplete-answers s room =
     call-answers s (packetAt s) room Answer (record { high = omega arith; tree = λ e. omega arith }) (record { high = omega arith; tree = λ e. omega arith })
     (record { high = omega arith; tree = λ e. omega arith }) λ a p t.
-    let b = tells s 0 (packetAt s) (packet-kept s) a p t in
+    let b = stops-kept Tells s 0 a p (packetAt s) (packet-kept s) t .0 in
     record { high = b .high; tree = b .tree }
 
 -- what holds of the incomplete reading, and of a refusal with 3 where that one ends, holds of the whole one
