@@ -3,7 +3,7 @@ library, but it has the same author, who read the rules in the same way: it find
 
 read_value(input, room) gives (answer, used, made, image), the image as it stands after the call; where it is refused, `used` is the place of the refusal.
 write_value(image, text, out) gives (answer, count, output), likewise; make_index(image, text, room) gives (answer, count, index), likewise. find(image, text,
-index, path) and step(image, text, index, container, key) give a place of the image, or None."""
+index, path) and step(image, text, index, container, key) give a place of the image, or None. put_numbers(image, made, numbers) gives (answer, made, image)."""
 
 LIMIT, LEVELS, IMAGE_LIMIT = 1048576, 32, 3145728
 
@@ -544,6 +544,29 @@ def record_at(image, place):
     kind, end = image[place], place + 1 + BODIES[image[place]]
     body = image[place + 1 : end]
     return (kind, body, end) if end <= len(image) and right(kind, body) else None
+
+
+# The fields of a kind, each by its bytes; a kind that has none is not here.
+WIDTHS = {0: (8,), 1: (1,), 2: (3, 3), 15: (3, 3), 7: (2,), 8: (4,), 10: (4,), 11: (8, 1, 2), 16: (3, 2), 32: (3, 2)}
+WIDTHS.update({48: (2, 2), 49: (3, 2, 1), 50: (3, 2, 3, 2), 51: (4, 3, 2)})
+
+
+def told(kind, *fields):
+    """The bytes of the record that five numbers tell, its kind and its fields, with 0 for a field that it has not; or None."""
+    widths = WIDTHS.get(kind, ())
+    if kind not in BODIES or any(fields[len(widths) :]) or any(n >> 8 * width for n, width in zip(fields, widths)):
+        return None
+    body = b"".join(big(n, width) for n, width in zip(fields, widths))
+    return big(kind, 1) + body if right(kind, body) else None
+
+
+def put_numbers(image, made, numbers):
+    """What laying the record that numbers tell behind the made bytes of an image comes to: answer, bytes made, and the image."""
+    record = told(*numbers)
+    if record is None:
+        return 6, made, image
+    end = made + len(record)
+    return (0, end, image[:made] + record + image[end:]) if end <= len(image) else (4, made, image)
 
 
 def key_at(image, text, place):

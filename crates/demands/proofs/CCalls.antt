@@ -1,6 +1,7 @@
 -- The functions that go out to C, as the calls stand in `Calls`: what goes out through a reference stands in the result.
 use Rattle.wire.proofs.Kit.{ℕ, List, Bool, now, Dens}
 use contract.Lifetimes.{Lfts}
+use Rattle.image.specs.declared.building.Laying.{Laying}
 use Rattle.image.specs.declared.reading.Reading.{Reading}
 use Rattle.image.specs.declared.writing.Writing.{Writing}
 use Rattle.packet.specs.declared.entry.Cutting.{Cutting}
@@ -94,3 +95,17 @@ pub data CIndex : List ℕ → List ℕ → List ℕ → Indexing → List ℕ �
   call : (κs : Lfts 4) (a : Dens κs c.riddoskam_index.Kinds.ps)
       (o : Returned c.riddoskam_index.Kinds.ps c.riddoskam_index.Kinds.r c.riddoskam_index.Reads.Post κs a)
       → CIndex (now (a .0)) (now (a .1 .0)) (now (a .1 .1 .0)) (record { answer = o .result; count = o .last .1 .1 .1 .0 }) (o .last .1 .1 .0)
+
+-- ---- a record by its numbers
+
+-- `riddoskam_record_at`, its answer, the five numbers and the place behind the record
+pub data CRecordAt : List ℕ → ℕ → ℕ → List ℕ → ℕ → Type 0 where
+  call : (κs : Lfts 3) (a : Dens κs c.riddoskam_record_at.Kinds.ps)
+      (o : Returned c.riddoskam_record_at.Kinds.ps c.riddoskam_record_at.Kinds.r c.riddoskam_record_at.Reads.Post κs a)
+      → CRecordAt (now (a .0)) (a .1 .0) (o .result) (o .last .1 .1 .0) (o .last .1 .1 .1 .0)
+
+-- `riddoskam_put`
+pub data CPut : List ℕ → ℕ → List ℕ → Laying → List ℕ → Type 0 where
+  call : (κs : Lfts 3) (a : Dens κs c.riddoskam_put.Kinds.ps)
+      (o : Returned c.riddoskam_put.Kinds.ps c.riddoskam_put.Kinds.r c.riddoskam_put.Reads.Post κs a)
+      → CPut (now (a .0)) (now (a .1 .0)) (now (a .1 .1 .0)) (record { answer = o .result; made = o .last .1 .0 }) (o .last .0)

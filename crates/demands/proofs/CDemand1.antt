@@ -1,7 +1,11 @@
 -- Demand 1 of the functions that go out to C: each comes to what its call does, and so answers, leaves and changes what that does.
-use Rattle.wire.proofs.Kit.{ℕ, _/_, _≤_, _≡_, refl, _∙_, _≢_, List, [], _∷_, Bool, now, length, replicate}
+use Rattle.wire.proofs.Kit.{ℕ, _/_, _≤_, _≡_, refl, _∙_, _≢_, inl, inr, List, [], _∷_, Bool, now, length, replicate, sym, ap}
+use Rattle.image.specs.declared.building.Laying.{Laying}
 use Rattle.image.specs.declared.reading.Reading.{Reading}
 use Rattle.image.specs.declared.writing.Writing.{Writing}
+use Rattle.image.specs.Taking.{recordAt}
+use Rattle.image.specs.Building.{Put, putting, putOf}
+use Rattle.image.proofs.Told.{put-cases, put-six, put-four, put-refused, put-before, put-behind, put-length}
 use Rattle.amf0.specs.Reading.{readOf}
 use Rattle.amf0.specs.Writing as amf0
 use Rattle.amf0_theorems.specs.Refusal as value-why
@@ -30,9 +34,10 @@ use Rattle.packet_theorems.proofs.SpanTheorems as spans
 use Rattle.packet_theorems.proofs.WriteTheorems as packets-write
 use Rattle.index.specs.declared.make.Indexing.{Indexing}
 use Rattle.riddoskam.specs.Numbers.{foundAnswer, foundNumbers}
-use Rattle.demands.specs.Forms.{OneOf, CutZeros, ReaderRules, WriterRules}
+use Rattle.riddoskam.proofs.Puts.{Leaves, put-record, record-put}
+use Rattle.demands.specs.Forms.{OneOf, CutZeros, ReaderRules, WriterRules, PutRules}
 use Rattle.demands.proofs.Counts.{value-counts, file-counts, file-incomplete-counts, packet-counts, packet-incomplete-counts, entry-counts, span-counts}
-use Rattle.demands.proofs.CCalls.{CParseSingleElement, CLsoParse, CLsoParseIncomplete, CPacketParse, CPacketParseIncomplete, CParseEntry, CParseSpan, CWriteValue, CLsoWrite, CPacketWrite, CPacketCut, CPacketNth, CIndex}
+use Rattle.demands.proofs.CCalls.{CParseSingleElement, CLsoParse, CLsoParseIncomplete, CPacketParse, CPacketParseIncomplete, CParseEntry, CParseSpan, CWriteValue, CLsoWrite, CPacketWrite, CPacketCut, CPacketNth, CIndex, CRecordAt, CPut}
 use Rattle.demands.proofs.Told.{Read, Reads, Wrote, Putting}
 use Rattle.demands.proofs.Laws as law
 use Rattle.demands.proofs.Demand1.{Cuts-by, row-uncut, index-nothing}
@@ -248,3 +253,39 @@ pub index-zeros : (i t index : List ℕ) (r : Indexing) (left : List ℕ) → CI
 index-zeros _ _ _ _ _ (CIndex.call κs a o) =
     index-nothing (now (a .0)) (now (a .1 .0)) (now (a .1 .1 .0)) _ (o .last .1 .1 .0)
     (λ j. record { answer = o .ensures .0 j; count = o .ensures .1 .0 j }) (o .ensures .1 .1, o .kept .1 .1 .0)
+
+-- ---- a record by its numbers
+
+-- `riddoskam_put`, beside `riddoskam_record_at`
+pub put-rules : PutRules CPut CRecordAt
+put-rules =
+    record {
+      answers = λ i m fs r x p.
+          let t = told i m fs r x p in
+          rw (t .0) (put-cases fs m i (λ (y : Put). OneOf 0 (4 ∷ 6 ∷ []) (y .laying .answer)) (λ _ _ _. inl refl) (λ _ _ _. inr (inl refl)) (λ _. inr (inr refl)));
+      untold = λ i m fs r x p. rw (told i m fs r x p .0) (put-six fs m i);
+      tight = λ i m fs r x p. rw (told i m fs r x p .0) (put-four fs m i);
+      untouched = λ i m fs r x p. let t = told i m fs r x p in rw (t .0, t .1) (put-refused fs m i);
+      kept = λ i m fs r x p.
+          let t = told i m fs r x p in
+          rw (t .0, t .1) (put-before fs m i, put-behind fs m i, put-length fs m i);
+      taken = λ i m fs r x p e a gs n k.
+          let t = told i m fs r x p in
+          let h = left x m a gs n k in
+          let g : Leaves (recordAt x m) 0 fs (r .made) = rw (t .0, t .1) (put-record fs m i (rw (t .0) at e)) in
+          (sym (h .answered) ∙ g .answered, sym (h .numbers) ∙ g .numbers, sym (h .behind) ∙ g .behind);
+      again = λ i bytes m fs n k r x p.
+          let t = told i m fs r x p in
+          let h = left i m 0 fs n k in
+          let g : putOf fs m i ≡ putting 0 n i = rw (h .numbers, h .behind) at (record-put i bytes m (h .answered)) in (
+            ap (λ (y : Laying). y .answer) (t .0) ∙ ap (λ (y : Put). y .laying .answer) g,
+            ap (λ (y : Laying). y .made) (t .0) ∙ ap (λ (y : Put). y .laying .made) g,
+            t .1 ∙ ap (λ (y : Put). y .image) g,
+          );
+    }
+  where
+    told : (i : List ℕ) (m : ℕ) (fs : List ℕ) (r : Laying) (x : List ℕ) → CPut i m fs r x → (r ≡ putOf fs m i .laying) × (x ≡ putOf fs m i .image)
+    told _ _ _ _ _ (CPut.call κs a o) = (λ j. record { answer = o .ensures .0 j; made = o .ensures .1 .0 j }, o .ensures .1 .1)
+
+    left : (i : List ℕ) (m a : ℕ) (fs : List ℕ) (n : ℕ) → CRecordAt i m a fs n → Leaves (recordAt i m) a fs n
+    left _ _ _ _ _ (CRecordAt.call κs a o) = record { answered = sym (o .ensures .0); numbers = sym (o .ensures .1 .0); behind = sym (o .ensures .1 .1) }

@@ -55,13 +55,13 @@ use Rattle.packet_theorems.proofs.WriteOutcome.{read-whole, read-incomplete}
 use Rattle.index.specs.declared.make.Indexing.{Indexing}
 use Rattle.demands.specs.Inputs.{IsValue, HasValue, IsFile, IsHeader, IsPacket, IsCut, Cuttable, WrongFile, TightFile, FullFile, TightCut, HoldsValue, HoldsFile, HoldsPacket}
 use Rattle.demands.specs.Examples.{table}
-use Rattle.demands.specs.Forms.{made, sent, listed, OneOf, Answers, WriteAnswers, CutAnswers, Reasons, WriteReasons, OverLimit, Just, JustAt, JustAtInRoom, Inside, Roomy, Short, ShortInRoom, CutJust, CutJustAt, CutInside, CutShort, WriteJust, Zeros, Past, CutZeros, Untouching, Keeping, ReaderRules, WriterRules, Sound, Exactly, Writes, AsBefore, Wider, Returns, CutExactly, Same}
+use Rattle.demands.specs.Forms.{made, sent, listed, OneOf, Answers, WriteAnswers, CutAnswers, Reasons, WriteReasons, OverLimit, Just, JustAt, JustAtInRoom, Inside, Roomy, Short, ShortInRoom, CutJust, CutJustAt, CutInside, CutShort, WriteJust, Zeros, Past, CutZeros, Untouching, Keeping, ReaderRules, WriterRules, PutRules, Sound, Exactly, Writes, AsBefore, Wider, Returns, CutExactly, Same}
 use Rattle.demands.proofs.Calls.{Part, ParseSingleElement, LsoParse, LsoParseIncomplete, PacketParse, PacketParseIncomplete, ParseEntry, ParseSpan, WriteValue, LsoWrite, PacketWrite, Nth, Cut, RowCut, MakeIndex}
 use Rattle.demands.proofs.Determined.{EveryCall, every-call}
 use Rattle.demands.proofs.Told.{value-reads, file-reads, file-incomplete-reads, packet-reads, packet-incomplete-reads, entry-reads, span-reads, value-puts, file-puts, packet-puts}
 use Rattle.demands.proofs.Laws as law
 use Rattle.demands.proofs.Agree.{Changes, Alone, Agrees}
-use Rattle.demands.proofs.CCalls.{CParseSingleElement, CLsoParse, CLsoParseIncomplete, CPacketParse, CPacketParseIncomplete, CParseEntry, CParseSpan, CWriteValue, CLsoWrite, CPacketWrite, CPacketCut, CPacketNth, CIndex}
+use Rattle.demands.proofs.CCalls.{CParseSingleElement, CLsoParse, CLsoParseIncomplete, CPacketParse, CPacketParseIncomplete, CParseEntry, CParseSpan, CWriteValue, CLsoWrite, CPacketWrite, CPacketCut, CPacketNth, CIndex, CRecordAt, CPut}
 use Rattle.demands.specs.Before as then
 use Rattle.demands.proofs.Before as before
 use Rattle.amf0_theorems.specs.Due as value-place
@@ -255,6 +255,8 @@ pub record Demand1 : Type 0 where
   pub c-nth-zeros : (s : List ℕ) (k answer : ℕ) (numbers : List ℕ) → CPacketNth s k answer numbers → answer ≢ 0 → numbers ≡ replicate 8 0
   pub c-index-zeros : (i t index : List ℕ) (r : Indexing) (left : List ℕ) → CIndex i t index r left → r .answer ≢ 0
       → (r .count ≡ 0) × (left ≡ replicate (length index) 0)
+  -- A record laid by its numbers: its answers, each just where it is due; a refusal leaves the image as it was found; and laying is the inverse of taking.
+  pub c-put : PutRules CPut CRecordAt
 
 pub demand1 : Demand1
 demand1 =
@@ -405,6 +407,7 @@ demand1 =
       c-cut-zeros = c.cut-zeros;
       c-nth-zeros = c.nth-zeros;
       c-index-zeros = c.index-zeros;
+      c-put = c.put-rules;
     }
 
 -- ---- 2. "The readers and writers give what the Rust gives within [the limits], and each value means what Adobe's AMF 0 document says, every departure listed.

@@ -8,6 +8,7 @@ use Rattle.image.specs.Due.{Ran}
 use Rattle.image.specs.Out.{Poured}
 use Rattle.wire.proofs.text as text
 use Rattle.image.proofs.taking as taking
+use Rattle.image.proofs.building as building
 use Rattle.amf0.proofs.read as value-read
 use Rattle.amf0.proofs.write as value-write
 use Rattle.lso.proofs.read as file-read
@@ -33,6 +34,8 @@ pub record EveryCall : Type 0 where
   pub part-text : (κs : Lfts 1) (a : Dens κs text.part.Kinds.ps) (o p : Returned text.part.Kinds.ps text.part.Kinds.r text.part.Reads.Post κs a)
       → (ptr (o .result) ≡ ptr (p .result)) × (now (o .result) ≡ now (p .result))
   pub record-at : Firm taking.record_at.Kinds.ps taking.record_at.Kinds.r taking.record_at.Reads.Asked taking.record_at.Reads.Post
+  pub record-of : Firm building.record_of.Kinds.ps building.record_of.Kinds.r building.record_of.Reads.Asked building.record_of.Reads.Post
+  pub put-numbers : Firm building.put_numbers.Kinds.ps building.put_numbers.Kinds.r building.put_numbers.Reads.Asked building.put_numbers.Reads.Post
   -- values
   pub parse-single-element : Firm value-read.parse_single_element.Kinds.ps value-read.parse_single_element.Kinds.r
       value-read.parse_single_element.Reads.Asked value-read.parse_single_element.Reads.Post
@@ -88,6 +91,7 @@ pub record EveryCall : Type 0 where
   pub riddoskam-packet-parse-span : Firm c.riddoskam_packet_parse_span.Kinds.ps c.riddoskam_packet_parse_span.Kinds.r
       c.riddoskam_packet_parse_span.Reads.Asked c.riddoskam_packet_parse_span.Reads.Post
   pub riddoskam-record-at : Firm c.riddoskam_record_at.Kinds.ps c.riddoskam_record_at.Kinds.r c.riddoskam_record_at.Reads.Asked c.riddoskam_record_at.Reads.Post
+  pub riddoskam-put : Firm c.riddoskam_put.Kinds.ps c.riddoskam_put.Kinds.r c.riddoskam_put.Reads.Asked c.riddoskam_put.Reads.Post
   pub riddoskam-index : Firm c.riddoskam_index.Kinds.ps c.riddoskam_index.Kinds.r c.riddoskam_index.Reads.Asked c.riddoskam_index.Reads.Post
   pub riddoskam-find : Firm c.riddoskam_find.Kinds.ps c.riddoskam_find.Kinds.r c.riddoskam_find.Reads.Asked c.riddoskam_find.Reads.Post
   pub riddoskam-step : Firm c.riddoskam_step.Kinds.ps c.riddoskam_step.Kinds.r c.riddoskam_step.Reads.Asked c.riddoskam_step.Reads.Post
@@ -134,6 +138,8 @@ every-call =
       part = λ κs a. tt;
       part-text = λ κs a o p. (same (o .ensures .1) (p .ensures .1), same (o .ensures .0) (p .ensures .0));
       record-at = firm (λ κs a. tt) λ κs a o p. plain (o .ensures) (p .ensures);
+      record-of = firm (λ κs a. tt) λ κs a o p. plain (o .ensures) (p .ensures);
+      put-numbers = firm (λ κs a. tt) λ κs a o p. one-left (λ x. (x, (tt, (tt, tt)))) (o .ensures) (p .ensures);
       parse-single-element = firm (λ κs a. tt) λ κs a o p. one-left (λ x. (tt, (x, tt))) (o .ensures) (p .ensures);
       parse-value = firm (λ κs a. tt) λ κs a o p.
           let e = same (o .ensures .0) (p .ensures .0) in
@@ -176,6 +182,7 @@ every-call =
       riddoskam-packet-parse-entry = firm (λ κs a. tt) λ κs a o p. three-left (λ x y z. (tt, (tt, (z, (x, (y, tt)))))) (o .ensures) (p .ensures);
       riddoskam-packet-parse-span = firm (λ κs a. tt) λ κs a o p. three-left (λ x y z. (tt, (tt, (tt, (z, (x, (y, tt))))))) (o .ensures) (p .ensures);
       riddoskam-record-at = firm (λ κs a. tt) λ κs a o p. two-left (λ x y. (tt, (tt, (x, (y, tt))))) (o .ensures) (p .ensures);
+      riddoskam-put = firm (λ κs a. tt) λ κs a o p. two-left (λ x y. (y, (x, (tt, tt)))) (o .ensures) (p .ensures);
       riddoskam-index = firm (λ κs a. tt) λ κs a o p.
           let e = index-determined (now (a .0)) (now (a .1 .0)) (length (now (a .1 .1 .0))) _ _ (o .ensures .1 .1, o .kept .1 .1 .0)
           (p .ensures .1 .1, p .kept .1 .1 .0) in

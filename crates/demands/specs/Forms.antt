@@ -1,13 +1,17 @@
 -- The forms in which the demands are said of calls. A reader's call stands as a relation of the input, the image lent to it, the result and the image left; a
 -- writer's as one of the image, its text, the output lent to it, the result and the output left.
-use Rattle.wire.specs.Kit.{ℕ, _-_, _*_, _≤_, _<_, _≡_, _≢_, _⊎_, List, [], _∷_, _++_, length, take, drop, replicate}
+use Rattle.wire.specs.Kit.{ℕ, _+_, _-_, _*_, _≤_, _<_, _≡_, _≢_, _⊎_, List, [], _∷_, _++_, length, take, drop, replicate}
 use mathlib.Core.Logic.{_↔_}
 use Rattle.wire.specs.Number.{Bytes}
 use Rattle.wire.specs.Limit as limit
+use Rattle.image.specs.declared.building.Laying.{Laying}
 use Rattle.image.specs.declared.reading.Reading.{Reading}
+use Rattle.image.specs.declared.record.Record.{Record}
 use Rattle.image.specs.declared.writing.Writing.{Writing}
 use Rattle.image.specs.Whole.{Whole}
 use Rattle.image.specs.Out.{Written}
+use Rattle.image.specs.Record.{size}
+use Rattle.image.specs.Building.{Tells}
 use Rattle.packet.specs.declared.head.Entry.{Entry}
 use Rattle.packet.specs.declared.entry.Cutting.{Cutting}
 use Rattle.packet.specs.Entry.{Listed}
@@ -266,3 +270,31 @@ CutExactly {A} Is Call =
 -- two readings in the same room return and leave the same
 abbrev pub Same : (List ℕ → Reading → List ℕ → Type 0) → (List ℕ → Reading → List ℕ → Type 0) → Type 0
 Same Before After = (i j x y : List ℕ) (r q : Reading) → Before i r x → After j q y → length j ≡ length i → (q ≡ r) × (y ≡ x)
+
+-- ---- a record by its numbers
+
+-- a call that lays a record, as one of the image, what is made of it, the numbers, the result and the image left
+abbrev pub Putter : Type 1
+Putter = List ℕ → ℕ → List ℕ → Laying → List ℕ → Type 0
+
+-- a call that takes one, as one of the image, the place, the answer, the numbers and the place behind it
+abbrev pub Taker : Type 1
+Taker = List ℕ → ℕ → ℕ → List ℕ → ℕ → Type 0
+
+pub record PutRules (Put : Putter) (Take : Taker) : Type 0 where
+  -- The answers: 6 just where the numbers tell no record, 4 just where they tell one that has no room, and else 0.
+  pub answers : (i : List ℕ) (m : ℕ) (fs : List ℕ) (r : Laying) (x : List ℕ) → Put i m fs r x → OneOf 0 (4 ∷ 6 ∷ []) (r .answer)
+  pub untold : (i : List ℕ) (m : ℕ) (fs : List ℕ) (r : Laying) (x : List ℕ) → Put i m fs r x → r .answer ≡ 6 ↔ ((t : Record) → Tells fs t → ⊥)
+  pub tight : (i : List ℕ) (m : ℕ) (fs : List ℕ) (r : Laying) (x : List ℕ) → Put i m fs r x
+      → r .answer ≡ 4 ↔ ((t : Record) × Tells fs t × (length i < m + size t))
+  -- One that is refused changes neither the image nor what is made,
+  pub untouched : (i : List ℕ) (m : ℕ) (fs : List ℕ) (r : Laying) (x : List ℕ) → Put i m fs r x → r .answer ≢ 0 → (r .made ≡ m) × (x ≡ i)
+  -- and none changes a byte before what was made or behind what is made.
+  pub kept : (i : List ℕ) (m : ℕ) (fs : List ℕ) (r : Laying) (x : List ℕ) → Put i m fs r x
+      → (take m x ≡ take m i) × (drop (r .made) x ≡ drop (r .made) i) × (length x ≡ length i)
+  -- What was laid is taken where it was laid, up to what is made.
+  pub taken : (i : List ℕ) (m : ℕ) (fs : List ℕ) (r : Laying) (x : List ℕ) → Put i m fs r x → r .answer ≡ 0
+      → (a : ℕ) (gs : List ℕ) (n : ℕ) → Take x m a gs n → (a ≡ 0) × (gs ≡ fs) × (n ≡ r .made)
+  -- What was taken, laid where it was taken, leaves the image, and what is made is the place behind it.
+  pub again : (i : List ℕ) → Bytes i → (m : ℕ) (fs : List ℕ) (n : ℕ) → Take i m 0 fs n
+      → (r : Laying) (x : List ℕ) → Put i m fs r x → (r .answer ≡ 0) × (r .made ≡ n) × (x ≡ i)

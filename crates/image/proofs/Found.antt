@@ -268,14 +268,14 @@ close {s} {at} {p} {x} {r} {c} h t w f e =
 
 -- ---- the table, line by line
 
-nil : 0 < 256 ^ 0
+pub nil : 0 < 256 ^ 0
 nil = lit< tt
 
-bit-small : (b : Bool) → bitOf b < 256 ^ 1
+pub bit-small : (b : Bool) → bitOf b < 256 ^ 1
 bit-small true = lit< tt
 bit-small false = lit< tt
 
-fits : (r : Record) → Small (layoutOf r .a) → Small (layoutOf r .b) → Small (layoutOf r .c) → Small (layoutOf r .d)
+pub fits : (r : Record) → Small (layoutOf r .a) → Small (layoutOf r .b) → Small (layoutOf r .c) → Small (layoutOf r .d)
     → ((n z : ℕ) → r ≡ Date n false z → z ≡ 0) → Fits r
 fits r a b c d z = record { a = a; b = b; c = c; d = d; zone = z }
 

@@ -5,3 +5,4 @@ pub mod Kept
 pub mod Pouring
 pub mod Found
 pub mod Kinded
+pub mod Told

@@ -4,3 +4,4 @@ pub mod Due
 pub mod Whole
 pub mod Taking
 pub mod Out
+pub mod Building

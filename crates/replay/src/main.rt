@@ -22,11 +22,16 @@
 //     0F  parse_span(first row, place b, a length that the second  answer used made image
 //         row has in four bytes, an image of a bytes)
 //     10  nth(first row, number b)                                 answer place, and the entry as in 09; zeros for the one that isn't there
+//     20  put_numbers(the first row as the image, a bytes of       answer made image
+//         which are made, five numbers that the second row has in
+//         eight bytes each)
 //
-// Where a reading or a cut is refused, `used` is the place of the refusal. A second row of 0D or 0F that is too short prints `over` too.
+// Where a reading or a cut is refused, `used` is the place of the refusal. A second row of 0D, 0F or 20 that is too short prints `over` too.
 mod output;
 
 ghost use Prim.Native.Nat.{_<_, _≤_};
+use image::building::Laying;
+use image::building::put_numbers;
 use image::reading::Reading;
 use image::writing::Writing;
 use index::find::Way;
@@ -43,8 +48,10 @@ use packet::entry::cut;
 use packet::entry::nth;
 use packet::entry::parse_span;
 use packet::head::Entry;
+use wire::bytes::write_bytes;
 use wire::cursor::Cursor;
 use wire::cursor::U32;
+use wire::cursor::U64;
 use wire::limit::BYTES;
 use wire::limit::IMAGE;
 use wire::text::part;
@@ -327,6 +334,50 @@ fn find_path(image: &[u8], rows: &[u8], a: usize, b: usize) {
     tell_way(find(image, text, part(rows, 0, a), part(rest, 0, b)));
 }
 
+// What laying a record returned, and the image that it left.
+fn tell_laying(l: Laying, image: &[u8]) {
+    number(l.answer as usize);
+    word(b" ");
+    number(l.made);
+    word(b" ");
+    row(image);
+    word(b"\n");
+}
+
+// The number in eight bytes at a place; 0 where it is not whole.
+fn wide_at(row: &[u8], at: usize) -> u64 {
+    let c = Cursor { at: at };
+    match c.be_u64(row) {
+        U64::Got(n, _) => n,
+        U64::Stop(_, _) => 0,
+    }
+}
+
+// Lays a record by its numbers, in eight bytes each, into a copy of an image of which so many bytes are made.
+fn put_copy(before: &[u8], made: usize, numbers: &[u8], image: &mut [u8]) {
+    write_bytes(image, 0, before);
+    let fields = [
+        wide_at(numbers, 0),
+        wide_at(numbers, 8),
+        wide_at(numbers, 16),
+        wide_at(numbers, 24),
+        wide_at(numbers, 32),
+    ];
+    let laid = put_numbers(image, made, &fields);
+    tell_laying(laid, image);
+}
+
+fn put_record(before: &[u8], made: usize, numbers: &[u8], room: &mut [u8]) {
+    let n = before.len();
+    if numbers.len() < 40 {
+        word(b"over\n");
+    } else if n <= room.len() {
+        put_copy(before, made, numbers, &mut room[..n]);
+    } else {
+        word(b"over\n");
+    }
+}
+
 // Makes a call on a buffer of the asked length.
 fn call(operation: u8, b: usize, first: &[u8], second: &[u8], buffer: &mut [u8]) {
     match operation {
@@ -352,6 +403,8 @@ fn answer(operation: u8, a: usize, b: usize, first: &[u8], second: &[u8], room: 
         name_text(first, a, b);
     } else if operation == 0x0D {
         find_path(first, second, a, b);
+    } else if operation == 0x20 {
+        put_record(first, a, second, room);
     } else if operation == 0x09 {
         if a <= 4096 {
             cut_packet(first, a);

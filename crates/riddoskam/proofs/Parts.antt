@@ -1,5 +1,6 @@
 -- A result that is known whole is known in each part.
 use Rattle.wire.proofs.Kit.{_≡_, ap}
+use Rattle.image.specs.declared.building.Laying.{Laying}
 use Rattle.image.specs.declared.reading.Reading.{Reading}
 use Rattle.image.specs.declared.writing.Writing.{Writing}
 use Rattle.packet.specs.declared.entry.Cutting.{Cutting}
@@ -34,3 +35,9 @@ answer-indexed e = ap (λ (x : Indexing). x .answer) e
 
 pub count-indexed : {x y : Indexing} → x ≡ y → x .count ≡ y .count
 count-indexed e = ap (λ (x : Indexing). x .count) e
+
+pub answer-laid : {x y : Laying} → x ≡ y → x .answer ≡ y .answer
+answer-laid e = ap (λ (x : Laying). x .answer) e
+
+pub made-laid : {x y : Laying} → x ≡ y → x .made ≡ y .made
+made-laid e = ap (λ (x : Laying). x .made) e

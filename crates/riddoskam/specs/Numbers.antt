@@ -1,9 +1,9 @@
 -- What a call returns by value in Rattle, as the numbers that go out to C.
-use Rattle.wire.specs.Kit.{ℕ, List, [], _∷_, Bool, true, false, replicate}
-use Rattle.image.specs.declared.record.Layout.{Layout}
+use Rattle.wire.specs.Kit.{ℕ, List, Bool, true, false, replicate}
 use Rattle.image.specs.declared.taking.Taken.{Taken}
 use Rattle.image.specs.declared.taking.Taken.the-variants as Taken
 use Rattle.image.specs.Record.{layoutOf}
+use Rattle.image.specs.Building.{numbersIn}
 use Rattle.packet.specs.declared.entry.Found.{Found}
 use Rattle.packet.specs.declared.entry.Found.the-variants as Found
 use Rattle.packet.specs.Row.{entryNumbers}
@@ -22,16 +22,12 @@ foundNumbers (Found.Stop a p) = replicate 8 0
 
 -- ---- a record
 
--- its kind and its fields; a field that it has not is 0
-abbrev pub recordNumbers : Layout → List ℕ
-recordNumbers l = l .kind ∷ l .a .number ∷ l .b .number ∷ l .c .number ∷ l .d .number ∷ []
-
 abbrev pub takenAnswer : Taken → ℕ
 takenAnswer (Taken.Found r c) = 0
 takenAnswer Taken.Bad = 6
 
 abbrev pub takenNumbers : Taken → List ℕ
-takenNumbers (Taken.Found r c) = recordNumbers (layoutOf r)
+takenNumbers (Taken.Found r c) = numbersIn (layoutOf r)
 takenNumbers Taken.Bad = replicate 5 0
 
 abbrev pub takenNext : Taken → ℕ

@@ -18,6 +18,7 @@ ghost use Rattle.wire.specs.Text.{insideOf, partOf, placeOf};
 ghost use Rattle.image.specs.Whole.{padded};
 ghost use Rattle.image.specs.Out.{onto};
 ghost use Rattle.image.specs.Taking.{recordAt};
+ghost use Rattle.image.specs.Building.{putOf};
 ghost use Rattle.amf0.specs.Reading.{readOf};
 ghost use Rattle.amf0.specs.Writing.{writeOf as valueWritten};
 ghost use Rattle.lso.specs.Reading.{wholeOf as wholeFile, incompleteOf as incompleteFile};
@@ -321,6 +322,18 @@ pub extern "C" fn riddoskam_record_at(
             ACCEPTED
         }
     }
+}
+
+// Lays the record that five numbers tell, as `riddoskam_record_at` has them, behind the `made` bytes of an image. Where it is refused, neither is changed.
+#[no_mangle]
+pub extern "C" fn riddoskam_put(image: &mut [u8], made: &mut usize, fields: &[u64; 5]) -> u8
+    ensures { λ r. ⌜ r ≡ putOf (now (fields .entry)) (now (made .entry)) (now (image .entry)) .laying .answer ⌝ }
+    ensures { λ _. ⌜ now (made .exit) ≡ putOf (now (fields .entry)) (now (made .entry)) (now (image .entry)) .laying .made ⌝ }
+    ensures { λ _. ⌜ now (image .exit) ≡ putOf (now (fields .entry)) (now (made .entry)) (now (image .entry)) .image ⌝ }
+{
+    let laid = image::building::put_numbers(image, *made, fields);
+    *made = laid.made;
+    laid.answer
 }
 
 // ---- indexes

@@ -1,6 +1,7 @@
 -- The record that was taken, as numbers.
 use Rattle.wire.proofs.Kit.{sym, ap, _∙_, needs}
-use Rattle.riddoskam.specs.Numbers.{recordNumbers, takenAnswer, takenNumbers, takenNext}
+use Rattle.image.specs.Building.{numbersIn}
+use Rattle.riddoskam.specs.Numbers.{takenAnswer, takenNumbers, takenNext}
 use Rattle.riddoskam.proofs.riddoskam_record_at.Statement.{statement}
 use Rattle.riddoskam.proofs.riddoskam_record_at.Tie as tie
 
@@ -24,7 +25,7 @@ returns c =
 returns-2 : tie.Need-returns-2
 returns-2 c =
     let e = sym (c .before .before .before .r .given .1) ∙ c .before .before .before .before .before .record-at .ensures in
-    (ap takenAnswer e, (ap recordNumbers (c .before .layout-of .ensures) ∙ ap takenNumbers e, ap takenNext e))
+    (ap takenAnswer e, (ap numbersIn (c .before .layout-of .ensures) ∙ ap takenNumbers e, ap takenNext e))
 
 pub riddoskam-record-at-spec : {M : Type 1} → statement M
 riddoskam-record-at-spec =
