@@ -39,6 +39,7 @@ def once(asked, call, file, *more, times=1):
 def making(asked):
     print("\nMaking the index of a file\n\n| file | bytes | keys | reading the file | making the index | a key | a byte |\n|---|---|---|---|---|---|---|")
     for name in corpus.LOOKED_UP:
+        common.far(f"making the index of {name}")
         file = os.path.join(asked.corpus, name + ".lso")
         size = os.path.getsize(file)
         (read, keys), (made, _) = once(asked, "read", file), once(asked, "index", file)
@@ -49,6 +50,7 @@ def looking_up(asked):
     print("\nLooking a value up\n\n| file | keys of the path | by the index | walking to the first pair | ratio | walking to the last | ratio |")
     print("|---|---|---|---|---|---|---|")
     for name, ways in corpus.LOOKED_UP.items():
+        common.far(f"looking up in {name}")
         file, paths = os.path.join(asked.corpus, name + ".lso"), os.path.join(asked.corpus, name + ".paths")
         count = min(PATHS, len(ways))
         spread = [ways[(2 * i + 1) * len(ways) // (2 * count)] for i in range(count)]
@@ -94,7 +96,9 @@ def sorting(asked):
     print(f"\nMaking the index of {KEYS:,} keys of six bytes in one object\n")
     print("| order | instructions | a key | comparisons a key | exchanges a key |\n|---|---|---|---|---|")
     file = os.path.join(asked.corpus, "order.amf")
+    common.far("making orders of keys")
     for name, ranks, key in orders(asked):
+        common.far(f"sorting keys: {name}")
         with open(file, "wb") as f:
             f.write(corpus.thing(*((key(r), b"\x05") for r in ranks)))
         made, keys = once(asked, "index", file)

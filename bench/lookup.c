@@ -16,7 +16,7 @@
 
 enum { PATHS = 64 };
 
-static uint8_t text[RIDDOSKAM_BYTES + 1], image[RIDDOSKAM_IMAGE], table[2 * RIDDOSKAM_IMAGE], paths[PATHS][256];
+static uint8_t text[RIDDOSKAM_LIMIT_BYTES + 1], image[RIDDOSKAM_LIMIT_IMAGE], table[2 * RIDDOSKAM_LIMIT_IMAGE], paths[PATHS][256];
 static size_t length, made, room, path_length[PATHS], path_count;
 
 static void die(const char *what) {
@@ -113,7 +113,7 @@ int main(int words, char **word) {
     FILE *file = fopen(word[3], "rb");
     if (!file) die("the file can't be read");
     length = fread(text, 1, sizeof text, file);
-    if (length > RIDDOSKAM_BYTES) die("the file is too long");
+    if (length > RIDDOSKAM_LIMIT_BYTES) die("the file is too long");
     fclose(file);
     if (words > 4) read_paths(word[4]);
     char call = strcmp(word[1], "first") == 0 ? '1' : word[1][0];

@@ -60,6 +60,7 @@ def table(asked, title, call, names):
     print("| file | bytes | instructions | a byte | the Rust's | ratio | time, ns | the Rust's | ratio |")
     print("|---|---|---|---|---|---|---|---|---|")
     for name in names:
+        common.far(f"{title}: {name}")
         file = os.path.join(asked.corpus, name)
         size = os.path.getsize(file)
         ours, rust = instructions(asked, "riddoskam", call, file), instructions(asked, "rust", call, file)

@@ -9,6 +9,8 @@ import shutil
 import struct
 import subprocess
 import sys
+import threading
+import time
 from importlib.machinery import SourceFileLoader
 from importlib.util import module_from_spec, spec_from_loader
 
@@ -44,13 +46,69 @@ def start(main):
         status = told("%s: %s" % (why.filename, why.strerror) if why.filename is not None else why, 2)
     except KeyboardInterrupt:
         status = 130
+    far("")
     sys.exit(status)
 
 
 def told(what, status):
+    far("")
     if str(what):
         print("%s: %s" % (ME, what), file=sys.stderr)
     return status
+
+
+class Far:
+    """Says on standard error how far a script is while it goes on: in one line that is written over on a terminal, else in a line every ten seconds."""
+
+    def __init__(self):
+        self.text, self.began, self.shown = "", time.monotonic(), False
+        self.terminal = sys.stderr.isatty()
+        self.lock = threading.RLock()
+        self.thread = threading.Thread(target=self.tell, daemon=True)
+
+    def tell(self):
+        while True:
+            time.sleep(1 if self.terminal else 10)
+            with self.lock:
+                if self.text:
+                    print("%s%s: %s, %d s" % ("\r\033[K" if self.terminal else "", ME, self.text, time.monotonic() - self.began),
+                          end="" if self.terminal else "\n", file=sys.stderr, flush=True)
+                    self.shown = self.terminal
+
+    def clear(self):
+        """Takes the line off the terminal, where there is one."""
+        if self.shown:
+            with self.lock:
+                print("\r\033[K", end="", file=sys.stderr, flush=True)
+                self.shown = False
+
+
+class Behind:
+    """Standard output on a terminal that has such a line: it is taken off before anything is written."""
+
+    def __init__(self, out, line):
+        self.out, self.line = out, line
+
+    def write(self, text):
+        self.line.clear()
+        return self.out.write(text)
+
+    def __getattr__(self, name):
+        return getattr(self.out, name)
+
+
+FAR = Far()
+
+
+def far(text):
+    """How far the script is, from now on; nothing ends it. Called first behind whatever forks."""
+    if text and not FAR.thread.is_alive():
+        FAR.thread.start()
+        if FAR.terminal:
+            sys.stdout = Behind(sys.stdout, FAR)
+    FAR.text = text
+    if not text:
+        FAR.clear()
 
 
 class Words(argparse.ArgumentParser):
@@ -84,6 +142,34 @@ def need(*programs, hint=""):
             raise Fault("no program %s here%s" % (program, hint))
 
 
+KIT_TOLD = "RIDDOSKAM_KIT_TOLD"  # set once it was said which kit is here, so that the scripts that this one runs don't say it again
+
+
+def other_kit():
+    """A line where the Rattle kit that is here is another than the one that is meant, the one whose `rt version` prints the line of the file KIT; else
+    nothing."""
+    with open(os.path.join(ROOT, "KIT")) as f:
+        meant = f.read().strip()
+    if shutil.which("rt") is None:
+        raise Fault('no command rt here: the Rattle kit is missing, which proves and builds all of this; "%s" is meant, and README.md says more' % meant)
+    here = subprocess.run(["rt", "version"], capture_output=True, text=True).stdout.strip() or "one without a version"
+    return "" if here == meant else 'the Rattle kit here is "%s", and "%s" is meant (file KIT)' % (here, meant)
+
+
+def need_kit():
+    """Another kit is said once and nothing else is made of it, since a newer one may well prove it all."""
+    line = other_kit()
+    if KIT_TOLD not in os.environ:
+        told(line, 0)
+        os.environ[KIT_TOLD] = "1"
+
+
+def unproved(what):
+    """The fault that something is not proved or not built."""
+    line = other_kit()
+    return Fault(what + ("; " + line if line else ""), 3)
+
+
 def load(name):
     """A script of tools/ as a module."""
     spec = spec_from_loader(name, SourceFileLoader(name, os.path.join(ROOT, "tools", name)))
@@ -94,6 +180,7 @@ def load(name):
 
 def run(name, *words, **more):
     """Runs a program of the repository, built first where it is not of today's sources. Where it can't be, tools/run has said so."""
+    need_kit()
     done = subprocess.run([os.path.join(ROOT, "tools", "run"), name, *words], **more)
     if done.returncode:
         raise Fault("", done.returncode) if done.returncode in (2, 3) else Fault("the program %s ended with status %d" % (name, done.returncode), 1)

@@ -22,19 +22,35 @@ expect() { # LEAST MOST GIVEN
     [ "$3" -le "$2" ] || misuse "too many words"
 }
 
-# Dies unless the commands are there.
+# The kit that is meant is the one whose `rt version` prints the line of the file KIT.
+meant=$(cat "$root/KIT")
+
+# Says where the kit that is here is another than the one that is meant; nothing else is made of it, since a newer one may well prove it all.
+told_kit() {
+    local here
+    here=$(rt version 2>/dev/null) || here='one without a version'
+    [ "$here" = "$meant" ] || printf '%s: the Rattle kit here is "%s", and "%s" is meant (file KIT)\n' "$me" "$here" "$meant" >&2
+}
+
+# Dies unless the commands are there. Which kit is here is said once: not again by the scripts that this one runs.
 need() { # COMMAND..
     local command
     for command; do
-        command -v "$command" >/dev/null || die 2 "no command $command here$([ "$command" != rt ] || echo ', which the Rattle kit has')"
+        if command -v "$command" >/dev/null; then
+            if [ "$command" = rt ] && [ -z "${RIDDOSKAM_KIT_TOLD:-}" ]; then told_kit; export RIDDOSKAM_KIT_TOLD=1; fi
+            continue
+        fi
+        [ "$command" != rt ] ||
+            die 2 "no command rt here: the Rattle kit is missing, which proves and builds all of this; \"$meant\" is meant, and README.md says more"
+        die 2 "no command $command here"
     done
 }
 
 # Dies unless there is a file to read.
 readable() { # FILE
-    [ -e "$1" ] || die 2 "no such file: $1"
-    [ ! -d "$1" ] || die 2 "it is a folder: $1"
-    [ -r "$1" ] || die 2 "it may not be read: $1"
+    [ -e "$1" ] || die 2 "no such file: ${1@Q}"
+    [ ! -d "$1" ] || die 2 "it is a folder: ${1@Q}"
+    [ -r "$1" ] || die 2 "it may not be read: ${1@Q}"
 }
 
 # Prints the crates of the repository that NAME is made of, itself last, in the order in which rt proves them.
@@ -63,8 +79,51 @@ lock() {
     flock 9
 }
 
-# Runs rt with the words, what it says going to LOG, and tells on standard error which of the crates of NAME it is at: in one line that is written over on a
-# terminal, else in a line a crate, and not at all in the first two seconds. The status is rt's. Standard input is left to the program that is run later.
+# Shows on standard error how far something is: in one line that is written over on a terminal, else in a line of its own.
+shown_line() { # LINE
+    if [ -t 2 ]; then printf '\r\033[K%s' "$1" >&2; else printf '%s\n' "$1" >&2; fi
+}
+
+end_of_line() { [ ! -t 2 ] || printf '\r\033[K' >&2; }
+
+# Prints what changes when it is time for the next line: every second on a terminal, every ten seconds elsewhere.
+beat() { if [ -t 2 ]; then echo "$SECONDS"; else echo $((SECONDS / 10)); fi; }
+
+# Runs a command, and tells on standard error for how long and how far it is, as the last line has it that it wrote to the descriptor which RIDDOSKAM_HOW_FAR
+# names, if it writes any. The status is the command's. What the command prints comes at its end where all of it goes to a terminal.
+watched() { # WHAT COMMAND..
+    local what=$1 line far='' ended told=0 out status printed=
+    shift
+    SECONDS=0
+    if [ -t 1 ] && [ -t 2 ]; then printed=$(mktemp) || exit 2; fi
+    if [ -n "$printed" ]; then exec {out}>"$printed"; else exec {out}>&1; fi
+    RIDDOSKAM_HOW_FAR=3 "$@" 3>&1 >&"$out" | while :; do
+        ended=0
+        IFS= read -r -t 1 line || ended=$?
+        if [ "$ended" = 0 ]; then far=", $line"; elif [ "$ended" -le 128 ]; then break; fi
+        if [ "$(beat)" = "$told" ]; then continue; fi
+        told=$(beat)
+        shown_line "$what$far, $SECONDS s"
+    done
+    status=${PIPESTATUS[0]}
+    exec {out}>&-
+    end_of_line
+    if [ -n "$printed" ]; then
+        cat "$printed"
+        rm -f "$printed"
+    fi
+    return "$status"
+}
+
+# For watched: all that a command says goes to LOG.
+logged() { # LOG COMMAND..
+    local log=$1
+    shift
+    "$@" >"$log" 2>&1
+}
+
+# Runs rt with the words, what it says going to LOG, and tells on standard error which of the crates of NAME it is at, and not in the first two seconds. The
+# status is rt's. Standard input is left to the program that is run later.
 followed() { # LOG NAME WORD..
     local log=$1 name=$2 crates at=0 now told='' line ended status said='^rt: [A-Za-z0-9_]+ proved \('
     shift 2
@@ -80,23 +139,21 @@ followed() { # LOG NAME WORD..
             printf '%s' "$line"
             [ "$ended" -gt 128 ] || break # neither a line nor a second that has passed: the end
         fi
-        now=$at
-        if [ -t 2 ]; then now+=" $SECONDS"; fi
+        now="$at $(beat)"
         if [ "$SECONDS" -lt 2 ] || [ "$now" = "$told" ]; then continue; fi
         told=$now
         line="crate $((at + 1)) of ${#crates[@]} (${crates[at]:-})"
         if [ "$at" -ge ${#crates[@]} ]; then line="its own cases"; fi
-        if [ -t 2 ]; then printf '\r\033[K' >&2; fi
-        printf 'building %s: %s, %d s' "$name" "$line" "$SECONDS" >&2
-        if [ ! -t 2 ]; then echo >&2; fi
+        shown_line "building $name: $line, $SECONDS s"
     done >"$log"
     status=${PIPESTATUS[0]}
-    if [ -t 2 ]; then printf '\r\033[K' >&2; fi
+    end_of_line
     return "$status"
 }
 
 not_built() { # LOG WHAT
     tail -n 12 "$1" >&2
+    told_kit
     die 3 "$2 could not be built; all that was said is in $1"
 }
 
@@ -111,10 +168,19 @@ static_library() {
     ) 9<"$root"
 }
 
+# RIDDOSKAM_LIB is the folder of the static library that is meant: the one that it names, as it stands, else that of today's sources, which is made.
+some_library() {
+    if [ -z "${RIDDOSKAM_LIB:-}" ]; then
+        static_library
+        RIDDOSKAM_LIB=$root/target/staticlib
+    fi
+    [ -f "$RIDDOSKAM_LIB/libriddoskam.a" ] || die 2 "$RIDDOSKAM_LIB: there is no libriddoskam.a"
+}
+
 case ${1:-} in
 -h | --help)
     sed -n '2,${/^#/!q;s/^# \{0,1\}//p;}' "$0"
     exit 0
     ;;
--*) misuse "no such option: $1" ;;
+-?*) misuse "no such option: ${1@Q}" ;;
 esac

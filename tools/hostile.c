@@ -17,9 +17,11 @@
      entry does by its number, to the last byte of the image; any other span reads as its bytes alone;
    - an index that is refused is zero; an accepted one has a record for each key of the image, in order, and zeros behind them; it is refused where a writing
      of the image is, and for want of room;
+   - a record put by its numbers is where they tell one and it has room, and lies as its kind's fields lie; nothing else of the image changes, and nothing at
+     all where it is refused; read again it has the same numbers; and what is read at a place, put there again, leaves the image as it is;
    - a lookup that finds nothing leaves 0; in its image's index it finds what looking through the records one by one finds; in any other, a value's record
      behind a record of the key, or the first record.
-   A call that doesn't end is ended by the clock after a minute. The same SEED gives the same cases. SHAM, a number from 1 to 16, plants a fault between the
+   A call that doesn't end is ended by the clock after a minute. The same SEED gives the same cases. SHAM, a number from 1 to 18, plants a fault between the
    library and the checks, so that one sees them fail. */
 #include <signal.h>
 #include <stdio.h>
@@ -29,9 +31,10 @@
 #include <sys/wait.h>
 #include <unistd.h>
 
+#include "far.h"
 #include "riddoskam.h"
 
-enum { PAGE = 65536, LEFT = 256, MOST = RIDDOSKAM_BYTES + 1 };
+enum { PAGE = 65536, LEFT = 256, MOST = RIDDOSKAM_LIMIT_BYTES + 1 };
 
 /* ---- numbers */
 
@@ -51,8 +54,8 @@ static size_t below(size_t n) { return n ? any() % n : 0; }
 static unsigned long long now_case;
 static const char *now_call = "none";
 static int sham, guard_tried;
-static unsigned long long calls[18], accepted[18], answers[10];
-static const char *names[18];
+static unsigned long long calls[19], accepted[19], answers[10];
+static const char *names[19];
 
 static void fail(const char *what) {
     printf("FAILED in case %llu, %s: %s\n", now_case, now_call, what);
@@ -115,8 +118,8 @@ static int all(const uint8_t *p, size_t n, uint8_t b) {
 /* ---- calls */
 
 enum {
-    VALUE, FILE_WHOLE, FILE_START, PACKET_WHOLE, PACKET_FRONT, ENTRY, SPAN, WRITE_VALUE, WRITE_FILE, WRITE_PACKET, WRITE_OPEN, NTH, CUT, RECORD, INDEX, FIND,
-    STEP, TEXTS
+    VALUE, FILE_WHOLE, FILE_START, PACKET_WHOLE, PACKET_FRONT, ENTRY, SPAN, WRITE_VALUE, WRITE_FILE, WRITE_PACKET, WRITE_OPEN, NTH, CUT, RECORD, PUT,
+    INDEX, FIND, STEP, TEXTS
 };
 
 /* What is asked of a packet: an entry by its number, or a span. */
@@ -206,7 +209,7 @@ static struct result reading(int call, const uint8_t *s, size_t n, struct asked 
         left_alone(2, side, room);
         MUST(memcmp(in, s, n) == 0, "the input changed");
         MUST(r.answer <= 9 && strchr(right[call], '0' + r.answer), "it has no such answer");
-        MUST((n > RIDDOSKAM_BYTES) == (r.answer == 1), "1 is for inputs over the limit");
+        MUST((n > RIDDOSKAM_LIMIT_BYTES) == (r.answer == 1), "1 is for inputs over the limit");
         if (r.answer == 0) {
             MUST(r.used <= n && r.made <= room, "counts lead out of the buffers");
             MUST(all(im + r.made, room - r.made, 0), "the image isn't zero past what is made");
@@ -249,7 +252,7 @@ static struct result writing(int call, const uint8_t *image, size_t n, const uin
         MUST(memcmp(im, image, n) == 0 && memcmp(tx, text, m) == 0, "the image or the text changed");
         MUST(r.answer <= 9 && strchr("01456", '0' + r.answer), "it has no such answer");
         if (r.answer == 0)
-            MUST(r.made <= room && r.made <= RIDDOSKAM_BYTES, "the count leads out of the output");
+            MUST(r.made <= room && r.made <= RIDDOSKAM_LIMIT_BYTES, "the count leads out of the output");
         else
             MUST(r.made == 0, "a count on a refusal");
         MUST(all(o + r.made, room - r.made, 0x5A), "a byte past the count changed");
@@ -263,6 +266,102 @@ static struct result writing(int call, const uint8_t *image, size_t n, const uin
     }
     told(call, first.answer);
     return first;
+}
+
+/* ---- records by their numbers */
+
+/* The fields of each kind: the bytes of a number, `f` for a flag, `z` for the zone behind it. */
+static const struct form {
+    uint8_t kind;
+    const char *fields;
+} forms[] = {
+    {0x00, "8"}, {0x01, "f"}, {0x02, "33"}, {0x03, ""}, {0x05, ""}, {0x06, ""}, {0x07, "2"}, {0x08, "4"}, {0x09, ""}, {0x0A, "4"}, {0x0B, "8fz"},
+    {0x0D, ""}, {0x0F, "33"}, {0x10, "32"}, {0x20, "32"}, {0x30, "22"}, {0x31, "32f"}, {0x32, "3232"}, {0x33, "432"},
+};
+
+enum { FORMS = sizeof forms / sizeof *forms, SMALL = 64 };
+
+static int width(char field) { return field == 'f' ? 1 : field == 'z' ? 2 : field - '0'; }
+
+static uint64_t largest(char field) { return field == 'f' ? 1 : UINT64_MAX >> (64 - 8 * width(field)); }
+
+/* The bytes of the record that the numbers tell, and how many; 0 where they tell none. */
+static size_t lay(const uint64_t f[5], uint8_t record[12]) {
+    int k = 0;
+    while (k < FORMS && forms[k].kind != f[0]) k++;
+    if (k == FORMS) return 0;
+    const char *fields = forms[k].fields;
+    size_t n = 0, count = strlen(fields);
+    record[n++] = f[0];
+    for (size_t i = 0; i < 4; i++) {
+        if (f[i + 1] > (i < count ? largest(fields[i]) : 0)) return 0;
+        if (i < count && fields[i] == 'z' && f[i] == 0 && f[i + 1] != 0) return 0;
+        for (int j = i < count ? width(fields[i]) : 0; j > 0; j--) record[n++] = f[i + 1] >> 8 * (j - 1);
+    }
+    return n;
+}
+
+/* A record put behind the made bytes of an image of at most SMALL bytes, in both places. What is made then is left in `*made`, and the image in `image`. */
+static uint8_t putting(const uint64_t f[5], size_t *made, uint8_t *image, size_t room) {
+    static uint8_t due[SMALL];
+    uint8_t record[12], answer = 0;
+    size_t size = lay(f, record), end = *made + size;
+    int fits = *made <= room && size <= room - *made;
+    now_call = names[PUT];
+    memcpy(due, image, room);
+    if (size && fits) memcpy(due + *made, record, size);
+    for (int side = 0; side < 2; side++) {
+        uint8_t *im = lend(2, side, room), *fields = lend(1, side, 5 * sizeof *f), *count = lend(3, side, sizeof *made);
+        memcpy(im, image, room);
+        memcpy(fields, f, 5 * sizeof *f);
+        memcpy(count, made, sizeof *made);
+        answer = riddoskam_put(im, room, (size_t *)count, (const uint64_t *)fields);
+        if (sham == 17 && answer == 0) im[end - 1] ^= 1;
+        if (sham == 18 && answer != 0) count[0] ^= 1;
+        left_alone(1, side, 5 * sizeof *f);
+        left_alone(2, side, room);
+        left_alone(3, side, sizeof *made);
+        MUST(memcmp(fields, f, 5 * sizeof *f) == 0, "the numbers changed");
+        MUST(answer == (!size ? 6 : !fits ? 4 : 0), "it has no such answer");
+        MUST(memcmp(count, answer == 0 ? &end : made, sizeof *made) == 0, "another count than is made");
+        MUST(memcmp(im, due, room) == 0, "another image than is due");
+    }
+    told(PUT, answer);
+    memcpy(image, due, room);
+    if (answer == 0) *made = end;
+    return answer;
+}
+
+/* The same, and what stands there then. */
+static void put_and_read(const uint64_t f[5], size_t made, uint8_t *image, size_t room) {
+    uint64_t g[5];
+    size_t next = made, end;
+    if (putting(f, &next, image, room) != 0) return;
+    MUST(riddoskam_record_at(image, room, made, g, &end) == 0 && end == next && memcmp(f, g, sizeof g) == 0, "it is not read as it was put");
+    size_t again = made;
+    static uint8_t copy[SMALL];
+    memcpy(copy, image, room);
+    MUST(putting(g, &again, copy, room) == 0 && again == next && memcmp(copy, image, room) == 0, "what was read is not put back");
+}
+
+/* Numbers of a record; now and then one is at its edge, past it, where there is no field, or another kind's. */
+static void random_put(void) {
+    static uint8_t image[SMALL];
+    const struct form *k = &forms[below(FORMS)];
+    size_t count = strlen(k->fields), room = below(sizeof image), made = below(8) ? below(room + 2) : any();
+    uint64_t f[5] = {k->kind};
+    for (size_t i = 0; i < count; i++) {
+        uint64_t most = largest(k->fields[i]);
+        f[i + 1] = below(3) == 0 ? most : below(3) == 0 ? 0 : most == UINT64_MAX ? any() : any() % (most + 1);
+    }
+    if (k->kind == RIDDOSKAM_DATE && f[2] == 0 && below(8)) f[3] = 0;
+    if (below(4) == 0) {
+        size_t i = below(4);
+        f[i + 1] = below(2) ? any() : i < count ? largest(k->fields[i]) + 1 : 1;
+    }
+    if (below(16) == 0) f[0] = below(2) ? below(64) : below(2) ? f[0] + 256 : any();
+    for (size_t i = 0; i < room; i++) image[i] = any();
+    put_and_read(f, made, image, room);
 }
 
 /* ---- indexes */
@@ -319,7 +418,7 @@ static struct result indexing(struct lent t, size_t room, uint8_t *index) {
         left_alone(2, side, room);
         MUST(memcmp(im, t.image, t.n) == 0 && memcmp(tx, t.text, t.m) == 0, "the image or the text changed");
         MUST(r.answer <= 9 && strchr("01456", '0' + r.answer), "it has no such answer");
-        MUST((t.n > RIDDOSKAM_IMAGE || t.m > RIDDOSKAM_BYTES) == (r.answer == 1), "1 is for images and texts over the limit");
+        MUST((t.n > RIDDOSKAM_LIMIT_IMAGE || t.m > RIDDOSKAM_LIMIT_BYTES) == (r.answer == 1), "1 is for images and texts over the limit");
         MUST(r.answer == 0 ? 13 * r.made <= room : r.made == 0, "the count leads out of the index, or there is one on a refusal");
         MUST(r.answer != 4 || room < 2 * t.n, "4 with twice the image");
         MUST(all(ix + 13 * r.made, room - 13 * r.made, 0), "the index isn't zero behind its records");
@@ -336,7 +435,7 @@ static struct result indexing(struct lent t, size_t room, uint8_t *index) {
         uint64_t f[5];
         size_t next;
         MUST(riddoskam_record_at(t.image, t.n, a.key, f, &next) == 0 && f[0] == RIDDOSKAM_KEY, "a record of no key");
-        MUST(next == a.value && is_value(t, next) && a.container < a.key && a.depth - 1 < RIDDOSKAM_LEVELS, "a record isn't its key's");
+        MUST(next == a.value && is_value(t, next) && a.container < a.key && a.depth - 1 < RIDDOSKAM_LIMIT_LEVELS, "a record isn't its key's");
         MUST(riddoskam_inside(t.text, t.m, f[1], f[2]), "a key leads out of the text");
         int c = order(t, t.text + f[1], f[2], b.key, &next);
         MUST(k + 1 == first.made || a.container < b.container || (a.container == b.container && (c < 0 || (c == 0 && a.key < b.key))), "no order");
@@ -555,7 +654,7 @@ static void make_input(void) {
         for (size_t n = below(40); n > 0; n--) put(telling());
     if (below(400) == 0) {
         /* one that is long: up to the limit and just over it */
-        size_t n = below(3) ? below(100000) : RIDDOSKAM_BYTES - 1 + below(3);
+        size_t n = below(3) ? below(100000) : RIDDOSKAM_LIMIT_BYTES - 1 + below(3);
         uint8_t b = telling();
         while (length < n) put(below(64) ? b : telling());
     } else if (below(5) < 3)
@@ -731,7 +830,7 @@ static void cut(void) {
         left_alone(2, side, room * sizeof *row);
         MUST(memcmp(p, input, length) == 0, "the packet changed");
         MUST(a <= 9 && strchr("012347", '0' + a), "it has no such answer");
-        MUST((length > RIDDOSKAM_BYTES) == (a == 1), "1 is for inputs over the limit");
+        MUST((length > RIDDOSKAM_LIMIT_BYTES) == (a == 1), "1 is for inputs over the limit");
         if (a == 0)
             MUST(used == length && n <= room / 8, "counts lead out of the buffers");
         else
@@ -772,11 +871,19 @@ static void span(void) {
     struct asked a = {.place = below(8) ? below(length + 1) : any()};
     a.length = below(8) ? below(below(2) ? length + 3 : 40) : any();
     struct result r = reading(SPAN, input, length, a, 3 * length, tree);
-    if (length > RIDDOSKAM_BYTES) return;
+    if (length > RIDDOSKAM_LIMIT_BYTES) return;
     if (a.place > length || a.length > length - a.place)
         MUST(r.answer == 8, "a span that is not inside is read");
     else
         MUST(same(r, alone(a.place, a.length)), "a span answers otherwise than its bytes alone");
+}
+
+/* The numbers of a record that was read at a place, put there. */
+static void put_back(const uint8_t *image, size_t n, size_t at, const uint64_t f[5], size_t next) {
+    static uint8_t copy[SMALL];
+    memcpy(copy, image, n);
+    MUST(putting(f, &at, copy, n) == 0 && at == next && memcmp(copy, image, n) == 0, "what was read is not put back");
+    now_call = names[RECORD];
 }
 
 static void random_image(void) {
@@ -800,6 +907,7 @@ static void random_image(void) {
             told(RECORD, answer);
             if (answer == 0) {
                 MUST(next > at && next <= n && next - at <= 12 && f[0] == p[at], "a record leads out of the image");
+                if (side == 0) put_back(p, n, at, f, next);
             } else {
                 MUST(answer == 6 && next == 0, "it has no such answer");
                 for (int i = 0; i < 5; i++) MUST(f[i] == 0, "a refused record left something");
@@ -824,8 +932,8 @@ int main(int count, char **words) {
         "value read", "file read whole", "file read so far", "packet read whole",
         "packet read at the front", "entry read", "span read", "value written",
         "file written", "packet written, exact lengths", "packet written, FFFFFFFF", "entry by number",
-        "packet cut", "record", "index made", "looked up by a path",
-        "looked up by a key", "inside and part",
+        "packet cut", "record", "record put", "index made",
+        "looked up by a path", "looked up by a key", "inside and part",
     };
     if (count < 3) return 2;
     memcpy(names, all_names, sizeof all_names);
@@ -853,6 +961,7 @@ int main(int count, char **words) {
                 fail("a page that must not be touched can be");
         }
     for (now_case = 0; now_case < most; now_case++) {
+        tell(now_case, most);
         if (now_case % 64 == 0) alarm(sham == 5 ? 2 : 60);
         make_input();
         read_and_write(VALUE, WRITE_VALUE);
@@ -862,6 +971,7 @@ int main(int count, char **words) {
         cut();
         span();
         texts();
+        random_put();
         if (below(4) == 0) random_image();
     }
     unsigned long long sum = 0;

@@ -5,7 +5,7 @@ import re
 import subprocess
 import tempfile
 
-from common import ROOT, need
+from common import ROOT, need_kit
 
 CRATES = os.path.join(ROOT, "crates")
 TARGET = os.path.join(ROOT, "target")
@@ -16,7 +16,7 @@ class Kit:
     """The words that `rt` puts together for the compiler."""
 
     def __init__(self):
-        need("rt", hint=", which the Rattle kit has")
+        need_kit()
         guide = subprocess.run(["rt", "doc"], capture_output=True, text=True).stdout.strip()
         self.home = os.path.realpath(os.path.join(os.path.dirname(guide), ".."))
         self.own = f"{self.home}/on/{platform.machine()}"
