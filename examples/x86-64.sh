@@ -25,6 +25,15 @@ c_for_x86() {
     command -v "$RUN" >/dev/null || debian qemu-user
 }
 
+# Sets SANITIZE: what the compiler has to look for faults at run time, as far as programs that are made with it run here.
+sanitize_for_x86() { # WORK
+    local words
+    for words in '-fsanitize=undefined,address -fno-sanitize-recover=all' '-fsanitize=undefined -fsanitize-undefined-trap-on-error' ''; do
+        SANITIZE=$words
+        echo 'int main(void) { return 0; }' | $CC $words $LDFLAGS -x c -o "$1/sanitized" - 2>/dev/null && $RUN "$1/sanitized" 2>/dev/null && break
+    done
+}
+
 # Sets what cargo reads, and RUST_TARGET, the words for --target. WORK is a folder for what is unpacked.
 rust_for_x86() { # WORK
     RUST_TARGET=''
