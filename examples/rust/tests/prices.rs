@@ -251,8 +251,8 @@ fn all_shelves_by_one_cut() {
     let mut list = [[0xA5; 8]; 4];
     let whole = Cutting { used: p.len(), count: 3 };
     assert_eq!(packet_cut(&p, &mut list), Ok(whole));
-    for k in 0..3 {
-        assert_eq!(Ok(Entry::from(list[k])), packet_nth(&p, k));
+    for (k, numbers) in list[..3].iter().enumerate() {
+        assert_eq!(Ok(Entry::from(*numbers)), packet_nth(&p, k));
     }
     assert_eq!(list[3], [0; 8]);
     // The cut never looks into a value.
