@@ -2,11 +2,20 @@
 another way: it reads an input from its front, by recursion, up to the first field that is refused, where the program is told the place by the library and
 walks there.
 
-of_file(data), of_packet(data) and of_value(data) give the lines that must stand last, or none where nothing is refused. of_entries(data) gives the lines of a
-refused cut, and of a cut that is accepted those of each entry."""
+of_file(data), of_packet(data) and of_values(data) give the lines that must stand last, or none where nothing is refused. of_entries(data) gives the lines of a
+refused cut, and of a cut that is accepted those of each entry. guess(data) is the word that says what the input is taken for where none is given."""
+import functools
+import unicodedata
 
 LEVELS, LONGEST, INNERMOST = 32, 40, 4
 NO_VALUES = {4: "04 (movie clip)", 9: "09 (object end)", 14: "0E (record set)"}
+HIDDEN = ("Cc", "Cf", "Co", "Cs", "Zl", "Zp")
+# What Unicode calls default ignorable (DerivedCoreProperties.txt).
+IGNORABLE = [(0xAD, 0xAD), (0x34F, 0x34F), (0x61C, 0x61C), (0x115F, 0x1160), (0x17B4, 0x17B5), (0x180B, 0x180F), (0x200B, 0x200F), (0x202A, 0x202E)]
+IGNORABLE += [(0x2060, 0x206F), (0x3164, 0x3164), (0xFE00, 0xFE0F), (0xFEFF, 0xFEFF), (0xFFA0, 0xFFA0), (0xFFF0, 0xFFF8), (0x1BCA0, 0x1BCA3)]
+IGNORABLE += [(0x1D173, 0x1D17A), (0xE0000, 0xE0FFF)]
+# Format characters of Unicode 14 and 15, which an older Python takes for unassigned; the blank of Braille; and the planes from the noncharacters of plane 3 on.
+OTHERS = [(0x890, 0x891), (0x13430, 0x1343F), (0x2800, 0x2800), (0x3FFFE, 0x10FFFF)]
 ESCAPES = {"\t": "\\t", "\n": "\\n", "\r": "\\r", '"': '\\"', "\\": "\\\\"}
 
 
@@ -16,8 +25,27 @@ class Broke(Exception):
         self.answer, self.place, self.why, self.where, self.wrong = self.args
 
 
+@functools.lru_cache(maxsize=None)
+def hidden(c):
+    """Whether a character is not seen, or can't be told from another. It goes by Python's own tables."""
+    point, category = ord(c), unicodedata.category(c)
+    if category in HIDDEN or category == "Zs" and c != " ":
+        return True
+    if point & 0xFFFE == 0xFFFE or 0xFDD0 <= point <= 0xFDEF:
+        return True
+    return any(first <= point <= last for first, last in IGNORABLE + OTHERS)
+
+
+@functools.lru_cache(maxsize=None)
+def escape(c):
+    if c in ESCAPES or not hidden(c):
+        return ESCAPES.get(c, c)
+    digits = c.encode("utf-16-be").hex()
+    return "".join("\\u" + digits[i : i + 4] for i in range(0, len(digits), 4))
+
+
 def escaped(text):
-    return "".join(ESCAPES.get(c, c if 0x20 <= ord(c) < 0x7F or 0x9F < ord(c) else f"\\u00{ord(c):02x}") for c in text)
+    return "".join(map(escape, text))
 
 
 def quoted(text):
@@ -223,9 +251,33 @@ def of_packet(data):
     return lines(data, broke, broke.answer) if broke else []
 
 
-def of_value(data):
-    broke = broken(Walk(data, "the input").value, [], None)
-    return lines(data, broke, broke.answer) if broke else []
+def of_values(data):
+    """Values one behind the other. Of more than one each stands below a line of its own."""
+    walk = Walk(data, "the input")
+    while True:
+        indent = 2 if walk.at else 0
+        broke = broken(walk.value, [], None)
+        if broke:
+            return lines(data, broke, broke.answer, indent)
+        if not walk.left():
+            return []
+
+
+def are_values(data):
+    """Whether the input is values to its end, with markers that AMF0 has."""
+    walk = Walk(data, "the input")
+    while walk.left():
+        if 0x11 < data[walk.at] or broken(walk.value, [], None):
+            return False
+    return True
+
+
+def guess(data):
+    """The word for what an input is taken for, or None."""
+    form = {b"\0\xbf": "lso", b"\0\0": "packet", b"\0\3": "packet"}.get(data[:2], "value" if data and data[0] <= 0x11 else None)
+    if form in ("lso", "packet") and (of_file if form == "lso" else of_packet)(data) and are_values(data):
+        return "value"
+    return form
 
 
 def of_entries(data):

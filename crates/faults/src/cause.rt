@@ -8,6 +8,7 @@ use crate::field::Spot;
 use crate::field::ValueField;
 use crate::refusal::reason;
 use figures::page::Page;
+use figures::page::amount;
 use figures::page::decimal;
 use figures::page::word;
 use wire::answer::DAMAGED;
@@ -103,23 +104,14 @@ fn short(page: &mut Page, used: &mut usize, input: &[u8], s: Spot) {
     }
 }
 
-// So many of a thing: `1 byte`, `12 bytes`.
-pub(crate) fn amount(page: &mut Page, used: &mut usize, n: usize, thing: &[u8]) {
-    decimal(page, used, n as u64);
-    word(page, used, thing);
-    if n != 1 {
-        word(page, used, b"s");
-    }
-}
-
 // A count or a length, for which too few bytes stand behind it.
 fn too_large(page: &mut Page, used: &mut usize, input: &[u8], at: usize, thing: &[u8]) {
     match (Cursor { at: at }).be_u32(input) {
         U32::Got(n, c) => {
-            amount(page, used, n as usize, thing);
+            amount(page, used, n as u64, thing);
             word(page, used, b", with only ");
             if c.at <= input.len() {
-                amount(page, used, input.len() - c.at, b" byte");
+                amount(page, used, (input.len() - c.at) as u64, b" byte");
             }
             word(page, used, b" left");
         }

@@ -1,5 +1,4 @@
 // A refusal as lines: its place, why and where, its answer, and the bytes there.
-use crate::cause::amount;
 use crate::cause::cause;
 use crate::due::due;
 use crate::field::Field;
@@ -10,7 +9,9 @@ use crate::hex::hex;
 use crate::refusal::reason;
 use crate::refusal::refusal;
 use crate::way::place_in;
+use figures::escape::width;
 use figures::page::Page;
+use figures::page::amount;
 use figures::page::decimal;
 use figures::page::spaces;
 use figures::page::word;
@@ -38,8 +39,23 @@ fn is_found(s: Spot, place: usize) -> bool {
     }
 }
 
+// The beginning of a refusal's line.
+fn at_byte(page: &mut Page, used: &mut usize, place: usize, indent: usize) {
+    spaces(page, used, indent);
+    word(page, used, b"refused at ");
+    byte_number(page, used, place);
+    word(page, used, b": ");
+}
+
+// The end of it.
+fn with_answer(page: &mut Page, used: &mut usize, answer: u8) {
+    word(page, used, b" (answer ");
+    decimal(page, used, answer as u64);
+    word(page, used, b")\n");
+}
+
 // Why and where, or the answer's general words where the walk has come to no field there.
-fn told(
+fn why(
     page: &mut Page,
     used: &mut usize,
     input: &[u8],
@@ -54,9 +70,6 @@ fn told(
     } else {
         reason(page, used, answer);
     }
-    word(page, used, b" (answer ");
-    decimal(page, used, answer as u64);
-    word(page, used, b")\n");
 }
 
 // The whole reading of a file is refused where its first element that can't be read begins, whatever is wrong in it.
@@ -64,21 +77,8 @@ pub fn not_read(page: &mut Page, used: &mut usize, place: usize, length: usize) 
     word(page, used, b"the first element not read begins at ");
     byte_number(page, used, place);
     word(page, used, b"; left over: ");
-    amount(page, used, length, b" byte");
+    amount(page, used, length as u64, b" byte");
     word(page, used, b"\n");
-}
-
-// How many bytes a character has, as its first byte says.
-fn width(first: u8) -> usize {
-    if first < 0x80 {
-        1
-    } else if first < 0xE0 {
-        2
-    } else if first < 0xF0 {
-        3
-    } else {
-        4
-    }
 }
 
 // How much of a text is UTF-8, up to the first character that isn't.
@@ -140,11 +140,9 @@ fn refused_at(
     let mut levels = [0usize; 3 * (LEVELS + 1)];
     let place = r.used;
     let s = due(read, &mut levels, from, place);
-    spaces(page, used, indent);
-    word(page, used, b"refused at ");
-    byte_number(page, used, place);
-    word(page, used, b": ");
-    told(page, used, read, &levels, s, r.answer, place);
+    at_byte(page, used, place, indent);
+    why(page, used, read, &levels, s, r.answer, place);
+    with_answer(page, used, r.answer);
     around(page, used, input, place, indent);
     broken_text(page, used, read, s, indent);
 }
@@ -163,5 +161,29 @@ pub fn refused(
         refusal(page, used, r.answer);
     } else {
         refused_at(page, used, input, read, from, r, indent);
+    }
+}
+
+// An input that is refused by its first bytes, whatever is behind them.
+pub fn refused_front(page: &mut Page, used: &mut usize, input: &[u8], why: &[u8], answer: u8) {
+    at_byte(page, used, 0, 0);
+    word(page, used, why);
+    with_answer(page, used, answer);
+    around(page, used, input, 0, 0);
+}
+
+fn why_there(page: &mut Page, used: &mut usize, read: &[u8], from: Spot, r: Reading) {
+    let mut levels = [0usize; 3 * (LEVELS + 1)];
+    let place = r.used;
+    let s = due(read, &mut levels, from, place);
+    why(page, used, read, &levels, s, r.answer, place);
+}
+
+// Why and where alone, for a program that has lines of its own. It is far shorter than a page: six texts at most are told, and 40 bytes of each.
+pub fn words(page: &mut Page, used: &mut usize, read: &[u8], from: Spot, r: Reading) {
+    if r.answer == OVER_LIMIT {
+        reason(page, used, r.answer);
+    } else {
+        why_there(page, used, read, from, r);
     }
 }

@@ -150,8 +150,14 @@ pub fn of_entry(at: usize) -> Spot {
     )
 }
 
-pub fn of_value() -> Spot {
-    outermost(0, Field::OfValue(ValueField::Marker), 1, Part::Value, false)
+pub fn of_value(at: usize) -> Spot {
+    outermost(
+        at,
+        Field::OfValue(ValueField::Marker),
+        1,
+        Part::Value,
+        false,
+    )
 }
 
 impl Spot {

@@ -151,6 +151,7 @@ fn clock(page: &mut Page, used: &mut usize, milliseconds: u64) {
     }
 }
 
+// Minutes, with a sign.
 fn zone_minutes(page: &mut Page, used: &mut usize, zone: u16) {
     word(page, used, b", zone ");
     if zone < 0x8000 {
@@ -158,6 +159,25 @@ fn zone_minutes(page: &mut Page, used: &mut usize, zone: u16) {
     } else {
         byte(page, used, b'-');
         decimal(page, used, 0x1_0000 - zone as u64);
+    }
+    word(page, used, b" min");
+}
+
+// Whether a date is a moment of the years 1 to 9999, to the millisecond.
+pub fn is_of_calendar(bits: u64) -> bool {
+    match since_year_1(bits) {
+        Whole::Is(_) => true,
+        Whole::Not => false,
+    }
+}
+
+// Such a moment as ISO 8601 has it.
+pub fn iso(page: &mut Page, used: &mut usize, bits: u64) {
+    if let Whole::Is(n) = since_year_1(bits) {
+        calendar(page, used, n / DAY);
+        byte(page, used, b'T');
+        clock(page, used, n % DAY);
+        byte(page, used, b'Z');
     }
 }
 

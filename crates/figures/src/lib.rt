@@ -2,4 +2,5 @@
 mod big;
 pub mod date;
 pub mod double;
+pub mod escape;
 pub mod page;

@@ -1,9 +1,13 @@
 // What is printed goes onto a page, which is written out where it is full, and at the end.
+use crate::escape::high_half;
+use crate::escape::letter;
+use crate::escape::low_half;
+use crate::escape::point;
+use crate::escape::width;
 use libc::STDOUT_FILENO;
 use wire::text::part;
 ghost use mathlib.Core.Path.{_≡_};
 ghost use Prim.Native.Nat.{_+_, _%_};
-ghost use Rattle.figures.specs.Escape.{letterOf};
 
 pub type Page = [u8; 4096];
 
@@ -38,6 +42,15 @@ pub fn decimal(page: &mut Page, used: &mut usize, n: u64) {
     word(page, used, &digits[..k]);
 }
 
+// So many of a thing: `1 byte`, `12 bytes`.
+pub fn amount(page: &mut Page, used: &mut usize, n: u64, thing: &[u8]) {
+    decimal(page, used, n);
+    word(page, used, thing);
+    if n != 1 {
+        word(page, used, b"s");
+    }
+}
+
 pub fn spaces(page: &mut Page, used: &mut usize, n: usize) {
     let mut i: usize = 0;
     while i < n {
@@ -59,76 +72,63 @@ pub(crate) fn digit(n: u64) -> u8
     (0x30 + n % 10) as u8
 }
 
-fn hex_digit(n: u8) -> u8 {
-    if n < 10 { 0x30 + n } else { 0x57 + n % 16 }
-}
-
-fn unicode(page: &mut Page, used: &mut usize, b: u8) {
-    word(page, used, b"\\u00");
-    byte(page, used, hex_digit(b / 16));
-    byte(page, used, hex_digit(b % 16));
-}
-
-// The letter behind the backslash by which a byte goes out, as in JSON, or 0 where it goes out as it stands.
-fn letter(b: u8) -> u8
-    ensures { λ r. ⌜ r ≡ letterOf b ⌝ }
-{
-    match b {
-        0x09 => b't',
-        0x0A => b'n',
-        0x0D => b'r',
-        0x22 => b'"',
-        0x5C => b'\\',
-        0x7F => b'u',
-        _ => { if b < 0x20 { b'u' } else { 0 } }
+fn hex_digit(n: u32) -> u8 {
+    if n < 10 {
+        (0x30 + n % 10) as u8
+    } else {
+        (0x57 + n % 16) as u8
     }
 }
 
-fn escaped(page: &mut Page, used: &mut usize, b: u8) {
-    let l = letter(b);
+// A number below 65,536 as JSON has it.
+fn unicode(page: &mut Page, used: &mut usize, n: u32) {
+    word(page, used, b"\\u");
+    byte(page, used, hex_digit(n / 0x1000 % 16));
+    byte(page, used, hex_digit(n / 0x100 % 16));
+    byte(page, used, hex_digit(n / 0x10 % 16));
+    byte(page, used, hex_digit(n % 16));
+}
+
+fn escaped(page: &mut Page, used: &mut usize, p: u32) {
+    if p < 0x1_0000 {
+        unicode(page, used, p);
+    } else {
+        unicode(page, used, high_half(p));
+        unicode(page, used, low_half(p));
+    }
+}
+
+// A character, by its bytes.
+fn character(page: &mut Page, used: &mut usize, c: &[u8]) {
+    let p = point(c);
+    let l = letter(p);
     if l == 0 {
-        byte(page, used, b);
+        word(page, used, c);
     } else if l == b'u' {
-        unicode(page, used, b);
+        escaped(page, used, p);
     } else {
         byte(page, used, b'\\');
         byte(page, used, l);
     }
 }
 
-// A byte behind C2: the two are a control character, U+0080 to U+009F, or go out as they are.
-fn behind_c2(page: &mut Page, used: &mut usize, b: u8) {
-    if b < 0xA0 {
-        unicode(page, used, b);
-    } else {
-        byte(page, used, 0xC2);
-        byte(page, used, b);
+// A text by itself, for the middle of a quoted one. No text that was read ends in the middle of a character.
+pub fn characters(page: &mut Page, used: &mut usize, text: &[u8]) {
+    let mut at: usize = 0;
+    while at < text.len() {
+        let n = width(text[at]);
+        if text.len() - at < n {
+            return;
+        }
+        character(page, used, part(text, at, n));
+        at += n;
     }
 }
 
-// A byte of a text and the byte before it. C2 waits for the byte behind it.
-fn text_byte(page: &mut Page, used: &mut usize, before: u8, b: u8) {
-    if before == 0xC2 {
-        behind_c2(page, used, b);
-    } else if b != 0xC2 {
-        escaped(page, used, b);
-    }
-}
-
-fn text_bytes(page: &mut Page, used: &mut usize, text: &[u8]) {
-    let mut before: u8 = 0;
-    let mut i: usize = 0;
-    while i < text.len() {
-        text_byte(page, used, before, text[i]);
-        before = text[i];
-        i += 1;
-    }
-}
-
-// A text between quotes.
+// A text between quotes, as JSON has it.
 pub fn quoted(page: &mut Page, used: &mut usize, text: &[u8]) {
     byte(page, used, b'"');
-    text_bytes(page, used, text);
+    characters(page, used, text);
     byte(page, used, b'"');
 }
 

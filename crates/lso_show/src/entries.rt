@@ -10,15 +10,22 @@ use figures::page::word;
 use image::reading::Reading;
 use packet::entry::Found;
 use packet::entry::nth;
-use packet::entry::parse_entry;
+use packet::entry::parse_span;
 use packet::head::Entry;
 use packet::head::HEADER;
+use packet::head::Head;
+use packet::head::MESSAGE;
+use packet::head::head_at;
 use wire::answer::ACCEPTED;
 use wire::answer::NO_ENTRY;
+use wire::cursor::Cursor;
+use wire::cursor::U16;
 use wire::text::part;
 
 // More entries than two counts of two bytes can give.
 const ENTRIES: usize = 131_071;
+// Where the count of headers stands.
+const COUNT: usize = 2;
 
 fn head(page: &mut Page, used: &mut usize, input: &[u8], e: Entry) {
     if e.kind == HEADER {
@@ -49,18 +56,11 @@ fn told(page: &mut Page, used: &mut usize, input: &[u8], e: Entry, r: Reading, i
 }
 
 // Three times the value's length is room enough; the rest of the buffer need not be cleared.
-fn value(
-    page: &mut Page,
-    used: &mut usize,
-    input: &[u8],
-    number: usize,
-    e: Entry,
-    image: &mut [u8],
-) {
+fn value(page: &mut Page, used: &mut usize, input: &[u8], e: Entry, image: &mut [u8]) {
     let length = e.length;
     if length <= image.len() / 3 {
         let room = 3 * length;
-        let r = parse_entry(input, number, &mut image[..room]);
+        let r = parse_span(input, e.place, length, &mut image[..room]);
         told(page, used, input, e, r, image);
     }
 }
@@ -75,27 +75,83 @@ fn uncut(page: &mut Page, used: &mut usize, input: &[u8], answer: u8, place: usi
     refused(page, used, input, input, of_packet(true), r, 0);
 }
 
-// Shows an entry, and says whether there was one of that number.
-fn entry(page: &mut Page, used: &mut usize, input: &[u8], number: usize, image: &mut [u8]) -> bool {
-    match nth(input, number) {
-        Found::Stop(answer, place) => {
-            if answer != NO_ENTRY {
-                uncut(page, used, input, answer, place);
-            }
-            false
+// The place behind the value of an entry, which in a packet that is cut exactly is inside.
+fn behind(input: &[u8], e: Entry) -> usize {
+    let at = e.place;
+    let length = e.length;
+    if at <= input.len() {
+        if length <= input.len() - at {
+            return at + length;
         }
-        Found::Is(e) => {
+    }
+    input.len()
+}
+
+// Shows the entry of a kind at a place, and returns the place behind it.
+fn entry(
+    page: &mut Page,
+    used: &mut usize,
+    input: &[u8],
+    kind: u8,
+    at: usize,
+    image: &mut [u8],
+) -> usize {
+    match head_at(input, kind, Cursor { at: at }) {
+        Head::Stop(_, p) => p,
+        Head::Got(e, _) => {
             head(page, used, input, e);
-            value(page, used, input, number, e, image);
-            true
+            value(page, used, input, e, image);
+            behind(input, e)
         }
     }
 }
 
+// So many entries of a kind from a place on; returns the place behind them.
+fn row(
+    page: &mut Page,
+    used: &mut usize,
+    input: &[u8],
+    kind: u8,
+    n: u16,
+    place: usize,
+    image: &mut [u8],
+) -> usize {
+    let mut at = place;
+    let mut left = n;
+    while 0 < left {
+        at = entry(page, used, input, kind, at, image);
+        left -= 1;
+    }
+    at
+}
+
+// The entries of a kind behind their count.
+fn counted(
+    page: &mut Page,
+    used: &mut usize,
+    input: &[u8],
+    kind: u8,
+    place: usize,
+    image: &mut [u8],
+) -> usize {
+    match (Cursor { at: place }).be_u16(input) {
+        U16::Stop(_, p) => p,
+        U16::Got(n, c) => row(page, used, input, kind, n, c.at, image),
+    }
+}
+
+// The library says first whether the lengths cut the packet exactly; then the entries stand one behind the other, and each is looked at once.
 pub fn entries(page: &mut Page, used: &mut usize, input: &[u8], image: &mut [u8]) {
     word(page, used, b"AMF packet by entry\n");
-    let mut number: usize = 0;
-    while number < ENTRIES && entry(page, used, input, number, image) {
-        number += 1;
+    match nth(input, ENTRIES) {
+        Found::Is(_) => {}
+        Found::Stop(answer, place) => {
+            if answer == NO_ENTRY {
+                let at = counted(page, used, input, HEADER, COUNT, image);
+                counted(page, used, input, MESSAGE, at, image);
+            } else {
+                uncut(page, used, input, answer, place);
+            }
+        }
     }
 }

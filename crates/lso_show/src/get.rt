@@ -1,4 +1,4 @@
-// The value to which keys lead in a file, by an index that is made for this one way.
+// The value to which keys lead in a file or a lone value, by an index that is made for this one way.
 use crate::tree::value_at;
 use faults::refusal::refusal;
 use figures::page::Page;
@@ -6,17 +6,11 @@ use figures::page::word;
 use index::find::Way;
 use index::find::step;
 use index::make::make_index;
-use index::mark::SIZE;
 use wire::answer::ACCEPTED;
 use wire::answer::NO_ROOM;
-use wire::limit::BYTES;
 
 // The first key's number among the arguments: `lso_show get FILE KEY..`.
 const FIRST: usize = 3;
-// How many keys the index has room for: twice the image's length would be more than a stack of 8 MiB has beside the buffers of main. A file has more keys only
-// where an object has a key twice; else its pairs, with the ends of their objects, have four bytes each at least.
-const KEYS: usize = BYTES / 4;
-
 // A step by the key that an argument is. An argument that doesn't fit the buffer is longer than any key.
 fn by_argument(image: &[u8], text: &[u8], index: &[u8], place: usize, i: usize) -> Way {
     let mut key = io::large_buffer();
@@ -57,8 +51,8 @@ fn no_index(page: &mut Page, used: &mut usize, answer: u8) {
     }
 }
 
-// The arguments up to a number are the keys.
-fn get_by(
+// The arguments up to a number are the keys. The index is made in a buffer.
+pub fn get(
     page: &mut Page,
     used: &mut usize,
     input: &[u8],
@@ -75,9 +69,4 @@ fn get_by(
         Way::At(place) => value_at(page, used, input, image, place),
         Way::Nothing => word(page, used, b"not found\n"),
     }
-}
-
-pub fn get(page: &mut Page, used: &mut usize, input: &[u8], image: &[u8], end: usize) {
-    let mut index = [0u8; SIZE * KEYS];
-    get_by(page, used, input, image, &mut index, end);
 }

@@ -1,25 +1,41 @@
-// Shows an LSO file as lines that people can read: `lso_show FILE`. A first word `packet` says that the file is an AMF packet, `entries` that it is one and
-// is to be read by entry, and `value` that it is one AMF0 value. `lso_show get FILE KEY..` shows the one value of an LSO file to which the keys lead.
+// Shows an LSO file, an AMF packet or AMF0 values as lines that people can read: `lso_show FILE`, where `-` is standard input. A first word says what the input
+// is: `lso`, `packet`, `entries` (a packet by entry) or `value` (values one behind the other); where there is none it is guessed. `lso_show get FILE KEY..`
+// shows the one value of an LSO file, or of a lone value, to which the keys lead, and `lso_show json FILE` any of these as a JSON document.
+mod as_json;
 mod entries;
+mod form;
 mod get;
 mod tree;
+mod values;
 
+use amf0::read::parse_single_element;
 use amf0::read::parse_value;
+use as_json::Kind;
+use as_json::as_json;
 use faults::fault::not_read;
 use faults::fault::refused;
+use faults::fault::refused_front;
 use faults::field::Spot;
 use faults::field::of_file;
 use faults::field::of_packet;
 use faults::field::of_value;
 use figures::page::Page;
-use figures::page::decimal;
 use figures::page::end;
-use figures::page::word;
+use form::Form;
+use form::form_of;
+use form::guess;
+use form::is_json;
+use form::is_standard_input;
+use form::is_whole;
 use image::reading::Reading;
 use image::reading::Step;
+use index::mark::SIZE;
+use libc::STDERR_FILENO;
+use libc::STDIN_FILENO;
 use libc::STDOUT_FILENO;
 use wire::answer::ACCEPTED;
 use wire::answer::NOT_RIGHT;
+use wire::answer::NOT_WHOLE;
 use wire::cursor::Cursor;
 use wire::cursor::Text;
 use wire::limit::BYTES;
@@ -27,17 +43,10 @@ use wire::text::part;
 
 // One byte more than an input may have, so that a longer file is known for one.
 const ASKED: usize = BYTES + 1;
-
-// What a file is to be read as.
-enum Form {
-    File,
-    Packet,
-    // A packet by its entries.
-    Entries,
-    Value,
-    // A file of which one value is shown: the arguments from the third on, up to a number, are the keys that lead to it.
-    Keys(usize),
-}
+// How many keys the index has room for: twice the image's length would be more than a stack of 8 MiB has beside the other buffers. A file has more keys only
+// where an object has a key twice; else its pairs, with the ends of their objects, have four bytes each at least. There is one such buffer and no second: two
+// would be too much, too.
+const KEYS: usize = BYTES / 4;
 
 // How many bytes of a file were read, or that it can't be.
 enum Input {
@@ -48,7 +57,7 @@ enum Input {
 fn usage() {
     io::write_all(
         STDOUT_FILENO,
-        b"usage: lso_show [packet | entries | value] FILE, or lso_show get FILE [KEY..]\n",
+        b"usage: lso_show [lso | packet | entries | value] FILE, lso_show get FILE [KEY..], or lso_show json [lso | packet | value] FILE\n",
     );
 }
 
@@ -57,16 +66,14 @@ fn parse(form: Form, input: &[u8], image: &mut [u8]) -> Reading {
     match form {
         Form::File => lso::read::parse_incomplete(input, image),
         Form::Keys(_) => lso::read::parse_incomplete(input, image),
-        Form::Value => amf0::read::parse_single_element(input, image),
         _ => packet::read::parse_incomplete(input, image),
     }
 }
 
-// How deep the values begin: an LSO's below its line, a packet's below those of the packet and the message, a value by itself.
+// How deep the values begin: an LSO's below its line, a packet's below those of the packet and the message.
 fn first_depth(form: Form) -> usize {
     match form {
         Form::File => 1,
-        Form::Value => 0,
         _ => 2,
     }
 }
@@ -76,7 +83,6 @@ fn first_spot(form: Form) -> Spot {
     match form {
         Form::File => of_file(),
         Form::Keys(_) => of_file(),
-        Form::Value => of_value(),
         _ => of_packet(false),
     }
 }
@@ -110,16 +116,7 @@ fn unread(page: &mut Page, used: &mut usize, input: &[u8], image: &mut [u8], pla
     }
 }
 
-// Bytes behind a lone value are no refusal.
-fn behind_value(page: &mut Page, used: &mut usize, place: usize, length: usize) {
-    word(page, used, b"bytes left over from @");
-    decimal(page, used, place as u64);
-    word(page, used, b" on: ");
-    decimal(page, used, length as u64);
-    word(page, used, b"\n");
-}
-
-// Bytes behind what was read: a whole reading of a file or a packet refuses them.
+// Bytes behind what was read: a whole reading refuses them.
 fn left_over(
     page: &mut Page,
     used: &mut usize,
@@ -131,11 +128,6 @@ fn left_over(
     match form {
         Form::File => unread(page, used, input, image, place),
         Form::Keys(_) => unread(page, used, input, image, place),
-        Form::Value => {
-            if place <= input.len() {
-                behind_value(page, used, place, input.len() - place);
-            }
-        }
         _ => refused(
             page,
             used,
@@ -149,42 +141,175 @@ fn left_over(
 }
 
 // The tree that was read, or the one value of it that is asked for.
-fn show_read(page: &mut Page, used: &mut usize, form: Form, input: &[u8], image: &[u8]) {
+fn show_read(
+    page: &mut Page,
+    used: &mut usize,
+    form: Form,
+    input: &[u8],
+    image: &[u8],
+    index: &mut [u8],
+) {
     match form {
-        Form::Keys(end) => get::get(page, used, input, image, end),
+        Form::Keys(end) => get::get(page, used, input, image, index, end),
         _ => tree::tree(page, used, input, image, first_depth(form)),
     }
 }
 
-fn show_whole(page: &mut Page, used: &mut usize, form: Form, input: &[u8], image: &mut [u8]) {
+fn show_whole(
+    page: &mut Page,
+    used: &mut usize,
+    form: Form,
+    input: &[u8],
+    image: &mut [u8],
+    index: &mut [u8],
+) {
     let r = parse(form, input, image);
     if r.answer != ACCEPTED {
         refused(page, used, input, input, first_spot(form), r, 0);
         return;
     }
-    show_read(page, used, form, input, part(image, 0, r.made));
+    show_read(page, used, form, input, part(image, 0, r.made), index);
     if r.used < input.len() {
         left_over(page, used, form, input, image, r.used);
     }
 }
 
-fn show(page: &mut Page, used: &mut usize, form: Form, input: &[u8], image: &mut [u8]) {
+// Keys lead into a lone value alone.
+fn lone(input: &[u8], image: &mut [u8]) -> Reading {
+    let r = parse_single_element(input, image);
+    if r.answer == ACCEPTED && r.used < input.len() {
+        not_right(r.used)
+    } else {
+        r
+    }
+}
+
+fn show_of_value(
+    page: &mut Page,
+    used: &mut usize,
+    input: &[u8],
+    image: &mut [u8],
+    index: &mut [u8],
+    end: usize,
+) {
+    let r = lone(input, image);
+    if r.answer == ACCEPTED {
+        get::get(page, used, input, part(image, 0, r.made), index, end);
+    } else {
+        refused(page, used, input, input, of_value(0), r, 0);
+    }
+}
+
+fn unknown(page: &mut Page, used: &mut usize, input: &[u8]) {
+    if input.len() == 0 {
+        refused_front(page, used, input, b"the input is empty", NOT_WHOLE);
+    } else {
+        refused_front(
+            page,
+            used,
+            input,
+            b"no LSO file, AMF packet or AMF0 value begins so",
+            NOT_RIGHT,
+        );
+    }
+}
+
+fn show(
+    page: &mut Page,
+    used: &mut usize,
+    form: Form,
+    input: &[u8],
+    image: &mut [u8],
+    index: &mut [u8],
+) {
     match form {
+        Form::Unknown => unknown(page, used, input),
         Form::Entries => entries::entries(page, used, input, image),
-        _ => show_whole(page, used, form, input, image),
+        Form::Values => values::values(page, used, input, image),
+        Form::KeysOfValue(end) => show_of_value(page, used, input, image, index, end),
+        Form::JsonOf(kind) => as_json(page, used, kind, input, image, index),
+        _ => show_whole(page, used, form, input, image, index),
+    }
+}
+
+// What a guess took an input for, on standard error: of values, whose lines don't say it, and of what can't be read to its end.
+fn told(what: &[u8]) {
+    io::write_all(STDERR_FILENO, b"lso_show: taken for ");
+    io::write_all(STDERR_FILENO, what);
+    io::write_all(
+        STDERR_FILENO,
+        b"; a first word says otherwise: lso, packet, entries or value\n",
+    );
+}
+
+fn told_form(form: Form) {
+    match form {
+        Form::File => told(b"an LSO file"),
+        Form::Packet => told(b"an AMF packet"),
+        Form::Values => told(b"AMF0 values"),
+        _ => told(b"nothing that it knows"),
+    }
+}
+
+fn is_shown(form: Form) -> bool {
+    match form {
+        Form::Values => false,
+        _ => true,
+    }
+}
+
+fn guessed(input: &[u8], image: &mut [u8]) -> Form {
+    let form = guess(input, image);
+    let whole = is_whole(form, input, image);
+    if 0 < input.len() && !(whole && is_shown(form)) {
+        told_form(form);
+    }
+    form
+}
+
+// The keys lead into a file where the input is taken for a packet.
+fn with_keys(form: Form, end: usize) -> Form {
+    match form {
+        Form::Values => Form::KeysOfValue(end),
+        Form::Unknown => Form::Unknown,
+        _ => Form::Keys(end),
+    }
+}
+
+fn kind_of(form: Form) -> Kind {
+    match form {
+        Form::File => Kind::File,
+        Form::Packet => Kind::Packet,
+        Form::Values => Kind::Values,
+        _ => Kind::Unknown,
+    }
+}
+
+fn settled(form: Form, input: &[u8], image: &mut [u8]) -> Form {
+    match form {
+        Form::Any => guessed(input, image),
+        Form::Keys(end) => with_keys(guess(input, image), end),
+        Form::Json => Form::JsonOf(kind_of(guess(input, image))),
+        _ => form,
     }
 }
 
 // A page that is written out at the end.
-fn show_page(page: &mut Page, form: Form, input: &[u8], image: &mut [u8]) {
+fn show_page(page: &mut Page, form: Form, input: &[u8], image: &mut [u8], index: &mut [u8]) {
     let mut used: usize = 0;
-    show(page, &mut used, form, input, image);
+    show(page, &mut used, form, input, image, index);
     end(page, used);
 }
 
-fn show_input(form: Form, input: &[u8], image: &mut [u8]) {
+fn show_settled(form: Form, input: &[u8], image: &mut [u8]) {
     let mut page = [0u8; 4096];
-    show_page(&mut page, form, input, image);
+    let mut index = [0u8; SIZE * KEYS];
+    show_page(&mut page, form, input, image, &mut index);
+}
+
+fn show_input(form: Form, input: &[u8], image: &mut [u8]) {
+    let s = settled(form, input, image);
+    show_settled(s, input, image);
 }
 
 fn read_some(fd: i32, buffer: &mut [u8]) -> Input {
@@ -226,6 +351,16 @@ fn show_open(form: Form, fd: i32, path: &[u8], buffer: &mut [u8], image: &mut [u
     }
 }
 
+fn show_file(form: Form, path: &[u8], buffer: &mut [u8], image: &mut [u8]) {
+    let fd = os::open_read(path);
+    if fd < 0 {
+        os::fail(path);
+        return;
+    }
+    show_open(form, fd, path, buffer, image);
+    libc::close(fd);
+}
+
 // Shows the file that an argument names, or says why it can't be read.
 fn show_argument(form: Form, i: usize, buffer: &mut [u8], image: &mut [u8]) {
     let mut path = io::buffer();
@@ -234,52 +369,50 @@ fn show_argument(form: Form, i: usize, buffer: &mut [u8], image: &mut [u8]) {
         os::fail(b"FILE");
         return;
     }
-    let fd = os::open_read(&path[..n]);
-    if fd < 0 {
-        os::fail(&path[..n]);
-        return;
+    if is_standard_input(&path[..n]) {
+        show_open(form, STDIN_FILENO, b"standard input", buffer, image);
+    } else {
+        show_file(form, &path[..n], buffer, image);
     }
-    show_open(form, fd, &path[..n], buffer, image);
-    libc::close(fd);
 }
 
-fn is_word(a: &[u8], b: &[u8]) -> bool {
-    if a.len() != b.len() {
-        return false;
+// The file behind a first word.
+fn show_as(form: Form, buffer: &mut [u8], image: &mut [u8]) {
+    match form {
+        Form::Unknown => usage(),
+        _ => show_argument(form, 2, buffer, image),
     }
-    let mut i: usize = 0;
-    while i < a.len() {
-        if a[i] != b[i] {
-            return false;
-        }
-        i += 1;
-    }
-    true
 }
 
-// The value of a file to which keys lead; without keys the whole file.
-fn show_keys(count: usize, buffer: &mut [u8], image: &mut [u8]) {
+// The file behind `json` and a second word.
+fn show_json_as(form: Form, buffer: &mut [u8], image: &mut [u8]) {
+    match form {
+        Form::File => show_argument(Form::JsonOf(Kind::File), 3, buffer, image),
+        Form::Packet => show_argument(Form::JsonOf(Kind::Packet), 3, buffer, image),
+        Form::Values => show_argument(Form::JsonOf(Kind::Values), 3, buffer, image),
+        _ => usage(),
+    }
+}
+
+fn show_json(count: usize, buffer: &mut [u8], image: &mut [u8]) {
+    let mut second = io::buffer();
     if count == 3 {
-        show_argument(Form::File, 2, buffer, image);
+        show_argument(Form::Json, 2, buffer, image);
+    } else if count == 4 {
+        let n = os::arg(2, &mut second);
+        let form = form_of(&second[..n], 3);
+        show_json_as(form, buffer, image);
     } else {
-        show_argument(Form::Keys(count), 2, buffer, image);
+        usage();
     }
 }
 
-// The file behind a first word, where there are so many arguments.
-fn show_as(word: &[u8], count: usize, buffer: &mut [u8], image: &mut [u8]) {
-    if is_word(word, b"get") {
-        show_keys(count, buffer, image);
-    } else if 3 < count {
-        usage();
-    } else if is_word(word, b"packet") {
-        show_argument(Form::Packet, 2, buffer, image);
-    } else if is_word(word, b"entries") {
-        show_argument(Form::Entries, 2, buffer, image);
-    } else if is_word(word, b"value") {
-        show_argument(Form::Value, 2, buffer, image);
+// What the first of so many arguments says.
+fn show_by(word: &[u8], count: usize, buffer: &mut [u8], image: &mut [u8]) {
+    if is_json(word) {
+        show_json(count, buffer, image);
     } else {
-        usage();
+        show_as(form_of(word, count), buffer, image);
     }
 }
 
@@ -289,10 +422,10 @@ fn show_asked(buffer: &mut [u8], image: &mut [u8]) {
     if count < 2 {
         usage();
     } else if count == 2 {
-        show_argument(Form::File, 1, buffer, image);
+        show_argument(Form::Any, 1, buffer, image);
     } else {
         let n = os::arg(1, &mut first);
-        show_as(&first[..n], count, buffer, image);
+        show_by(&first[..n], count, buffer, image);
     }
 }
 

@@ -2,6 +2,7 @@
 use figures::date::date;
 use figures::double::number;
 use figures::page::Page;
+use figures::page::amount;
 use figures::page::decimal;
 use figures::page::placed;
 use figures::page::quoted;
@@ -232,7 +233,7 @@ fn record(page: &mut Page, used: &mut usize, input: &[u8], r: Record, w: Walk) -
             word(page, used, b"LSO file ");
             placed(page, used, input, p, n);
             word(page, used, b", stored length ");
-            decimal(page, used, stored as u64);
+            amount(page, used, stored as u64, b" byte");
             word(page, used, b"\n");
             w
         }

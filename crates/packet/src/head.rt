@@ -128,7 +128,7 @@ fn message(s: &[u8], c: Cursor) -> Head
 }
 
 // The head of an entry of a kind: a header's, or else a message's.
-pub(crate) fn head_at(s: &[u8], kind: u8, c: Cursor) -> Head
+pub fn head_at(s: &[u8], kind: u8, c: Cursor) -> Head
     ensures { λ r. ⌜ r ≡ headAt kind (now (s .entry)) (c .at) ⌝ }
 {
     if kind == HEADER {

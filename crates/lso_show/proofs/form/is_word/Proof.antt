@@ -1,7 +1,7 @@
 -- The bytes are compared one by one, up to the first that differs.
 use Rattle.wire.proofs.Kit.{_-_, length, needs}
-use Rattle.lso_show.proofs.is_word.Statement.{statement}
-use Rattle.lso_show.proofs.is_word.Tie as tie
+use Rattle.lso_show.proofs.form.is_word.Statement.{statement}
+use Rattle.lso_show.proofs.form.is_word.Tie as tie
 
 abbrev Inv-loop : tie.InvT-loop
 Inv-loop a b i₀ i = Unit {0}
