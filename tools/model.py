@@ -345,8 +345,29 @@ def read_packet(data, room, whole):
     return outcome(data, room, packet, whole)
 
 
+UNKNOWN = 0xFFFFFFFF
+
+
+class Measuring(Reading):
+    """A reading that makes no records, so that it needs no room."""
+
+    def __init__(self, data, at):
+        super().__init__(data, 0)
+        self.at = at
+
+    def due(self, record, place):
+        pass
+
+
+def measure(data, at):
+    """The length of the value at a place, which is read there."""
+    r = Measuring(data, at)
+    value(r, 1)
+    return r.at - at
+
+
 def cut(data):
-    """The entries by declared lengths, each as (kind, flag, first, second, (place, length))."""
+    """The entries by declared lengths, or by measured ones where these are not known, each as (kind, flag, first, second, (place, length))."""
     if len(data) > LIMIT:
         raise Refused(1)
     r = Reading(data, 0)
@@ -355,6 +376,8 @@ def cut(data):
     for kind in (0x31, 0x32):
         for _ in range(r.number(2)):
             first, second, flag, (field, length) = head(r, kind)
+            if length == UNKNOWN:
+                length = measure(data, r.at)
             if length > len(data) - r.at:
                 raise Refused(2, field)
             found.append((kind, flag, first, second, (r.at, length)))

@@ -182,8 +182,12 @@ class Walk:
     def entry(self, name, cut):
         place, where = self.at, ", in the length of " + name
         length = self.number(4, "an entry's length", where)
+        start = self.at
         if not cut:
             self.value([], name)
+        elif length == 0xFFFFFFFF:
+            self.value([], name)
+            self.spans.append((start, self.at))
         elif self.left() < length:
             raise Broke(2, place, f"an entry declares {amount(length, 'byte')}, with only {amount(self.left(), 'byte')} left", where)
         else:

@@ -8,7 +8,8 @@ use Rattle.wire.specs.Limit as limit
 use Rattle.wire.proofs.Laws.{pick-yes, pick-no, picked, u8-next}
 use Rattle.image.specs.declared.record.Record.{Record}
 use Rattle.image.specs.declared.record.Record.the-variants.{ObjectEnd, Key}
-use Rattle.image.specs.Due.{Due, end, stop, due, _>>=_, based}
+use Rattle.image.specs.Due.{Due, Fact, end, stop, seen, due, _>>=_, based}
+use Rattle.image.specs.Due.Fact.{dropped}
 use Rattle.image.specs.Whole.{Whole, settled}
 use Rattle.image.proofs.Laws.{based-zero}
 use Rattle.image.proofs.Settle.{settled-stop}
@@ -19,7 +20,7 @@ use Rattle.amf0.specs.declared.type_marker.TypeMarker.{TypeMarker}
 use Rattle.amf0.specs.declared.type_marker.Marked.the-variants.{Value, Refused}
 use Rattle.amf0.specs.Marker.{markerOf}
 use Rattle.amf0.specs.Fields.{fieldsAt, basedFields, gotFields}
-use Rattle.amf0.specs.Reading.{value, topValue, pair, pairs, items, follow, valueIn, readOf}
+use Rattle.amf0.specs.Reading.{value, topValue, pair, pairs, items, follow, ownAt, valueIn, readOf}
 use Rattle.amf0.specs.Code.{FieldsWithin}
 
 -- a number that is at least k and is not k
@@ -40,18 +41,18 @@ pub fields-stop : {a p low high : ℕ} → FieldsWithin (Stop a p) low high
 fields-stop = record { bounds = λ r f c e. let z : _≡_ {A = ℕ} 0 1 = cc in absurd (omega arith) }
 
 -- what follows the fields of a part, by what they were read as
-pub fields-refused : (b at : ℕ) (more : Follow → ℕ → Due) (x : Fields) {a p : ℕ} → Stop a p ≡ basedFields b x
-    → based b (gotFields stop x (λ r f q. due r at (more f q))) ≡ stop a p
-fields-refused b at more (Got r f c) {a} {p} e = let z : _≡_ {A = ℕ} 0 1 = cc in absurd (omega arith)
-fields-refused b at more (Stop w q) {a} {p} e =
+pub fields-refused : (b at : ℕ) (look : ℕ → Fact) (more : Follow → ℕ → Due) (x : Fields) {a p : ℕ} → Stop a p ≡ basedFields b x
+    → based b (gotFields stop x (λ r f q. seen (look q) (due r at (more f q)))) ≡ stop a p
+fields-refused b at look more (Got r f c) {a} {p} e = let z : _≡_ {A = ℕ} 0 1 = cc in absurd (omega arith)
+fields-refused b at look more (Stop w q) {a} {p} e =
     let f : w ≡ a = cc in
     let g : b + q ≡ p = cc in
     rw (f, g)
 
-pub fields-due : (b at : ℕ) (more : Follow → ℕ → Due) (x : Fields) {r : Record} {f : Follow} {c : Cursor} → Got r f c ≡ basedFields b x
-    → based b (gotFields stop x (λ r f q. due r at (more f q))) ≡ due r (b + at) (based b (more f (c .at)))
-fields-due b at more (Got s g d) {r} {f} {c} e = cc
-fields-due b at more (Stop w q) {r} {f} {c} e = let z : _≡_ {A = ℕ} 0 1 = cc in absurd (omega arith)
+pub fields-due : (b at : ℕ) (look : ℕ → Fact) (more : Follow → ℕ → Due) (x : Fields) {r : Record} {f : Follow} {c : Cursor} → Got r f c ≡ basedFields b x
+    → based b (gotFields stop x (λ r f q. seen (look q) (due r at (more f q)))) ≡ seen (look (c .at)) (due r (b + at) (based b (more f (c .at))))
+fields-due b at look more (Got s g d) {r} {f} {c} e = cc
+fields-due b at look more (Stop w q) {r} {f} {c} e = let z : _≡_ {A = ℕ} 0 1 = cc in absurd (omega arith)
 
 -- ---- a value
 
@@ -77,11 +78,12 @@ module _ (s : List ℕ) (at : ℕ) where
       value-deep z e = rw (z, e, h)
 
       pub value-fields : (left ≡ 0 → ⊥) → u8At s at ≡ U8.Got m c
-          → value left s at ≡ gotFields stop (fieldsAt s (c .at) k) (λ r f q. due r at (follow (value (left - 1) s) s f q))
+          → value left s at ≡ gotFields stop (fieldsAt s (c .at) k) (λ r f q. seen (ownAt (left - 1) s at q) (due r at (follow (value (left - 1) s) s f q)))
       unfolding value
       value-fields z e = go left z
         where
-          go : (l : ℕ) → (l ≡ 0 → ⊥) → value l s at ≡ gotFields stop (fieldsAt s (c .at) k) (λ r f q. due r at (follow (value (l - 1) s) s f q))
+          go : (l : ℕ) → (l ≡ 0 → ⊥)
+              → value l s at ≡ gotFields stop (fieldsAt s (c .at) k) (λ r f q. seen (ownAt (l - 1) s at q) (due r at (follow (value (l - 1) s) s f q)))
           go zero z = absurd (z refl)
           go (suc l) z = rw (e, h, sub-one (suc l))
 
@@ -114,7 +116,7 @@ module _ (s : List ℕ) (at : ℕ) where
     unfolding pair
     pair-cut e = rw e
 
-    pub pair-end : {m : ℕ} {c : Cursor} → u8At s q ≡ U8.Got m c → m ≡ 9 → pair inner more s at p n q ≡ due ObjectEnd q (end (c .at))
+    pub pair-end : {m : ℕ} {c : Cursor} → u8At s q ≡ U8.Got m c → m ≡ 9 → pair inner more s at p n q ≡ seen (dropped n) (due ObjectEnd q (end (c .at)))
     unfolding pair
     pair-end {m} e h = rw (e, eq-eqb m 9 h)
 

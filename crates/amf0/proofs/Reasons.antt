@@ -8,7 +8,7 @@ use Rattle.wire.proofs.Stands.{go8, go16, go32, go64, goText}
 use Rattle.image.specs.declared.record.Record.{Record}
 use Rattle.image.specs.declared.record.Record.the-variants as R
 use Rattle.image.specs.Record.{bytesOf}
-use Rattle.image.specs.Due.{Due, stop, due, _>>=_}
+use Rattle.image.specs.Due.{Due, Fact, stop, seen, due, _>>=_}
 use Rattle.image.proofs.Kept.{Kept, fewer, bind-kept}
 use Rattle.amf0.specs.declared.read.Follow.{Follow}
 use Rattle.amf0.specs.declared.read.Follow.the-variants.{Nothing, Pairs, Values}
@@ -16,7 +16,7 @@ use Rattle.amf0.specs.declared.read.Fields.{Fields}
 use Rattle.amf0.specs.declared.read.Fields.the-variants.{Got, Stop}
 use Rattle.amf0.specs.Marker.{markers, markerOf}
 use Rattle.amf0.specs.Fields.{fieldsAt, gotFields, gives, shut, behind}
-use Rattle.amf0.specs.Reading.{items, pair, pairs, follow, value}
+use Rattle.amf0.specs.Reading.{items, pair, pairs, follow, ownAt, value}
 use Rattle.amf0.proofs.Rows.{Each, _▸_, each-marker}
 use Rattle.amf0.specs.declared.type_marker.Marked.{Marked}
 use Rattle.amf0.specs.declared.type_marker.Marked.the-variants.{Value, Refused}
@@ -38,7 +38,7 @@ five = record { low = omega arith; high = omega arith; other = λ e. omega arith
 
 -- ---- the fields of a marker
 
-abbrev KeptFields : List ℕ → ℕ → Fields → Type 0
+abbrev pub KeptFields : List ℕ → ℕ → Fields → Type 0
 KeptFields s at (Got r f c) = (3 * at + length (bytesOf r) ≤ 3 * c .at) × (c .at ≤ length s)
 KeptFields s at (Stop a p) = Named a × (p ≤ length s)
 
@@ -77,7 +77,7 @@ module _ (s : List ℕ) (at : ℕ) (l : at < length s) where
       ▸ (omega arith, omega arith)
       ▸ tt
 
-  fields-kept : KeptFields s at (behind s at (at + 1) (markerOf (getD s at 0)))
+  pub fields-kept : KeptFields s at (behind s at (at + 1) (markerOf (getD s at 0)))
   unfolding Entry fieldsAt bytesOf
   fields-kept = each-marker Entry entries (λ m h. (omega arith, omega arith)) (getD s at 0)
 
@@ -110,9 +110,10 @@ module _ (s : List ℕ) (u : ℕ → Due) (g : (at : ℕ) → at ≤ length s �
   follow-kept Pairs at h = pairs-kept (length s) at (omega arith) h
   follow-kept (Values n) at h = items-kept n at h
 
-  node-kept : (at : ℕ) (x : Fields) → at ≤ length s → KeptFields s at x → Kept Named s (3 * at) (gotFields stop x λ r f q. due r at (follow u s f q))
-  node-kept at (Got r f c) h k = (h, fewer Named s (3 * at + length (bytesOf r)) (3 * c .at) (follow u s f (c .at)) (k .0) (follow-kept f (c .at) (k .1)))
-  node-kept at (Stop a p) h k = (omega arith, k .0, k .1)
+  node-kept : (look : ℕ → Fact) (at : ℕ) (x : Fields) → at ≤ length s → KeptFields s at x
+      → Kept Named s (3 * at) (gotFields stop x λ r f q. seen (look q) (due r at (follow u s f q)))
+  node-kept look at (Got r f c) h k = (h, fewer Named s (3 * at + length (bytesOf r)) (3 * c .at) (follow u s f (c .at)) (k .0) (follow-kept f (c .at) (k .1)))
+  node-kept look at (Stop a p) h k = (omega arith, k .0, k .1)
 
 -- where no level is left
 shut-named : (t : Marked) → Named (shut t)
@@ -123,4 +124,4 @@ pub kept : (left : ℕ) (s : List ℕ) (at : ℕ) → at ≤ length s → Kept N
 unfolding value
 kept zero s at h = go8 (Kept Named s (3 * at)) stop s at _ (λ l. (omega arith, shut-named (markerOf (getD s at 0)), h)) (λ l. (omega arith, two, h))
 kept (suc left) s at h = go8 (Kept Named s (3 * at)) stop s at _
-    (λ l. node-kept s (value left s) (kept left s) at (behind s at (at + 1) (markerOf (getD s at 0))) h (fields-kept s at l)) (λ l. (omega arith, two, h))
+    (λ l. node-kept s (value left s) (kept left s) (ownAt left s at) at (behind s at (at + 1) (markerOf (getD s at 0))) h (fields-kept s at l)) (λ l. (omega arith, two, h))

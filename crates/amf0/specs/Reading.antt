@@ -1,10 +1,11 @@
 -- What reading a value finds, from a place of an input on: the rule "Reading one value" (docs/DEMANDS.md). `left` is how many levels are left.
-use Rattle.wire.specs.Kit.{ℕ, zero, suc, _+_, List, length, leb, eqb}
+use Rattle.wire.specs.Kit.{ℕ, zero, suc, _+_, _-_, List, length, leb, eqb}
 use Rattle.wire.specs.Choice.{pick}
-use Rattle.wire.specs.Field.{u8At, textAt, got8, gotText}
+use Rattle.wire.specs.Field.{bytesAt, u8At, textAt, got8, gotText}
 use Rattle.wire.specs.Limit as limit
 use Rattle.image.specs.declared.record.Record.the-variants.{ObjectEnd, Key}
-use Rattle.image.specs.Due.{Due, end, stop, due, _>>=_, based}
+use Rattle.image.specs.Due.{Due, Fact, end, stop, seen, due, _>>=_, based}
+use Rattle.image.specs.Due.Fact.{own, dropped}
 use Rattle.image.specs.Whole.{Whole, settled, refused}
 use Rattle.amf0.specs.declared.read.Follow.{Follow}
 use Rattle.amf0.specs.declared.read.Follow.the-variants.{Nothing, Pairs, Values}
@@ -21,7 +22,7 @@ items value (suc n) at = value at >>= items value n
 unfoldable pub pair : (ℕ → Due) → (ℕ → Due) → List ℕ → ℕ → ℕ → ℕ → ℕ → Due
 pair value more s at p n q =
     got8 stop (u8At s q) λ m e.
-    pick (eqb m 9) (due ObjectEnd q (end e)) (due (Key p n) at (value q >>= more))
+    pick (eqb m 9) (seen (dropped n) (due ObjectEnd q (end e))) (due (Key p n) at (value q >>= more))
 
 -- pairs up to the end marker; each takes bytes, so the input's length bounds their number
 unfoldable pub pairs : (ℕ → Due) → List ℕ → ℕ → ℕ → Due
@@ -34,13 +35,17 @@ follow value s Nothing at = end at
 follow value s Pairs at = pairs value s (length s) at
 follow value s (Values n) at = items value n at
 
+-- what is seen of a value whose marker and own fields stand from `at` to q
+abbrev pub ownAt : ℕ → List ℕ → ℕ → ℕ → Fact
+ownAt left s at q = own left (bytesAt (q - at) s at)
+
 -- a value: its marker, its own fields, its record, and what follows
 unfoldable pub value : ℕ → List ℕ → ℕ → Due
 value zero s at = got8 stop (u8At s at) λ m p. stop (shut (markerOf m)) at
 value (suc left) s at =
     got8 stop (u8At s at) λ m p.
     gotFields stop (behind s at p (markerOf m)) λ r f q.
-    due r at (follow (value left s) s f q)
+    seen (ownAt left s at q) (due r at (follow (value left s) s f q))
 
 -- the value at a place, with every level left
 abbrev pub topValue : List ℕ → ℕ → Due

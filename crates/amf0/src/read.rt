@@ -1,4 +1,7 @@
 // Reading one value: its marker, its own fields, its record, and what follows them.
+use crate::survey::COUNTERS;
+use crate::survey::Ended;
+use crate::survey::survey_value;
 use crate::type_marker::Marked;
 use crate::type_marker::TypeMarker;
 use crate::type_marker::type_marker;
@@ -30,6 +33,7 @@ ghost use Rattle.image.specs.Due.{run, ran, based, Within};
 ghost use Rattle.image.specs.Whole.{padded};
 ghost use Rattle.amf0.specs.Fields.{fieldsAt, basedFields};
 ghost use Rattle.amf0.specs.Reading.{value, pairs, items, valueIn, readOf};
+ghost use Rattle.amf0.specs.Survey.{endOf, Onward};
 ghost use Rattle.amf0.specs.Code.{FieldsWithin};
 
 // What follows a value's own fields.
@@ -244,6 +248,15 @@ pub fn parse_value(image: &mut [u8], input: &[u8], base: usize, c: Cursor, made:
         U8::Stop(a, p) => Step::Stop(a, base + p),
         U8::Got(m, _) => value(image, input, base, c, m, made, limit::LEVELS),
     }
+}
+
+// The value at a cursor of a part of an input, measured: where it ends, or why it is refused. It makes no records, so it needs no room: for the layers above.
+pub fn measure(input: &[u8], base: usize, c: Cursor) -> Ended
+    ensures { λ r. ⌜ r ≡ endOf (valueIn base (now (input .entry)) (c .at)) ⌝ }
+    ensures { λ r. ⌜ Onward r (c .at + 1) (length (now (input .entry))) ⌝ }
+{
+    let mut t = [0u32; COUNTERS];
+    survey_value(&mut t, input, base, c)
 }
 
 // Reads one value at the front of an input.

@@ -24,7 +24,7 @@ read s x z at e h d l =
     let c = complete e s z at (at + length x) limit.levels (length x) h refl d (omega arith) in
     record {
       right = read-right s z at e h d l;
-      same = ap (λ g. map unplaced (recordsOf g)) c ∙ recorded e s z at (end (at + length x)) h .alike;
+      same = ap (λ g. map unplaced (recordsOf g)) c ∙ recorded e s z limit.levels at (end (at + length x)) h .alike;
     }
 
 pub read-alike : {s x z b y w : List ℕ} {at to : ℕ} {t : Tree Sort.value} → Encodes Sort.value t x → Here s at x z → Encodes Sort.value t y → Here b to y w

@@ -5,14 +5,14 @@ use Rattle.wire.proofs.Laws.{picked}
 use Rattle.wire.proofs.Stands.{Here, skip, there, end8, endText}
 use Rattle.image.specs.declared.record.Record.{Record}
 use Rattle.image.specs.declared.record.Record.the-variants.{Key}
-use Rattle.image.specs.Due.{Due, end, stop, due, Lacks}
+use Rattle.image.specs.Due.{Due, Fact, end, stop, seen, due, Lacks}
 use Rattle.image.proofs.Settle.{AllDue, due-bind, due-lacks}
 use Rattle.amf0.specs.declared.read.Follow.{Follow}
 use Rattle.amf0.specs.declared.read.Follow.the-variants.{Nothing, Pairs, Values}
 use Rattle.amf0.specs.declared.read.Fields.{Fields}
 use Rattle.amf0.specs.declared.read.Fields.the-variants.{Got, Stop}
 use Rattle.amf0.specs.Fields.{gotFields}
-use Rattle.amf0.specs.Reading.{items, pair, pairs, follow, value, topValue}
+use Rattle.amf0.specs.Reading.{items, pair, pairs, follow, ownAt, value, topValue}
 use Rattle.amf0.specs.Shown.Word.{name}
 use Rattle.amf0.specs.Standard.{UTF-8}
 use Rattle.amf0.specs.Standard.UTF-8.{short}
@@ -54,16 +54,17 @@ module _ (s : List ℕ) (bs : Bytes s) where
     follow-due Pairs at = pairs-due (length s) at
     follow-due (Values n) at = items-due n at
 
-    node-due : (at : ℕ) (x : Fields) → IsRead s at x → AllDue (DueAt s) (gotFields stop x λ r f q. due r at (follow inner s f q))
-    node-due at (Got r f c) g =
+    node-due : (look : ℕ → Fact) (at : ℕ) (x : Fields) → IsRead s at x
+        → AllDue (DueAt s) (gotFields stop x λ r f q. seen (look q) (due r at (follow inner s f q)))
+    node-due look at (Got r f c) g =
         (DueAt.value (g .rest) (g .grammar) (g .here .same) (rw (g .marks) (marked (g .grammar) .tells s (g .rest) at (g .here))), follow-due f (c .at))
-    node-due at (Stop a p) g = tt
+    node-due look at (Stop a p) g = tt
 
 -- Every record of a value's reading is due where the value, the name or the end marker stands that it says.
 pub value-due : (s : List ℕ) → Bytes s → (left at : ℕ) → AllDue (DueAt s) (value left s at)
 unfolding value
 value-due s bs zero at = end8 (AllDue (DueAt s)) stop (λ a p. tt) s bs at _ λ m h. tt
-value-due s bs (suc left) at = rw (value-item left s at) (node-due s bs (value left s) (value-due s bs left) at (itemAt s at) (item-ends s bs at))
+value-due s bs (suc left) at = rw (value-item left s at) (node-due s bs (value left s) (value-due s bs left) (ownAt left s at) at (itemAt s at) (item-ends s bs at))
 
 -- So a refusal for room is at the place of what the first record that has none says.
 pub room-due : (s : List ℕ) (room p : ℕ) → Bytes s → Lacks (topValue s 0) 0 room p → (r : Record) × DueAt s r p

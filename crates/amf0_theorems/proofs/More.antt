@@ -1,7 +1,7 @@
 -- More room changes nothing, and bytes left over change one answer: the laws for any call that settles a reading in a room.
 use Rattle.wire.proofs.Kit.{ℕ, _+_, _≤_, _≡_, refl, sym, ap, _∙_, subst, _≢_, _↔_, List, [], Bool, true, false, arith, length}
 use Rattle.wire.specs.Choice.{pick}
-use Rattle.image.specs.Due.{Due, end, stop, due, onEnd}
+use Rattle.image.specs.Due.{Due, end, stop, seen, due, onEnd}
 use Rattle.image.specs.Whole.{Whole, bytes, refused, inRoom, all}
 use Rattle.image.proofs.Settle.{either, over-lacks, in-room-fits, in-room-lacks, all-cases, answer-of}
 
@@ -21,6 +21,7 @@ in-room-more d f g room more h ne =
 pub end-more : (d : Due) {f : ℕ → ℕ → Whole} (g : ℕ → ℕ → Whole) → ((n : ℕ) → More (f n)) → More (λ room. onEnd d (λ n. f n room) g)
 end-more (end n) g h room more l ne = h n room more l ne
 end-more (stop a p) g h room more l ne = refl
+end-more (seen fact d) g h room more l ne = end-more d g h room more l ne
 end-more (due r p d) g h room more l ne = end-more d g h room more l ne
 
 -- a test before a call, which does not hang on the room

@@ -8,7 +8,7 @@ use Rattle.wire.specs.Field.{bytesAt, strAt, textAt, gotText}
 use Rattle.wire.specs.declared.cursor.Text.the-variants as Text
 use Rattle.wire.proofs.Laws.{false-true, length-digits, number-digits}
 use Rattle.wire.proofs.Stands.{Here, after, join, behind, inside, there, number-stood, text-stood, goText}
-use Rattle.image.specs.Due.{Due, end, stop, due, _>>=_, Ends, Stops}
+use Rattle.image.specs.Due.{Due, end, stop, seen, due, _>>=_, Ends, Stops}
 use Rattle.amf0_theorems.specs.Refusal.{Field, Refuses, InText, Refused}
 use Rattle.wire.specs.Choice.{pick}
 use Rattle.amf0.specs.Marker.{markerOf}
@@ -28,30 +28,35 @@ shut-number =
 abbrev pub Told : (ℕ → ℕ → Type 0) → Due → Type 0
 Told R (end n) = Unit {0}
 Told R (stop a p) = R a p
+Told R (seen fact d) = Told R d
 Told R (due r p d) = Told R d
 
 -- what follows from it holds there too
 pub told-map : {R Q : ℕ → ℕ → Type 0} (d : Due) → ((a p : ℕ) → R a p → Q a p) → Told R d → Told Q d
 told-map (end n) f t = tt
 told-map (stop a p) f t = f a p t
+told-map (seen fact d) f t = told-map d f t
 told-map (due r p d) f t = told-map d f t
 
 -- one reading and then another: it holds where either is refused
 pub told-bind : (R : ℕ → ℕ → Type 0) (d : Due) (k : ℕ → Due) → Told R d → ((n : ℕ) → Ends d n → Told R (k n)) → Told R (d >>= k)
 told-bind R (end n) k t f = f n refl
 told-bind R (stop a p) k t f = t
+told-bind R (seen fact d) k t f = told-bind R d k t f
 told-bind R (due r p d) k t f = told-bind R d k t f
 
 -- so it holds of the answer and the place that the reading is refused with
 pub told-stops : (R : ℕ → ℕ → Type 0) (d : Due) (a p : ℕ) → Told R d → Stops d a p → R a p
 told-stops R (end n) a p t h = absurd h
 told-stops R (stop b q) a p t h = rw (h .0, h .1) t
+told-stops R (seen fact d) a p t h = told-stops R d a p t h
 told-stops R (due r q d) a p t h = told-stops R d a p t h
 
 -- one reading and then another is refused where the first is
 pub stops-first : (d : Due) (k : ℕ → Due) (a p : ℕ) → Stops d a p → Stops (d >>= k) a p
 stops-first (end n) k a p h = absurd h
 stops-first (stop b q) k a p h = h
+stops-first (seen fact d) k a p h = stops-first d k a p h
 stops-first (due r q d) k a p h = stops-first d k a p h
 
 -- ---- the field that refuses an input

@@ -1,12 +1,13 @@
 -- What is read of a part that stands further on in an input is what is read of the part alone, moved there.
-use Rattle.wire.proofs.Kit.{ℕ, zero, suc, _+_, _*_, _≤_, _≡_, refl, sym, ap, List, _++_, Bool, true, false, arith, length, getD, length-append, leb, eqb}
+use Rattle.wire.proofs.Kit.{ℕ, zero, suc, _+_, _-_, _*_, _≤_, _≡_, refl, sym, ap, ap₂, _∙_, List, _++_, Bool, true, false, arith, length, getD, length-append, leb, eqb}
 use Rattle.wire.specs.Choice.{pick}
 use Rattle.wire.specs.Number.{number}
 use Rattle.wire.specs.Field.{to, bytesAt}
-use Rattle.wire.proofs.Stands.{goText, fits-both, both8, both16, both32, both64, bothText}
+use Rattle.wire.proofs.Stands.{goText, fits-both, bytes-both, both8, both16, both32, both64, bothText}
 use Rattle.image.specs.declared.record.Record.the-variants.{Key}
 use Rattle.image.specs.Record.{moved}
-use Rattle.image.specs.Due.{Due, end, stop, due, _>>=_, based, shifted, Ends}
+use Rattle.image.specs.Due.{Due, end, stop, seen, due, _>>=_, based, shifted, Ends}
+use Rattle.image.specs.Due.Fact.{own}
 use Rattle.amf0.specs.declared.type_marker.Marked.{Marked}
 use Rattle.amf0.specs.declared.type_marker.Marked.the-variants.{Value, Refused}
 use Rattle.amf0.specs.declared.type_marker.TypeMarker.{TypeMarker}
@@ -17,13 +18,14 @@ use Rattle.amf0.specs.declared.read.Fields.{Fields}
 use Rattle.amf0.specs.declared.read.Fields.the-variants.{Got, Stop}
 use Rattle.amf0.specs.Marker.{markerOf}
 use Rattle.amf0.specs.Fields.{fieldsAt, behind, gotFields}
-use Rattle.amf0.specs.Reading.{items, pair, pairs, follow, value}
+use Rattle.amf0.specs.Reading.{items, pair, pairs, follow, ownAt, value}
 use Rattle.image.proofs.Kept.{ends-kept}
 use Rattle.amf0.proofs.Reasons.{Named, kept}
 
 bind-moves : (a : ℕ) (d : Due) (k l : ℕ → Due) → ((n : ℕ) → Ends d n → k (a + n) ≡ shifted a (l n)) → shifted a d >>= k ≡ shifted a (d >>= l)
 bind-moves a (end n) k l h = h n refl
 bind-moves a (stop w p) k l h = refl
+bind-moves a (seen fact d) k l h = ap (seen fact) (bind-moves a d k l h)
 bind-moves a (due r p d) k l h = ap (due (moved a r) (a + p)) (bind-moves a d k l h)
 
 pick-both : {A B : Type 0} (P : A → B → Type 0) (t : Bool) {d e : A} {f g : B} → P d f → P e g → P (pick t d e) (pick t f g)
@@ -64,6 +66,12 @@ module _ (x s : List ℕ) where
   behind-moves at p (Value k) = fields-move p k
   behind-moves at p Refused = refl
 
+  -- the bytes from one place to another
+  row-moves : (at q : ℕ) → bytesAt (length x + q - (length x + at)) (x ++ s) (length x + at) ≡ bytesAt (q - at) s at
+  row-moves at q =
+      let long : length x + q - (length x + at) ≡ q - at = omega arith in
+      ap (λ w. bytesAt w (x ++ s) (length x + at)) long ∙ bytes-both x s at (q - at)
+
   Moved : Due → Due → Type 0
   Moved d e = d ≡ shifted (length x) e
 
@@ -101,12 +109,13 @@ module _ (x s : List ℕ) where
     follow-moves Pairs at = pairs-move (length (x ++ s)) (length s) at (omega (arith, length-append x s)) (omega arith)
     follow-moves (Values n) at = items-move n at
 
-    node-moves : (at : ℕ) (y : Fields)
-        → gotFields stop (movedFields (length x) y) (λ r f q. due r (length x + at) (follow v (x ++ s) f q))
-        ≡ shifted (length x) (gotFields stop y λ r f q. due r at (follow u s f q))
+    node-moves : (left at : ℕ) (y : Fields)
+        → gotFields stop (movedFields (length x) y) (λ r f q. seen (ownAt left (x ++ s) (length x + at) q) (due r (length x + at) (follow v (x ++ s) f q)))
+        ≡ shifted (length x) (gotFields stop y λ r f q. seen (ownAt left s at q) (due r at (follow u s f q)))
     unfolding movedFields
-    node-moves at (Got r f c) = ap (due (moved (length x) r) (length x + at)) (follow-moves f (c .at))
-    node-moves at (Stop a p) = refl
+    node-moves left at (Got r f c) =
+        ap₂ (λ w d. seen (own left w) (due (moved (length x) r) (length x + at) d)) (row-moves at (c .at)) (follow-moves f (c .at))
+    node-moves left at (Stop a p) = refl
 
 pub shift : (left : ℕ) (x s : List ℕ) (at : ℕ) → value left (x ++ s) (length x + at) ≡ shifted (length x) (value left s at)
 unfolding value Moved
@@ -114,11 +123,12 @@ shift zero x s at = both8 (Moved x s) stop stop x s at _ _ (λ l. refl) (λ l. r
 shift (suc left) x s at = both8 (Moved x s) stop stop x s at _ _
     (λ l. rw (behind-moves x s at (at + 1) (markerOf (getD s at 0)))
     (node-moves x s (value left (x ++ s)) (value left s) (λ q n h e. omega (arith, ends-kept Named s (3 * q) n (value left s q) (kept left s q h) e .0))
-    (shift left x s) at (behind s at (at + 1) (markerOf (getD s at 0)))))
+    (shift left x s) left at (behind s at (at + 1) (markerOf (getD s at 0)))))
     (λ l. refl)
 
 -- the places alone, and then the end
 pub based-shifted : (a : ℕ) (d : Due) → shifted a d ≡ based a d >>= λ n. end (a + n)
 based-shifted a (end n) = refl
 based-shifted a (stop w p) = refl
+based-shifted a (seen fact d) = ap (seen fact) (based-shifted a d)
 based-shifted a (due r p d) = ap (due (moved a r) (a + p)) (based-shifted a d)

@@ -3,11 +3,11 @@ use Rattle.wire.proofs.Kit.{ℕ, zero, suc, _+_, _≤_, _≡_, refl, List, [], 
 use Rattle.wire.specs.Number.{digits, Bytes}
 use Rattle.wire.proofs.Laws.{picked}
 use Rattle.wire.proofs.Stands.{Here, join, end8, endText}
-use Rattle.image.specs.Due.{Due, end, stop, due, _>>=_, Ends}
+use Rattle.image.specs.Due.{Due, Fact, end, stop, seen, due, _>>=_, Ends}
 use Rattle.amf0.specs.declared.read.Fields.{Fields}
 use Rattle.amf0.specs.declared.read.Fields.the-variants.{Got, Stop}
 use Rattle.amf0.specs.Fields.{gotFields}
-use Rattle.amf0.specs.Reading.{items, pair, pairs, follow, value}
+use Rattle.amf0.specs.Reading.{items, pair, pairs, follow, ownAt, value}
 use Rattle.amf0.specs.Standard.{Sort, content, Tree, depth, follows, UTF-8, Encodes}
 use Rattle.amf0.specs.Standard.UTF-8.{short}
 use Rattle.amf0.proofs.Rows.{itemAt, IsRead, item-ends}
@@ -17,6 +17,7 @@ use Rattle.amf0_theorems.proofs.Complete.{part, follow-next, value-item
 pub bind-ends : {P : Type 0} (d : Due) (k : ℕ → Due) (n : ℕ) → Ends (d >>= k) n → ((m : ℕ) → Ends d m → Ends (k m) n → P) → P
 bind-ends (end m) k n h go = go m refl h
 bind-ends (stop a p) k n h go = absurd h
+bind-ends (seen fact d) k n h go = bind-ends d k n h go
 bind-ends (due r p d) k n h go = bind-ends d k n h go
 
 -- from the place `at` of s to n stands a tree of at most `left` levels
@@ -86,14 +87,15 @@ module _ (s : List ℕ) (bs : Bytes s) (left : ℕ) (inner : ℕ → Due) (good 
   part-sound Sort.properties fuel at n e = pairs-sound fuel at n e
   part-sound (Sort.values c) fuel at n e = items-sound c at n e
 
-  node-sound : (at n : ℕ) (x : Fields) → IsRead s at x → Ends (gotFields stop x λ r f q. due r at (follow inner s f q)) n → Found Sort.value (suc left) s at n
-  node-sound at n (Got r f c) g e =
+  node-sound : (look : ℕ → Fact) (at n : ℕ) (x : Fields) → IsRead s at x
+      → Ends (gotFields stop x λ r f q. seen (look q) (due r at (follow inner s f q))) n → Found Sort.value (suc left) s at n
+  node-sound look at n (Got r f c) g e =
       let t = part-sound (follows (g .what)) (length s) (c .at) n (rw (g .follows, follow-next inner s (content (g .what)) (c .at)) at e) in
       found (Encodes.node (g .grammar) (t .encodes)) (ends-at (g .here) (g .long) (t .here)) (omega (arith, length-append (g .row) (t .row))) (omega arith)
-  node-sound at n (Stop a p) g e = absurd e
+  node-sound look at n (Stop a p) g e = absurd e
 
 pub sound : (left : ℕ) (s : List ℕ) (at n : ℕ) → Bytes s → Ends (value left s at) n → Found Sort.value left s at n
 unfolding value
 sound zero s at n bs e = end8 (λ d. Ends d n → Found Sort.value 0 s at n) stop (λ a p e. absurd e) s bs at _ (λ m h e. absurd e) e
 sound (suc left) s at n bs e =
-    node-sound s bs left (value left s) (λ p q. sound left s p q bs) at n (itemAt s at) (item-ends s bs at) (rw (value-item left s at) at e)
+    node-sound s bs left (value left s) (λ p q. sound left s p q bs) (ownAt left s at) at n (itemAt s at) (item-ends s bs at) (rw (value-item left s at) at e)

@@ -9,7 +9,7 @@ use Rattle.wire.specs.Field.{bytesAt}
 use Rattle.wire.proofs.Laws.{picked, pick-yes}
 use Rattle.wire.proofs.Stands.{Here, bytes-here, length-bytes, stood}
 use Rattle.image.specs.Record.{moved, size}
-use Rattle.image.specs.Due.{Due, end, stop, due, _>>=_, based, Ends, Stops, Lacks}
+use Rattle.image.specs.Due.{Due, end, stop, seen, due, _>>=_, based, Ends, Stops, Lacks}
 use Rattle.image.specs.Whole.{Whole, bytes, accepted, refused, settled}
 use Rattle.image.proofs.Settle.{on-ends, on-stops, bytes-bind, settled-fits, settled-lacks}
 use Rattle.image.proofs.Laws.{size-bytes, size-placed}
@@ -31,33 +31,39 @@ pub length-based : (a : ℕ) (d : Due) → length (bytes (based a d)) ≡ length
 unfolding bytes
 length-based a (end n) = refl
 length-based a (stop w p) = refl
+length-based a (seen fact d) = length-based a d
 length-based a (due r p d) = simp (length-append, size-bytes, size-placed, length-based a d)
 
 bytes-based : (a : ℕ) (d : Due) → bytes (based a d) ≡ laid (map (moved a) (recordsOf d))
 unfolding bytes
 bytes-based a (end n) = refl
 bytes-based a (stop w p) = refl
+bytes-based a (seen fact d) = bytes-based a d
 bytes-based a (due r p d) = rw (bytes-based a d)
 
 pub ends-based : (a : ℕ) (d : Due) (n : ℕ) → Ends d n → Ends (based a d) n
 ends-based a (end m) n e = e
 ends-based a (stop w p) n e = absurd e
+ends-based a (seen fact d) n e = ends-based a d n e
 ends-based a (due r p d) n e = ends-based a d n e
 
 pub based-ends : (a : ℕ) (d : Due) (n : ℕ) → Ends (based a d) n → Ends d n
 based-ends a (end m) n e = e
 based-ends a (stop w p) n e = absurd e
+based-ends a (seen fact d) n e = based-ends a d n e
 based-ends a (due r p d) n e = based-ends a d n e
 
 pub based-stops : (b : ℕ) (d : Due) (a p : ℕ) → Stops (based b d) a p → (q : ℕ) × (p ≡ b + q) × Stops d a q
 based-stops b (end n) a p t = absurd t
 based-stops b (stop c q) a p t = (q, t .1, (t .0, refl))
+based-stops b (seen fact d) a p t = based-stops b d a p t
 based-stops b (due r q d) a p t = based-stops b d a p t
 
 pub based-lacks : (b : ℕ) (d : Due) (made room p : ℕ) → Lacks (based b d) made room p → (q : ℕ) × (p ≡ b + q) × Lacks d made room q
 unfolding size
 based-lacks b (end n) made room p h = absurd h
 based-lacks b (stop c q) made room p h = absurd h
+based-lacks b (seen fact d) made room p h = based-lacks b d made room p h
 based-lacks b (due r w d) made room p h =
     let same = size-placed (λ q. b + q) r in
     ⊎-elim (λ x. (w, x .1, inl (omega (arith, x .0, same), refl)))
@@ -322,6 +328,7 @@ module _ {A : Type 0} {span : A → Span} {Own : A → ℕ → Type 0} {s t : Li
 pub ends-bind : (d : Due) (k : ℕ → Due) (n z : ℕ) → Ends d n → Ends (k n) z → Ends (d >>= k) z
 ends-bind (end m) k n z e f = rw e at f
 ends-bind (stop a p) k n z e f = absurd e
+ends-bind (seen fact d) k n z e f = ends-bind d k n z e f
 ends-bind (due r p d) k n z e f = ends-bind d k n z e f
 
 -- the value at a place of s takes the bytes x: alone they are read alike

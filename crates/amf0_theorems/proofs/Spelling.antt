@@ -75,7 +75,7 @@ images {s} {t} w = record { records = w .records; right = w .right; spells = spe
 pub read-right : {t : Tree Sort.value} {x : List ℕ} (s r : List ℕ) (at : ℕ) → Encodes Sort.value t x → Here s at x r → depth t ≤ limit.levels
     → length s ≤ limit.bytes → Right s (recordsOf (topValue s at))
 read-right {x} s r at e h d l =
-    rw (complete e s r at (at + length x) limit.levels (length x) h refl d (omega arith)) (recorded e s r at (end (at + length x)) h .right l tt)
+    rw (complete e s r at (at + length x) limit.levels (length x) h refl d (omega arith)) (recorded e s r limit.levels at (end (at + length x)) h .right l tt)
 
 -- and shows its tree
 pub shown : {t : Tree Sort.value} {x : List ℕ} (s r : List ℕ) (at : ℕ) → Encodes Sort.value t x → Here s at x r → depth t ≤ limit.levels

@@ -6,14 +6,14 @@ use Rattle.wire.specs.Field.{bytesAt, textAt, gotText}
 use Rattle.wire.proofs.Laws.{picked, length-digits}
 use Rattle.wire.proofs.Stands.{Here, join, after, byte-stood, number-stood, go8, go16, go32, go64}
 use Rattle.image.specs.declared.record.Record.{Record}
-use Rattle.image.specs.Due.{Due, stop, due, Ends}
+use Rattle.image.specs.Due.{Due, Fact, stop, seen, due, Ends}
 use Rattle.amf0.specs.declared.read.Follow.{Follow}
 use Rattle.amf0.specs.declared.read.Follow.the-variants.{Nothing, Pairs, Values}
 use Rattle.amf0.specs.declared.read.Fields.{Fields}
 use Rattle.amf0.specs.declared.read.Fields.the-variants.{Got, Stop}
 use Rattle.amf0.specs.Marker.{markers, markerOf}
 use Rattle.amf0.specs.Fields.{fieldsAt, gives, gotFields, shut, behind}
-use Rattle.amf0.specs.Reading.{items, pair, pairs, follow, value}
+use Rattle.amf0.specs.Reading.{items, pair, pairs, follow, ownAt, value}
 use Rattle.amf0.specs.Standard.{Sort, many, Content, content, sortOf, UTF-8}
 use Rattle.amf0.specs.Standard.UTF-8.{short}
 use Rattle.amf0.proofs.Rows.{itemAt, nextOf, IsRead, item-ends, Each, _▸_, each-marker}
@@ -175,16 +175,16 @@ module _ (s : List ℕ) (bs : Bytes s) (left : ℕ) (inner : ℕ → Due) (good 
   part-told (Sort.values c) at l = items-told c at l
 
   -- a value whose fields were read, or refused
-  node-told : (at : ℕ) (x : Fields) → at ≤ length s → IsRead s at x → ToldFields left s at x
-      → Told (RefusedValue (suc left) s at) (gotFields stop x λ r f q. due r at (follow inner s f q))
-  node-told at (Got r f c) l g t =
+  node-told : (look : ℕ → Fact) (at : ℕ) (x : Fields) → at ≤ length s → IsRead s at x → ToldFields left s at x
+      → Told (RefusedValue (suc left) s at) (gotFields stop x λ r f q. seen (look q) (due r at (follow inner s f q)))
+  node-told look at (Got r f c) l g t =
       let i : Content = content (g .what) in
       let fits : c .at + many (sortOf i) ≤ length s = rw (← next-needs i, ← g .follows) t in
       rw (g .follows, follow-next inner s i (c .at))
       (told-map (part inner s (length s) (sortOf i) (c .at))
       (λ a p. onward (g .here) (g .long) λ r x f e d. Leads.inside (g .grammar) (rw (← e) (omega (arith, length-drop (c .at) s))) d)
       (part-told (sortOf i) (c .at) (omega arith)))
-  node-told at (Stop a p) l g t = t
+  node-told look at (Stop a p) l g t = t
 
 -- a marker that is none of the three marks a value
 no-bar : (m : ℕ) → eqb m 4 ≡ false → eqb m 9 ≡ false → eqb m 14 ≡ false → Bars m → ⊥
@@ -209,5 +209,5 @@ value-told zero s at bs l =
     (λ i. refuse {x = []} (record { same = byte-stood s at i .same }) (omega arith) Leads.marker (shut-refuses (getD s at 0) _)) (no-marker 0 s at l)
 value-told (suc left) s at bs l =
     rw (value-item left s at)
-    (node-told s bs left (value left s) (λ p q. soundness.sound left s p q bs) (λ q. value-told left s q bs) at (itemAt s at) l (item-ends s bs at)
+    (node-told s bs left (value left s) (λ p q. soundness.sound left s p q bs) (λ q. value-told left s q bs) (ownAt left s at) at (itemAt s at) l (item-ends s bs at)
     (item-told left s at bs l))

@@ -1,5 +1,6 @@
 -- What demand 3 says of calls of two kinds: an entry beside the value reader, and the entries beside the whole packet.
-use Rattle.wire.proofs.Kit.{ℕ, suc, _<_, _≡_, _≢_, List, [], _∷_, _++_, map, length, getD, take}
+use Rattle.wire.proofs.Kit.{ℕ, suc, _<_, _≡_, _≢_, List, [], _∷_, _++_, length, getD, take}
+use Rattle.wire.specs.Number.{Bytes}
 use Rattle.image.specs.declared.reading.Reading.{Reading}
 use Rattle.image.specs.declared.record.Record.the-variants as R
 use Rattle.image.specs.Record.{bytesOf}
@@ -7,15 +8,16 @@ use Rattle.amf0.specs.Span.{Changed, Judged}
 use Rattle.packet.specs.declared.head.Entry.{Entry}
 use Rattle.packet.specs.Reading.{recordOf}
 use Rattle.packet.specs.declared.entry.Cutting.{Cutting}
-use Rattle.packet.specs.Entry.{noEntry, span}
+use Rattle.packet.specs.Entry.{noEntry}
+use Rattle.packet.specs.Change.{knownSpans}
 use Rattle.demands.specs.Forms.{made}
 use Rattle.demands.proofs.Calls.{ParseSingleElement, ParseEntry, Cut}
 
--- What holds where s is a packet that its declared lengths cut exactly, into so many entries, as `cut` lists them, and t has other bytes inside their values and
+-- What holds where s is a packet that the cut accepts, with so many entries, as `cut` lists them, and t has other bytes inside their values with a known length and
 -- nothing else.
 abbrev pub Changes : (List ℕ → List ℕ → ℕ → Type 0) → Type 0
-Changes P =
-    (s t : List ℕ) (list left : List Entry) (c : Cutting) → Cut s list c left → c .answer ≡ 0 → Changed (map span (take (c .count) left)) s t → P s t (c .count)
+Changes P = (s t : List ℕ) (list left : List Entry) (c : Cutting) → Bytes s → Cut s list c left → c .answer ≡ 0
+    → Changed (knownSpans s (take (c .count) left)) s t → P s t (c .count)
 
 -- a call on an entry answers as the value reader does, in the same room, on the bytes v of its value alone, which begin at a place of the packet
 abbrev pub Alone : ℕ → List ℕ → (List ℕ → Reading → List ℕ → Type 0) → Type 0

@@ -5,7 +5,7 @@ use Rattle.wire.specs.Limit as limit
 use Rattle.wire.specs.Text.{insideOf}
 use Rattle.wire.proofs.Laws.{picked}
 use Rattle.image.specs.Record.{bytesOf, size}
-use Rattle.image.specs.Due.{Due, end, stop, due}
+use Rattle.image.specs.Due.{Due, end, stop, seen, due}
 use Rattle.image.specs.Whole.{Whole, bytes, accepted, refused, inRoom, settled, all}
 use Rattle.amf0.specs.Reading.{readOf}
 use Rattle.amf0.specs.Span.{Span, judge}
@@ -33,6 +33,7 @@ room-counts : (room : ℕ) (b : List ℕ) (d : Due) (f : ℕ → List ℕ → Wh
 unfolding inRoom
 room-counts room b (end n) f g h i = h n b
 room-counts room b (stop a p) f g h i = i a p
+room-counts room b (seen fact d) f g h i = room-counts room b d f g h i
 room-counts room b (due r p d) f g h i = either (leb (length b + size r) room) _ _ (room-counts room (b ++ bytesOf r) d f g h i) (none 4 p)
 
 settled-counts : (d : Due) (room : ℕ) → Counts (settled d room)

@@ -57,7 +57,7 @@ refused-just s room a p bs some other = go (listOf s room) (comes-list s room)
       λ t. let f = stopped t in let z : _≡_ {A = ℕ} 0 1 = cc in absurd (omega arith),
     )
 
--- and it accepts, but for a short list, just what the declared lengths cut exactly
+-- and it accepts, but for a short list, just what the lengths cut exactly
 accepted-just : (s : List ℕ) (room : ℕ) → Bytes s → listOf s room .cutting .answer ≢ 4 → listOf s room .cutting .answer ≡ 0 ↔ IsCut s
 accepted-just s room bs = go (listOf s room) (comes-list s room)
   where
@@ -121,7 +121,7 @@ row-tight s row c left bs a = rw (row-told a .0) (tight.cut-tight s (length row 
 
 -- ---- the lookup by number
 
--- A refusal of `nth` is 1, for an input over the limit, or 2, 3, 7 or 8.
+-- A refusal of `nth` is 1, for an input over the limit, or 2, 3, 5, 7 or 8.
 pub nth-answers : (s : List ℕ) (k answer place : ℕ) → Nth s k (Found.Stop answer place) → NthAnswer s answer
 nth-answers s k answer place a = packets.nth-answers s k answer place (sym (nth-told a))
 
@@ -174,7 +174,7 @@ cut-wider s a b x y c d e f l ne =
     listed-is s b d y f
     ∙ (cuts.cut-more s (length a) (length b) l (λ z. ne (ap (λ (q : Cutting). q .answer) (cut-told e .0) ∙ z)) ∙ sym (listed-is s a c x e))
 
--- `cut` is refused where the declared lengths do not cut the packet exactly, and then where the list is too short; else the list has the entries.
+-- `cut` is refused where the lengths do not cut the packet exactly, and then where the list is too short; else the list has the entries.
 pub cut-reasons : (s : List ℕ) (list : List Entry) (c : Cutting) (left : List Entry) → Bytes s → Cut s list c left → ComesList s (length list) (listed c left)
 cut-reasons s list c left bs a = rw (listed-is s list c left a) (why.cut-reasons s (length list) bs)
 

@@ -1,5 +1,5 @@
 -- Demand 2 of the calls, what each format says in its own way: what is accepted, and what is put out.
-use Rattle.wire.proofs.Kit.{ℕ, _*_, _≤_, _≡_, refl, sym, ap, _∙_, List, _++_, arith, Bool, true, length}
+use Rattle.wire.proofs.Kit.{ℕ, _*_, _≤_, _≡_, refl, sym, ap, _∙_, List, _++_, arith, Bool, length}
 use Rattle.wire.specs.Number.{Bytes}
 use Rattle.wire.specs.Limit as limit
 use Rattle.image.specs.declared.reading.Reading.{Reading}
@@ -129,10 +129,11 @@ pub packet-written : (p : Packet) (exact : Bool) (i text o : List ℕ) (w : Writ
 packet-written p exact i text o w y h b z =
     packets-write.written-is i text (sent w y) exact p (length o) h (sent-is (packet-puts exact) i text o w y b z)
 
--- With exact lengths it is cut into that packet's entries.
-pub packet-cuts : (p : Packet) (i text o : List ℕ) (w : Writing) (y : List ℕ) → packet-writing.Writable i text p → PacketWrite i text true o w y
-    → w .answer ≡ 0 → packets-write.CutsExactly (sent w y) p
-packet-cuts p i text o w y h b z = packets-write.cuts-exactly i text (sent w y) p (length o) h (sent-is (packet-puts true) i text o w y b z)
+-- It is cut into that packet's entries.
+pub packet-cuts : (p : Packet) (exact : Bool) (i text o : List ℕ) (w : Writing) (y : List ℕ) → packet-writing.Writable i text p
+    → PacketWrite i text exact o w y → w .answer ≡ 0 → packets-write.CutsExactly (sent w y) p
+packet-cuts p exact i text o w y h b z =
+    packets-write.cuts-exactly i text (sent w y) exact p (length o) h (sent-is (packet-puts exact) i text o w y b z)
 
 -- ---- what was read, written: that it is, in no more bytes
 

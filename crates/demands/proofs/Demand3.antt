@@ -1,5 +1,5 @@
 -- Demand 3 of the calls: two packets, and what the calls give for the one and for the other.
-use Rattle.wire.proofs.Kit.{ℕ, suc, _+_, _/_, _≤_, _<_, _≡_, refl, sym, ap, _∙_, _≢_, List, [], _∷_, _++_, map, sub-zero, arith, length, getD, take, replicate}
+use Rattle.wire.proofs.Kit.{ℕ, suc, _+_, _/_, _≤_, _<_, _≡_, refl, sym, ap, _∙_, _≢_, _⊎_, inl, inr, ⊎-elim, List, [], _∷_, _++_, true, false, sub-zero, arith, length, getD, take, replicate}
 use Rattle.wire.proofs.Kit.{length-take, ltb, le-ltb, ltb-true}
 use Rattle.wire.proofs.Laws.{picked}
 use Rattle.wire.specs.Number.{Bytes}
@@ -17,10 +17,11 @@ use Rattle.packet.specs.declared.entry.Found.the-variants as Found
 use Rattle.packet.specs.Reading.{wholeOf}
 use Rattle.packet.specs.Entry.{Cut as PacketCut, found, stops, cutOf, noEntry, Listed, listOf, foundIn, span, spanOf, readSpan, readEntry}
 use Rattle.packet.specs.Change as change
-use Rattle.packet.specs.Change.{imagesFrom}
+use Rattle.packet.specs.Change.{known, knownSpans, imagesFrom}
 use Rattle.packet.proofs.Laws.{Splits, cut-told as cut-splits, entry-chosen}
 use Rattle.packet_theorems.specs.Cuts.{CutInto, Exact}
 use Rattle.packet_theorems.proofs.Demand3 as packets
+use Rattle.packet_theorems.proofs.Theorems as calls
 use Rattle.packet_theorems.proofs.Outcome.{ComesList, comes-list}
 use Rattle.packet_theorems.proofs.CutExactly.{cut-sound}
 use Rattle.packet_theorems.proofs.SpanTheorems.{span-judged}
@@ -73,9 +74,9 @@ found-in {s} {k} {e} a = go (cutOf s) refl (nth-told a)
         (λ h f. record { entries = es; ends = n; cut = c; below = ltb-true _ _ h; same = cc })
         (λ h f. let z : _≡_ {A = ℕ} 0 1 = cc in absurd (omega arith))
 
--- "Take a packet that its declared lengths cut exactly. Change bytes inside any of its values and nothing else."
-module _ (s t : List ℕ) (list left : List Entry) (c : Cutting) (call : Cut s list c left) (ok : c .answer ≡ 0)
-    (change : Changed (map span (take (c .count) left)) s t) where
+-- "Take a packet that the cut accepts. Change bytes inside any of its values with a known length and nothing else."
+module _ (s t : List ℕ) (list left : List Entry) (c : Cutting) (bs : Bytes s) (call : Cut s list c left) (ok : c .answer ≡ 0)
+    (change : Changed (knownSpans s (take (c .count) left)) s t) where
   -- its entries,
   abbrev es : List Entry
   es = take (c .count) left
@@ -92,18 +93,18 @@ module _ (s t : List ℕ) (list left : List Entry) (c : Cutting) (call : Cut s l
 
   -- `nth` gives the same entry: its kind, its flag, and the places and lengths of its texts and of its value.
   pub same-nth : (k : ℕ) (f g : Found) → Nth s k f → Nth t k g → g ≡ f
-  same-nth k f g a b = nth-told b ∙ (ap (λ x. foundIn x k) (packets.same-cut s t es n cut change) ∙ sym (nth-told a))
+  same-nth k f g a b = nth-told b ∙ (ap (λ x. foundIn x k) (packets.same-cut s t es n bs cut change) ∙ sym (nth-told a))
 
   -- `cut` returns the same, and leaves the same entries in a list of the same size.
   pub same-cut : (a b x y : List Entry) (d f : Cutting) → Cut s a d x → Cut t b f y → length b ≡ length a → (f ≡ d) × (y ≡ x)
   same-cut u v x y d f a b l =
-      let e = same-list s t es n (length u) cut change in
+      let e = same-list s t es n (length u) bs cut change in
       (rw (l, e) at (cut-told b .0) ∙ sym (cut-told a .0), rw (l, e) at (cut-told b .1) ∙ sym (cut-told a .1))
 
   -- So does the cut into a row of numbers.
   pub same-row : (a b x y : List ℕ) (d f : Cutting) → RowCut s a d x → RowCut t b f y → length b ≡ length a → (f ≡ d) × (y ≡ x)
   same-row u v x y d f a b l =
-      let e = same-list s t es n (length u / 8) cut change in
+      let e = same-list s t es n (length u / 8) bs cut change in
       (rw (l, e) at (row-told b .0) ∙ sym (row-told a .0), rw (l, e) at (row-told b .1) ∙ sym (row-told a .1))
 
   -- an entry that `nth` finds is one of the cut
@@ -118,14 +119,14 @@ module _ (s t : List ℕ) (list left : List Entry) (c : Cutting) (call : Cut s l
   pub same-first : (k : ℕ) (e : Entry) (x y : List ℕ) → Nth s k (Found.Is e) → Part s (e .place1) (e .length1) x → Part t (e .place1) (e .length1) y → y ≡ x
   same-first k e x y a p q =
       let (h, f) = found-at a in
-      let b : bytesAt (e .length1) t (e .place1) ≡ bytesAt (e .length1) s (e .place1) = rw f (packets.same-first s t es n cut change k h) in
+      let b : bytesAt (e .length1) t (e .place1) ≡ bytesAt (e .length1) s (e .place1) = rw f (packets.same-first s t es n bs cut change k h) in
       part-told q ∙ (same-part s t (e .place1) (e .length1) (change .long) b ∙ sym (part-told p))
 
   -- The second text is a message's response; a header has an empty one.
   pub same-second : (k : ℕ) (e : Entry) (x y : List ℕ) → Nth s k (Found.Is e) → Part s (e .place2) (e .length2) x → Part t (e .place2) (e .length2) y → y ≡ x
   same-second k e x y a p q =
       let (h, f) = found-at a in
-      let b : bytesAt (e .length2) t (e .place2) ≡ bytesAt (e .length2) s (e .place2) = rw f (packets.same-second s t es n cut change k h) in
+      let b : bytesAt (e .length2) t (e .place2) ≡ bytesAt (e .length2) s (e .place2) = rw f (packets.same-second s t es n bs cut change k h) in
       part-told q ∙ (same-part s t (e .place2) (e .length2) (change .long) b ∙ sym (part-told p))
 
   -- ---- "every untouched value answers as before", in the same room
@@ -133,8 +134,15 @@ module _ (s t : List ℕ) (list left : List Entry) (c : Cutting) (call : Cut s l
   -- By its number: `parse_entry` returns and leaves the same.
   pub untouched : (k : ℕ) (e : Entry) → Nth s k (Found.Is e) → spanOf t e ≡ spanOf s e → Same (ParseEntry s k) (ParseEntry t k)
   untouched k e f u i j x y r q a b =
-      same-read (λ room. packets.untouched s t es n cut change k room (rw (found-at f .1) at u)) i j x y r q
+      same-read (λ room. packets.untouched s t es n bs cut change k room (rw (found-at f .1) at u)) i j x y r q
       (entry-reads k .told s i r x a) (entry-reads k .told t j q y b)
+
+  -- A value whose length is not known is untouched.
+  pub unknown-same : (k : ℕ) (e : Entry) → Nth s k (Found.Is e) → known s e ≡ false → Same (ParseEntry s k) (ParseEntry t k)
+  unknown-same k e f u i j x y r q a b =
+      let (h, g) = found-at f in
+      same-read (λ room. packets.unknown-same s t es n bs cut change k room h (rw g at u)) i j x y r q (entry-reads k .told s i r x a)
+      (entry-reads k .told t j q y b)
 
   -- By its place and length, as those of any part of the packet: so does `parse_span`.
   pub untouched-span : (p m : ℕ) → bytesAt m t p ≡ bytesAt m s p → Same (ParseSpan s p m) (ParseSpan t p m)
@@ -147,7 +155,7 @@ module _ (s t : List ℕ) (list left : List Entry) (c : Cutting) (call : Cut s l
   pub changed : (k : ℕ) (e : Entry) → Nth s k (Found.Is e) → Alone (e .place) (spanOf t e) (ParseEntry t k)
   changed k e f i j x y r q a b l =
       let (h, g) = found-at f in
-      rw (made-is value-reads (spanOf t e) i r x a, made-is (entry-reads k) t j q y b, l, g) (packets.changed s t es n cut change k (length i) h)
+      rw (made-is value-reads (spanOf t e) i r x a, made-is (entry-reads k) t j q y b, l, g) (packets.changed s t es n bs cut change k (length i) h)
 
   -- By its place and length.
   pub changed-span : (k : ℕ) (e : Entry) → Nth s k (Found.Is e) → Alone (e .place) (spanOf t e) (ParseSpan t (e .place) (e .length))
@@ -162,12 +170,12 @@ module _ (s t : List ℕ) (list left : List Entry) (c : Cutting) (call : Cut s l
   pub past-nth : (k : ℕ) (g : Found) → c .count ≤ k → Nth t k g → g ≡ Found.Stop 8 0
   past-nth k g h a =
       let l : length es ≤ k = omega (arith, length-take (c .count) left) in
-      nth-told a ∙ rw (packets.same-cut s t es n cut change, cut, le-ltb k (length es) l) refl
+      nth-told a ∙ rw (packets.same-cut s t es n bs cut change, cut, le-ltb k (length es) l) refl
 
   -- and so it is for the value.
   pub past : (k : ℕ) (j : List ℕ) (q : Reading) (y : List ℕ) → c .count ≤ k → ParseEntry t k j q y → (q ≡ refused 8 0 .reading) × (y ≡ replicate (length j) 0)
   past k j q y h a =
-      let e = packets.past s t es n cut change k (length j) (omega (arith, length-take (c .count) left)) in
+      let e = packets.past s t es n bs cut change k (length j) (omega (arith, length-take (c .count) left)) in
       let b = entry-reads k .told t j q y a in
       (b .returns ∙ ap (λ (w : Whole). w .reading) e, b .leaves ∙ rw e (ap (λ m. replicate m 0) (sub-zero (length j))))
 
@@ -189,19 +197,31 @@ cut-span s list c left k a h i j x y r q b d =
     same-read (λ room. rw (cut-told a .1) (cuts.cut-span s (length list) k room (rw (cut-told a .0) at h))) i j x y r q (entry-reads k .told s i r x b)
     (span-reads (e .place) (e .length) .told s j q y d)
 
--- Where bytes inside one value alone are changed, one marker or all of it, every other entry answers as before.
-pub neighbours : (s t : List ℕ) (m k : ℕ) (d e : Entry) → Nth s m (Found.Is d) → Changed (span d ∷ []) s t → Nth s k (Found.Is e) → k ≢ m
-    → Same (ParseEntry s k) (ParseEntry t k)
-neighbours s t m k d e a change b other i j x y r q u v =
+-- Where bytes inside one value with a known length alone are changed, one marker or all of it, every other entry answers as before.
+pub neighbours : (s t : List ℕ) (m k : ℕ) (d e : Entry) → Bytes s → Nth s m (Found.Is d) → known s d ≡ true → Changed (span d ∷ []) s t
+    → Nth s k (Found.Is e) → k ≢ m → Same (ParseEntry s k) (ParseEntry t k)
+neighbours s t m k d e bs a told change b other i j x y r q u v =
     let f = found-in a in
     let g = found-in b in
     let h : found (f .entries) (f .ends) ≡ found (g .entries) (g .ends) = sym (f .cut) ∙ g .cut in
     let same : g .entries ≡ f .entries = cc in
     let part : Changed (span (getD (f .entries) m noEntry) ∷ []) s t = rw (f .same) at change in
-    same-read (λ room. packets.neighbours s t (f .entries) (f .ends) m (f .cut) (f .below) part k room (rw same at (g .below)) other) i j x y r q
+    let here : known s (getD (f .entries) m noEntry) ≡ true = rw (f .same) at told in
+    same-read (λ room. packets.neighbours s t (f .entries) (f .ends) m bs (f .cut) (f .below) here part k room (rw same at (g .below)) other) i j x y r q
     (entry-reads k .told s i r x u) (entry-reads k .told t j q y v)
 
--- ---- "Where the whole-packet reader accepts a packet with exact lengths, entry reading in that room gives the same values."
+-- An entry whose length is not known was measured: it is accepted, and uses the length that it was measured to have, or it is refused with 4.
+pub measured : (s : List ℕ) (k : ℕ) (e : Entry) (i : List ℕ) (r : Reading) (x : List ℕ) → Bytes s → Nth s k (Found.Is e) → known s e ≡ false
+    → ParseEntry s k i r x → ((r .answer ≡ 0) × (r .used ≡ e .length)) ⊎ (r .answer ≡ 4)
+measured s k e i r x bs a u b =
+    let f = found-in a in
+    let w = entry-reads k .told s i r x b .returns in
+    rw (w, f .same)
+    (⊎-elim (λ z. inl (ap (λ (v : Whole). v .reading .answer) z, ap (λ (v : Whole). v .reading .used) z))
+    (λ z. inr (ap (λ (v : Whole). v .reading .answer) (z .1)))
+    (calls.measured-read s (f .entries) (f .ends) k (length i) bs (f .cut) (f .below) (rw (f .same) at u)))
+
+-- ---- "Where the whole-packet reader accepts a packet whose lengths are exact or not known, entry reading in that room gives the same values."
 
 -- the image of entries, by what was made of each
 same-images : (s : List ℕ) (room : ℕ) (f : ℕ → List ℕ) (k : ℕ) (es : List Entry) → ((j : ℕ) → k ≤ j → j < k + length es → f j ≡ readEntry s j room .bytes)

@@ -2,7 +2,7 @@
 -- its arguments, its result and what it left: `ParseSingleElement s i r x` is a call of `parse_single_element` on the input s and the image i, which returned r
 -- and left x in the image (`Calls.antt`). What is said of every reader, or of every writer, has a form with a name (`specs/Forms.antt`). `Bytes s`
 -- says that s is a row of bytes, as what stands in a slice of bytes is.
-use Rattle.wire.proofs.Kit.{ℕ, _*_, _/_, _≤_, _<_, _≡_, ap, _∙_, _≢_, _↔_, inl, List, [], _∷_, _++_, Bool, true, arith, length, getD, take, replicate}
+use Rattle.wire.proofs.Kit.{ℕ, _*_, _/_, _≤_, _<_, _≡_, ap, _∙_, _≢_, _↔_, _⊎_, inl, List, [], _∷_, _++_, Bool, true, false, arith, length, getD, take, replicate}
 use Rattle.wire.specs.Number.{Bytes}
 use Rattle.wire.specs.Field.{bytesAt}
 use Rattle.wire.specs.Limit as limit
@@ -38,6 +38,7 @@ use Rattle.packet.specs.Packet.{Packet, Encoded}
 use Rattle.packet.specs.Shown.{Within}
 use Rattle.packet.specs.Reading.{packetAt}
 use Rattle.packet.specs.Entry.{noEntry, span, spanOf}
+use Rattle.packet.specs.Change.{known}
 use Rattle.packet_theorems.specs.Cuts.{CutInto, Exact}
 use Rattle.packet_theorems.specs.Refusal.{Seven, RefusedCut}
 use Rattle.packet_theorems.specs.Why as packet-why
@@ -73,7 +74,7 @@ use Rattle.packet_theorems.proofs.Dues as packets-place
 use Rattle.demands.proofs.Demand1 as one
 use Rattle.demands.proofs.Short as short
 use Rattle.demands.proofs.Tight as tight
-use Rattle.demands.proofs.Uncut.{AfterCut, entry-uncut}
+use Rattle.demands.proofs.Uncut.{AfterCut, entry-not-cut, entry-uncut}
 use Rattle.demands.proofs.Starred.{AllHold, examples}
 use Rattle.demands.proofs.CDemand1 as c
 use Rattle.demands.proofs.Demand2 as two
@@ -96,7 +97,7 @@ pub record Demand1 : Type 0 where
   pub packet-incomplete-answers : Answers calls.Answer PacketParseIncomplete
   pub entry-answers : (k : ℕ) → Answers calls.EntryAnswer λ s. ParseEntry s k
   pub span-answers : (p n : ℕ) → Answers (OneOf 0 (1 ∷ 4 ∷ 5 ∷ 8 ∷ 9 ∷ [])) λ s. ParseSpan s p n
-  -- of a cut 0 to 4 or 7, of a lookup that finds nothing 1, 2, 3, 7 or 8,
+  -- of a cut 0 to 5 or 7, of a lookup that finds nothing 1, 2, 3, 5, 7 or 8,
   pub cut-answers : CutAnswers CutAnswer Cut
   pub row-answers : CutAnswers CutAnswer RowCut
   pub nth-answers : (s : List ℕ) (k answer place : ℕ) → Nth s k (Found.Stop answer place) → calls.NthAnswer s answer
@@ -182,10 +183,11 @@ pub record Demand1 : Type 0 where
   pub packet-incomplete-short : ShortInRoom IsPacket PacketParseIncomplete
   pub entry-short : (k : ℕ) → Short Cuttable λ s. ParseEntry s k
   -- and so it is where it is cut. But for a list that is too short, or a number that is too high, a cut is refused with an answer at a place just where a field
-  -- there refuses so; and so is an entry, but for the answers that come once the packet is cut.
+  -- there refuses so. Every entry is then refused alike, and only then, but for the answers that also come once the packet is cut.
   pub cut-refused : (a : ℕ) → a ≢ 0 → a ≢ 4 → CutJustAt a (λ s. RefusedCut s a) Cut
   pub row-refused : (a : ℕ) → a ≢ 0 → a ≢ 4 → CutJustAt a (λ s. RefusedCut s a) RowCut
   pub entry-refused : (k a : ℕ) → (AfterCut a → ⊥) → JustAt a (λ s room. RefusedCut s a) λ s. ParseEntry s k
+  pub entry-not-cut : (s i : List ℕ) (k a p : ℕ) (r : Reading) (x : List ℕ) → Bytes s → RefusedCut s a p → ParseEntry s k i r x → (r .answer ≡ a) × (r .used ≡ p)
   pub nth-refused : (s : List ℕ) (k a p : ℕ) (f : Found) → Bytes s → a ≢ 8 → Nth s k f → f ≡ Found.Stop a p ↔ RefusedCut s a p
   pub cut-seven : CutJust 7 (λ s. (length s ≤ limit.bytes) × Seven s) Cut
   pub row-seven : CutJust 7 (λ s. (length s ≤ limit.bytes) × Seven s) RowCut
@@ -348,6 +350,9 @@ demand1 =
       entry-refused = λ k a other.
           law.just-at (entry-reads k) a (λ z. other (inl z)) (λ s. calls.entry-refused s k) (λ s room. RefusedCut s a)
           λ s room p bs l. entry-uncut s k room a p bs other;
+      entry-not-cut = λ s i k a p r x bs t b.
+          let e = ap (λ (w : Whole). w .reading) (entry-not-cut s k (length i) a p bs t) in
+          rw (entry-reads k .told s i r x b .returns) (ap (λ (q : Reading). q .answer) e, ap (λ (q : Reading). q .used) e);
       nth-refused = one.nth-refused;
       cut-seven = one.cutter-seven one.cuts-list;
       row-seven = one.cutter-seven one.cuts-row;
@@ -457,8 +462,8 @@ pub record Demand2 : Type 0 where
   pub entry-complete : (s : List ℕ) (k : ℕ) (e : Entry) (t : Tree Sort.value) (i : List ℕ) (r : Reading) (left : List ℕ) → Bytes s → Nth s k (Found.Is e)
       → Encodes Sort.value t (spanOf s e) → depth t ≤ limit.levels → 3 * length (spanOf s e) ≤ length i → ParseEntry s k i r left
       → packets.Gives s t (e .length) (made r left)
-  -- The writers put out just what an image holds: a tree in its shortest form, a file with its length, a packet with its lengths as asked for; and with exact
-  -- lengths it is cut into its entries.
+  -- The writers put out just what an image holds: a tree in its shortest form, a file with its length, a packet with its lengths as asked for; and in either
+  -- setting it is cut into its entries.
   pub value-writes : Writes HoldsValue WriteValue
   pub value-shortest : (t : Tree Sort.value) (i text o : List ℕ) (w : Writing) (y : List ℕ) → value-writing.Writable i text t → WriteValue i text o w y
       → w .answer ≡ 0 → value-writing.Shortest t (sent w y)
@@ -468,8 +473,8 @@ pub record Demand2 : Type 0 where
   pub packet-writes : (exact : Bool) → Writes (HoldsPacket exact) λ i t. PacketWrite i t exact
   pub packet-written : (p : Packet) (exact : Bool) (i text o : List ℕ) (w : Writing) (y : List ℕ) → packet-writing.Writable i text p
       → PacketWrite i text exact o w y → w .answer ≡ 0 → packets-write.WrittenAs exact p (sent w y)
-  pub packet-cuts : (p : Packet) (i text o : List ℕ) (w : Writing) (y : List ℕ) → packet-writing.Writable i text p → PacketWrite i text true o w y
-      → w .answer ≡ 0 → packets-write.CutsExactly (sent w y) p
+  pub packet-cuts : (p : Packet) (exact : Bool) (i text o : List ℕ) (w : Writing) (y : List ℕ) → packet-writing.Writable i text p
+      → PacketWrite i text exact o w y → w .answer ≡ 0 → packets-write.CutsExactly (sent w y) p
   -- A tree that was read is written, in no more bytes than were consumed, and what was written in full reads back, given room, as the same tree, texts and
   -- number bits included: one tree, file or packet is what both rows of bytes encode and both images hold. Only text places and the stored file length may
   -- differ: `alike`. The room is three times what was written, any that is not refused for room, or that of the first reading. To write it once more changes
@@ -591,10 +596,11 @@ demand2 =
 -- ---- 3. "Take a packet that its declared lengths cut exactly. Change bytes inside any of its values and nothing else. Read by entry with the same room, every
 -- name, flag and address, and every untouched value, answers as before. A changed value answers as the value reader does on those bytes alone, places shifted:
 -- refusals for room or depth stand, and anything malformed, short or not used to the end is damaged. Where the whole-packet reader accepts a packet with exact
--- lengths, entry reading in that room gives the same values."
+-- lengths, entry reading in that room gives the same values." A length may also say that it is not known: "Demand 3 covers changes in values with a known length;
+-- other bytes stay fixed."
 
 pub record Demand3 : Type 0 where
-  -- A packet that its declared lengths cut exactly: `cut` accepts just that, where its list is not too short, and leaves its headers and messages, one by one.
+  -- A packet that its lengths cut exactly: `cut` accepts just that, where its list is not too short, and leaves its headers and messages, one by one.
   pub cut-exactly : CutExactly IsCut Cut
   pub row-exactly : CutExactly IsCut RowCut
   pub cut-into : (s : List ℕ) (list : List Entry) (c : Cutting) (left : List Entry) → Bytes s → Cut s list c left → c .answer ≡ 0
@@ -604,8 +610,11 @@ pub record Demand3 : Type 0 where
       → f ≡ Found.Is (getD left k noEntry)
   pub cut-span : (s : List ℕ) (list : List Entry) (c : Cutting) (left : List Entry) (k : ℕ) → Cut s list c left → k < c .count
       → let e = getD left k noEntry in Same (ParseEntry s k) (ParseSpan s (e .place) (e .length))
-  -- Change bytes inside any of its values and nothing else: `Changes` takes such an s, and a t with other bytes inside the values that `cut` lists. Every flag,
-  -- and every place and length, answers as before, by number, in a list and in a row;
+  -- An entry whose length is not known was measured: it is accepted, and uses the length that it was measured to have, or it is refused with 4.
+  pub measured : (s : List ℕ) (k : ℕ) (e : Entry) (i : List ℕ) (r : Reading) (x : List ℕ) → Bytes s → Nth s k (Found.Is e) → known s e ≡ false
+      → ParseEntry s k i r x → ((r .answer ≡ 0) × (r .used ≡ e .length)) ⊎ (r .answer ≡ 4)
+  -- Change bytes inside any of its values with a known length and nothing else: `Changes` takes such an s, and a t with other bytes inside those of the values
+  -- that `cut` lists. Every flag, and every place and length, answers as before, by number, in a list and in a row;
   pub same-nth : Changes λ s t n. (k : ℕ) (f g : Found) → Nth s k f → Nth t k g → g ≡ f
   pub same-cut : Changes λ s t n. (a b x y : List Entry) (d f : Cutting) → Cut s a d x → Cut t b f y → length b ≡ length a → (f ≡ d) × (y ≡ x)
   pub same-row : Changes λ s t n. (a b x y : List ℕ) (d f : Cutting) → RowCut s a d x → RowCut t b f y → length b ≡ length a → (f ≡ d) × (y ≡ x)
@@ -614,11 +623,13 @@ pub record Demand3 : Type 0 where
       → Part t (e .place1) (e .length1) y → y ≡ x
   pub same-second : Changes λ s t n. (k : ℕ) (e : Entry) (x y : List ℕ) → Nth s k (Found.Is e) → Part s (e .place2) (e .length2) x
       → Part t (e .place2) (e .length2) y → y ≡ x
-  -- Every untouched value answers as before, by number and by its place and length; and so does every other entry where one alone is changed.
+  -- Every untouched value answers as before, by number and by its place and length, and those whose length is not known are untouched; and so does every other
+  -- entry where one alone is changed.
   pub untouched : Changes λ s t n. (k : ℕ) (e : Entry) → Nth s k (Found.Is e) → spanOf t e ≡ spanOf s e → Same (ParseEntry s k) (ParseEntry t k)
   pub untouched-span : Changes λ s t n. (p m : ℕ) → bytesAt m t p ≡ bytesAt m s p → Same (ParseSpan s p m) (ParseSpan t p m)
-  pub neighbours : (s t : List ℕ) (m k : ℕ) (d e : Entry) → Nth s m (Found.Is d) → Changed (span d ∷ []) s t → Nth s k (Found.Is e) → k ≢ m
-      → Same (ParseEntry s k) (ParseEntry t k)
+  pub unknown-same : Changes λ s t n. (k : ℕ) (e : Entry) → Nth s k (Found.Is e) → known s e ≡ false → Same (ParseEntry s k) (ParseEntry t k)
+  pub neighbours : (s t : List ℕ) (m k : ℕ) (d e : Entry) → Bytes s → Nth s m (Found.Is d) → known s d ≡ true → Changed (span d ∷ []) s t
+      → Nth s k (Found.Is e) → k ≢ m → Same (ParseEntry s k) (ParseEntry t k)
   -- A changed value answers as the value reader does on those bytes alone, places shifted, by number and by its place and length.
   pub changed : Changes λ s t n. (k : ℕ) (e : Entry) → Nth s k (Found.Is e) → Alone (e .place) (spanOf t e) (ParseEntry t k)
   pub changed-span : Changes λ s t n. (k : ℕ) (e : Entry) → Nth s k (Found.Is e) → Alone (e .place) (spanOf t e) (ParseSpan t (e .place) (e .length))
@@ -626,7 +637,8 @@ pub record Demand3 : Type 0 where
   pub past-nth : Changes λ s t n. (k : ℕ) (g : Found) → n ≤ k → Nth t k g → g ≡ Found.Stop 8 0
   pub past : Changes λ s t n. (k : ℕ) (j : List ℕ) (q : Reading) (y : List ℕ) → n ≤ k → ParseEntry t k j q y
       → (q ≡ refused 8 0 .reading) × (y ≡ replicate (length j) 0)
-  -- Where the whole-packet reader accepts a packet with exact lengths, entry reading in that room gives the same values: their images stand in the whole one.
+  -- Where the whole-packet reader accepts a packet whose lengths are exact or not known, entry reading in that room gives the same values: their images stand in
+  -- the whole one.
   pub agreement : (s i : List ℕ) (r : Reading) (x : List ℕ) → Bytes s → Exact s → PacketParse s i r x → r .answer ≡ 0 → Agrees s (length i) (take (r .made) x)
 
 pub demand3 : Demand3
@@ -637,6 +649,7 @@ demand3 =
       cut-into = three.cut-into;
       cut-nth = three.cut-nth;
       cut-span = three.cut-span;
+      measured = three.measured;
       same-nth = three.same-nth;
       same-cut = three.same-cut;
       same-row = three.same-row;
@@ -644,6 +657,7 @@ demand3 =
       same-second = three.same-second;
       untouched = three.untouched;
       untouched-span = three.untouched-span;
+      unknown-same = three.unknown-same;
       neighbours = three.neighbours;
       changed = three.changed;
       changed-span = three.changed-span;

@@ -9,7 +9,9 @@ use Rattle.image.specs.Out.{Poured}
 use Rattle.wire.proofs.text as text
 use Rattle.image.proofs.taking as taking
 use Rattle.image.proofs.building as building
+use Rattle.amf0.specs.Survey.{Told}
 use Rattle.amf0.proofs.read as value-read
+use Rattle.amf0.proofs.survey as survey
 use Rattle.amf0.proofs.write as value-write
 use Rattle.lso.proofs.read as file-read
 use Rattle.lso.proofs.write as file-write
@@ -19,6 +21,7 @@ use Rattle.packet.proofs.entry as entry
 use Rattle.packet.proofs.EntryCutKinds as CutKinds
 use Rattle.packet.proofs.EntryCutReads as CutReads
 use Rattle.packet.proofs.row as row
+use Rattle.packet.proofs.walk as walk
 use Rattle.index.proofs.make as make
 use Rattle.index.proofs.find as finding
 use Rattle.index_theorems.proofs.Determined.{index-determined}
@@ -40,6 +43,8 @@ pub record EveryCall : Type 0 where
   pub parse-single-element : Firm value-read.parse_single_element.Kinds.ps value-read.parse_single_element.Kinds.r
       value-read.parse_single_element.Reads.Asked value-read.parse_single_element.Reads.Post
   pub parse-value : Firm value-read.parse_value.Kinds.ps value-read.parse_value.Kinds.r value-read.parse_value.Reads.Asked value-read.parse_value.Reads.Post
+  pub measure : Firm value-read.measure.Kinds.ps value-read.measure.Kinds.r value-read.measure.Reads.Asked value-read.measure.Reads.Post
+  pub survey-value : Firm survey.survey_value.Kinds.ps survey.survey_value.Kinds.r survey.survey_value.Reads.Asked survey.survey_value.Reads.Post
   pub write-value : Firm value-write.write_value.Kinds.ps value-write.write_value.Kinds.r value-write.write_value.Reads.Asked value-write.write_value.Reads.Post
   pub pour-value : Firm value-write.pour_value.Kinds.ps value-write.pour_value.Kinds.r value-write.pour_value.Reads.Asked value-write.pour_value.Reads.Post
   pub value-at : Firm value-write.value_at.Kinds.ps value-write.value_at.Kinds.r value-write.value_at.Reads.Asked value-write.value_at.Reads.Post
@@ -55,6 +60,7 @@ pub record EveryCall : Type 0 where
       packet-read.parse_incomplete.Reads.Asked packet-read.parse_incomplete.Reads.Post
   pub packet-write-to-bytes : Firm packet-write.write_to_bytes.Kinds.ps packet-write.write_to_bytes.Kinds.r
       packet-write.write_to_bytes.Reads.Asked packet-write.write_to_bytes.Reads.Post
+  pub entry-at : Firm walk.entry_at.Kinds.ps walk.entry_at.Kinds.r walk.entry_at.Reads.Asked walk.entry_at.Reads.Post
   pub nth : Firm entry.nth.Kinds.ps entry.nth.Kinds.r entry.nth.Reads.Asked entry.nth.Reads.Post
   pub cut : Firm CutKinds.ps CutKinds.r CutReads.Asked CutReads.Post
   pub row-cut : Firm row.cut.Kinds.ps row.cut.Kinds.r row.cut.Reads.Asked row.cut.Reads.Post
@@ -144,6 +150,10 @@ every-call =
       parse-value = firm (λ κs a. tt) λ κs a o p.
           let e = same (o .ensures .0) (p .ensures .0) in
           (ap (λ (x : Ran). x .step) e, λ i. (e i .image, (tt, (tt, (tt, (tt, tt))))));
+      measure = firm (λ κs a. tt) λ κs a o p. plain (o .ensures .0) (p .ensures .0);
+      survey-value = firm (λ κs a. tt) λ κs a o p.
+          let e = same (o .ensures .0) (p .ensures .0) in
+          (ap (λ (x : Told). x .ended) e, λ i. (e i .counts, (tt, (tt, (tt, tt)))));
       write-value = firm (λ κs a. tt) λ κs a o p. one-left (λ x. (tt, (tt, (x, tt)))) (o .ensures) (p .ensures);
       pour-value = firm (λ κs a. tt) λ κs a o p.
           let e = same (o .ensures .0) (p .ensures .0) in
@@ -155,6 +165,7 @@ every-call =
       packet-parse = firm (λ κs a. tt) λ κs a o p. one-left (λ x. (tt, (x, tt))) (o .ensures) (p .ensures);
       packet-parse-incomplete = firm (λ κs a. tt) λ κs a o p. one-left (λ x. (tt, (x, tt))) (o .ensures) (p .ensures);
       packet-write-to-bytes = firm (λ κs a. tt) λ κs a o p. one-left (λ x. (tt, (tt, (tt, (x, tt))))) (o .ensures) (p .ensures);
+      entry-at = firm (λ κs a. tt) λ κs a o p. plain (o .ensures) (p .ensures);
       nth = firm (λ κs a. tt) λ κs a o p. plain (o .ensures) (p .ensures);
       cut = firm (λ κs a. tt) λ κs a o p. one-left (λ x. (tt, (x, tt))) (o .ensures) (p .ensures);
       row-cut = firm (λ κs a. tt) λ κs a o p. one-left (λ x. (tt, (x, tt))) (o .ensures) (p .ensures);

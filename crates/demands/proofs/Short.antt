@@ -65,6 +65,6 @@ packet-incomplete-short =
     short-in-room packet-incomplete-reads IsPacket λ s q room y l h ne.
     packets.incomplete-beginning (y .0) s q room (y .1) (y .2) l h ne
 
--- and by entry, of a packet that its declared lengths cut exactly, in every room.
+-- and by entry, of a packet that its lengths cut exactly, in every room.
 pub entry-short : (k : ℕ) → Short Cuttable λ s. ParseEntry s k
 entry-short k = short (entry-reads k) Cuttable λ s q room y l h. packets.entry-beginning s q (y .0) (y .3) l h k room

@@ -76,7 +76,7 @@ as-many s [] (e ∷ es) t = absurd t
 as-many s (i ∷ is) [] t = absurd t
 as-many s (i ∷ is) (e ∷ es) t = omega (arith, as-many s is es (t .1))
 
--- A cut is 4 just where the declared lengths cut the packet exactly, into more entries than the list has.
+-- A cut is 4 just where the lengths cut the packet exactly, into more entries than the list has.
 pub cut-tight : (s : List ℕ) (room : ℕ) → Bytes s → listOf s room .cutting .answer ≡ 4 ↔ TightCut s room
 cut-tight s room bs = (
   λ z.

@@ -33,14 +33,19 @@ module _ (s : List ℕ) (k room : ℕ) where
           omega (arith, h .short)
 
   -- and so does a number past the last
-  cut-answers : (es : List Entry) (n : ℕ) → cutOf s ≡ found es n → AfterCut (readEntry s k room .reading .answer)
-  cut-answers es n c =
+  cut-answers : (es : List Entry) (n : ℕ) → Bytes s → cutOf s ≡ found es n → AfterCut (readEntry s k room .reading .answer)
+  cut-answers es n bs c =
       picked {A = Found} (λ f. foundIn (cutOf s) k ≡ f → AfterCut (readEntry s k room .reading .answer)) (ltb k (length es))
       (Found.Is (getD es k noEntry)) (Found.Stop 8 0) (λ h f. found-answers (getD es k noEntry) f)
-      (λ h f. rw (packets.past s s es n c (record { long = refl; same = λ i b. refl }) k room (ltb-false k (length es) h)) (inr (inr (inr (inl refl)))))
+      (λ h f. rw (packets.past s s es n bs c (record { long = refl; same = λ i b. refl }) k room (ltb-false k (length es) h)) (inr (inr (inr (inl refl)))))
       (ap (λ x. foundIn x k) c)
 
--- Any other answer is given at a place just where a field there refuses the packet.
+-- A packet that the cut refuses at a place refuses every entry so.
+pub entry-not-cut : (s : List ℕ) (k room a p : ℕ) → Bytes s → RefusedCut s a p → readEntry s k room ≡ refused a p
+unfolding readEntry
+entry-not-cut s k room a p bs t = rw (cut-refused-exactly s a p bs .1 t)
+
+-- An answer that does not come where a packet is cut is given at a place just where a field there refuses the packet.
 pub entry-uncut : (s : List ℕ) (k room a p : ℕ) → Bytes s → (AfterCut a → ⊥) → readEntry s k room ≡ refused a p ↔ RefusedCut s a p
 unfolding readEntry
 entry-uncut s k room a p bs other = go (cutOf s) refl
@@ -51,6 +56,6 @@ entry-uncut s k room a p bs other = go (cutOf s) refl
       λ t. ap (λ x. entryIn s x k room) (sym e ∙ cut-refused-exactly s a p bs .1 t),
     )
     go (found es n) e = (
-      λ z. absurd (other (rw (ap (λ (w : Whole). w .reading .answer) z) at (cut-answers s k room es n e))),
+      λ z. absurd (other (rw (ap (λ (w : Whole). w .reading .answer) z) at (cut-answers s k room es n bs e))),
       λ t. let f = cut-refused-exactly s a p bs .1 t in let z : _≡_ {A = ℕ} 0 1 = cc in absurd (omega arith),
     )

@@ -37,7 +37,7 @@ IsHeader s = Bytes s × Heads s (length s)
 abbrev pub IsPacket : List ℕ → Type 0
 IsPacket s = (p : Packet) × Encoded p s × Within limit.levels p
 
--- a packet that its declared lengths cut exactly, whatever stands in its values, and that is not over the limit
+-- a packet that its lengths cut exactly, whatever stands in its values of a known length, and that is not over the limit
 abbrev pub IsCut : List ℕ → Type 0
 IsCut s = (hs : List Slice) × (ms : List Slice) × Cuts hs ms s × (length s ≤ limit.bytes)
 
@@ -59,7 +59,7 @@ TightFile s room = (p : ℕ) × Heads s p × (room < length (bytes (everDue s p)
 abbrev pub FullFile : List ℕ → (room place : ℕ) → Type 0
 FullFile s room q = (p : ℕ) × Heads s p × Lacks (everDue s p) 0 room q
 
--- for the entries of a packet that its declared lengths cut exactly
+-- for the entries of a packet that its lengths cut exactly
 abbrev pub TightCut : List ℕ → ℕ → Type 0
 TightCut s room = (hs : List Slice) × (ms : List Slice) × Cuts hs ms s × (length s ≤ limit.bytes) × (room < length (hs ++ ms))
 

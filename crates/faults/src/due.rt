@@ -240,7 +240,7 @@ fn behind_padding(s: Spot, end: usize, more: u8) -> Spot {
     }
 }
 
-// A cut goes on behind the value that a length declares.
+// A cut goes on behind the value that a length declares, and into one whose length is not known.
 fn behind_length(input: &[u8], levels: &mut Levels, s: Spot, end: usize) -> Spot {
     let length = long_at(input, s.at);
     if s.cut {

@@ -69,7 +69,7 @@ pub enum Part {
     Value,
 }
 
-// A field of so many bytes at a place, in so many containers. A cut steps over values by the lengths that are declared.
+// A field of so many bytes at a place, in so many containers. A cut steps over values whose length is known.
 pub struct Spot {
     pub at: usize,
     pub field: Field,

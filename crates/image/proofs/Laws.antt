@@ -16,7 +16,7 @@ use Rattle.image.specs.declared.record.Record.the-variants.{Number, Bool
 use Rattle.image.specs.declared.reading.Step.{Step}
 use Rattle.image.specs.declared.reading.Step.the-variants.{Next, Stop}
 use Rattle.image.specs.Record.{_bytes_, layoutOf, bytesIn, sizeIn, bytesOf, size, placed, moved, fieldBytes}
-use Rattle.image.specs.Due.{Due, end, stop, due, _>>=_, based, Ran, ran, run, Within, put}
+use Rattle.image.specs.Due.{Due, Fact, end, stop, seen, due, _>>=_, based, Ran, ran, run, Within, put}
 use Rattle.image.specs.Whole.{padded}
 
 -- ---- a record's size
@@ -131,16 +131,19 @@ module _ (image : List ℕ) (at : ℕ) where
 pub bind-assoc : (d : Due) (j k : ℕ → Due) → (d >>= j) >>= k ≡ d >>= (λ n. j n >>= k)
 bind-assoc (end n) j k = refl
 bind-assoc (stop a p) j k = refl
+bind-assoc (seen fact d) j k = ap (seen fact) (bind-assoc d j k)
 bind-assoc (due r p d) j k = ap (due r p) (bind-assoc d j k)
 
 pub bind-end : (d : Due) → d >>= end ≡ d
 bind-end (end n) = refl
 bind-end (stop a p) = refl
+bind-end (seen fact d) = ap (seen fact) (bind-end d)
 bind-end (due r p d) = ap (due r p) (bind-end d)
 
 pub based-bind : (a : ℕ) (d : Due) (k : ℕ → Due) → based a (d >>= k) ≡ based a d >>= (λ n. based a (k n))
 based-bind a (end n) k = refl
 based-bind a (stop w p) k = refl
+based-bind a (seen fact d) k = ap (seen fact) (based-bind a d k)
 based-bind a (due r p d) k = ap (due (moved a r) (a + p)) (based-bind a d k)
 
 -- a record whose places are taken for themselves
@@ -169,6 +172,7 @@ placed-same f e (Lso l p n) = rw e
 pub based-zero : (d : Due) → based 0 d ≡ d
 based-zero (end n) = refl
 based-zero (stop w p) = rw zero-add
+based-zero (seen fact d) = ap (seen fact) (based-zero d)
 based-zero (due r p d) = rw (placed-same (λ p. 0 + p) zero-add r, zero-add p, based-zero d)
 
 -- ---- a reading carried out
@@ -191,6 +195,7 @@ pub run-bind : (d : Due) (k : ℕ → Due) (made : ℕ) (image : List ℕ)
 unfolding run after after-step
 run-bind (end n) k made image = refl
 run-bind (stop a p) k made image = refl
+run-bind (seen fact d) k made image = run-bind d k made image
 run-bind (due r p d) k made image =
     ap (λ (x : Ran). pick (leb (made + size r) (length image)) x (ran (Stop 4 p) image))
     (run-bind d k (made + size r) (sets image made (bytesOf r)))
@@ -223,6 +228,10 @@ module _ (made : ℕ) (image : List ℕ) where
   unfolding run
   run-stop a p = refl
 
+  pub run-seen : (fact : Fact) (d : Due) → run (seen fact d) made image ≡ run d made image
+  unfolding run
+  run-seen fact d = refl
+
   pub run-end : (n : ℕ) → run (end n) made image ≡ ran (Next (to n) made) image
   unfolding run
   run-end n = refl
@@ -232,6 +241,7 @@ pub run-length : (d : Due) (made : ℕ) (image : List ℕ) → length (run d mad
 unfolding run
 run-length (end n) made image = refl
 run-length (stop a p) made image = refl
+run-length (seen fact d) made image = run-length d made image
 run-length (due r p d) made image =
     picked (λ (x : Ran). length (x .image) ≡ length image) (leb (made + size r) (length image)) _ _
     (λ h. run-length d (made + size r) (sets image made (bytesOf r)) ∙ length-sets image made (bytesOf r))

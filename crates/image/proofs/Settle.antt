@@ -8,7 +8,7 @@ use Rattle.image.specs.declared.reading.Step.{Step}
 use Rattle.image.specs.declared.reading.Step.the-variants.{Next, Stop}
 use Rattle.image.specs.declared.record.Record.{Record}
 use Rattle.image.specs.Record.{bytesOf, size}
-use Rattle.image.specs.Due.{Due, end, stop, due, _>>=_, Ends, Stops, Lacks, onEnd, Ran, ran, run}
+use Rattle.image.specs.Due.{Due, end, stop, seen, due, _>>=_, Ends, Stops, Lacks, onEnd, Ran, ran, run}
 use Rattle.image.specs.Whole.{bytes, Whole, accepted, refused, inRoom, settled, finished, all}
 use Rattle.image.proofs.Laws.{size-bytes}
 
@@ -17,38 +17,45 @@ use Rattle.image.proofs.Laws.{size-bytes}
 pub ends-or-stops : (d : Due) → ((n : ℕ) × Ends d n) ⊎ ((a : ℕ) × (p : ℕ) × Stops d a p)
 ends-or-stops (end n) = inl (n, refl)
 ends-or-stops (stop a p) = inr (a, p, (refl, refl))
+ends-or-stops (seen fact d) = ends-or-stops d
 ends-or-stops (due r p d) = ends-or-stops d
 
 module _ {A : Type 0} where
   pub on-ends : (d : Due) (n : ℕ) (f : ℕ → A) (g : ℕ → ℕ → A) → Ends d n → onEnd d f g ≡ f n
   on-ends (end m) n f g e = ap f (sym e)
   on-ends (stop a p) n f g e = absurd e
+  on-ends (seen fact d) n f g e = on-ends d n f g e
   on-ends (due r p d) n f g e = on-ends d n f g e
 
   pub on-stops : (d : Due) (a p : ℕ) (f : ℕ → A) (g : ℕ → ℕ → A) → Stops d a p → onEnd d f g ≡ g a p
   on-stops (end m) a p f g e = absurd e
   on-stops (stop b q) a p f g e = rw (e .0, e .1)
+  on-stops (seen fact d) a p f g e = on-stops d a p f g e
   on-stops (due r q d) a p f g e = on-stops d a p f g e
 
   pub on-case : (P : A → Type 0) (d : Due) (f : ℕ → A) (g : ℕ → ℕ → A) → ((n : ℕ) → Ends d n → P (f n)) → ((a p : ℕ) → Stops d a p → P (g a p))
       → P (onEnd d f g)
   on-case P (end n) f g h i = h n refl
   on-case P (stop a p) f g h i = i a p (refl, refl)
+  on-case P (seen fact d) f g h i = on-case P d f g h i
   on-case P (due r p d) f g h i = on-case P d f g h i
 
 pub one-end : (d : Due) {m n : ℕ} → Ends d m → Ends d n → m ≡ n
 one-end (end q) e f = e ∙ sym f
 one-end (stop a p) e f = absurd e
+one-end (seen fact d) e f = one-end d e f
 one-end (due r p d) e f = one-end d e f
 
 pub one-stop : (d : Due) {a p b q : ℕ} → Stops d a p → Stops d b q → (a ≡ b) × (p ≡ q)
 one-stop (end n) e f = absurd e
 one-stop (stop c o) e f = (e .0 ∙ sym (f .0), e .1 ∙ sym (f .1))
+one-stop (seen fact d) e f = one-stop d e f
 one-stop (due r w d) e f = one-stop d e f
 
 pub ends-not : (d : Due) (n a p : ℕ) → Ends d n → Stops d a p → ⊥
 ends-not (end m) n a p e f = f
 ends-not (stop b q) n a p e f = e
+ends-not (seen fact d) n a p e f = ends-not d n a p e f
 ends-not (due r w d) n a p e f = ends-not d n a p e f
 
 -- one reading and then another, where the first ends
@@ -56,11 +63,13 @@ pub bytes-bind : (d : Due) (k : ℕ → Due) (n : ℕ) → Ends d n → bytes (d
 unfolding bytes
 bytes-bind (end m) k n e = rw e
 bytes-bind (stop a p) k n e = absurd e
+bytes-bind (seen fact d) k n e = bytes-bind d k n e
 bytes-bind (due r p d) k n e = ap (λ x. bytesOf r ++ x) (bytes-bind d k n e) ∙ sym (append-assoc (bytesOf r) (bytes d) (bytes (k n)))
 
 pub stops-behind : (d : Due) (k : ℕ → Due) (n a p : ℕ) → Ends d n → Stops (k n) a p → Stops (d >>= k) a p
 stops-behind (end m) k n a p e h = rw (← e) h
 stops-behind (stop b q) k n a p e h = absurd e
+stops-behind (seen fact d) k n a p e h = stops-behind d k n a p e h
 stops-behind (due r q d) k n a p e h = stops-behind d k n a p e h
 
 -- ---- a reading carried out, with room and without
@@ -70,6 +79,7 @@ pub run-fits : (d : Due) (made : ℕ) (image : List ℕ) → made + length (byte
 unfolding run bytes
 run-fits (end n) made image h = ap (λ m. ran (Next (to n) m) image) (omega arith)
 run-fits (stop a p) made image h = refl
+run-fits (seen fact d) made image h = run-fits d made image h
 run-fits (due r p d) made image h =
     let l = length-append (bytesOf r) (bytes d) in
     let b = size-bytes r in
@@ -88,6 +98,7 @@ pub lacks-over : (d : Due) (made room p : ℕ) → Lacks d made room p → room 
 unfolding bytes
 lacks-over (end n) made room p h = absurd h
 lacks-over (stop a q) made room p h = absurd h
+lacks-over (seen fact d) made room p h = lacks-over d made room p h
 lacks-over (due r q d) made room p h =
     let l = length-append (bytesOf r) (bytes d) in
     let b = size-bytes r in
@@ -97,6 +108,7 @@ pub over-lacks : (d : Due) (made room : ℕ) → made ≤ room → room < made +
 unfolding bytes
 over-lacks (end n) made room g h = absurd (omega arith)
 over-lacks (stop a q) made room g h = absurd (omega arith)
+over-lacks (seen fact d) made room g h = over-lacks d made room g h
 over-lacks (due r q d) made room g h =
     let l = length-append (bytesOf r) (bytes d) in
     let b = size-bytes r in
@@ -108,6 +120,7 @@ over-lacks (due r q d) made room g h =
 pub one-lack : (d : Due) (made room : ℕ) {p q : ℕ} → Lacks d made room p → Lacks d made room q → p ≡ q
 one-lack (end n) made room g h = absurd g
 one-lack (stop a w) made room g h = absurd g
+one-lack (seen fact d) made room g h = one-lack d made room g h
 one-lack (due r w d) made room g h =
     ⊎-elim (λ x. ⊎-elim (λ y. x .1 ∙ sym (y .1)) (λ y. absurd (omega (arith, x .0, y .0))) h)
     (λ x. ⊎-elim (λ y. absurd (omega (arith, x .0, y .0))) (λ y. one-lack d (made + size r) room (x .1) (y .1)) h) g
@@ -116,22 +129,26 @@ one-lack (due r w d) made room g h =
 abbrev pub AllDue : (Record → ℕ → Type 0) → Due → Type 0
 AllDue P (end n) = Unit {0}
 AllDue P (stop a p) = Unit {0}
+AllDue P (seen fact d) = AllDue P d
 AllDue P (due r p d) = P r p × AllDue P d
 
 pub due-map : {P Q : Record → ℕ → Type 0} (d : Due) → ((r : Record) (p : ℕ) → P r p → Q r p) → AllDue P d → AllDue Q d
 due-map (end n) f h = tt
 due-map (stop a p) f h = tt
+due-map (seen fact d) f h = due-map d f h
 due-map (due r p d) f h = (f r p (h .0), due-map d f (h .1))
 
 pub due-bind : (P : Record → ℕ → Type 0) (d : Due) (k : ℕ → Due) → AllDue P d → ((n : ℕ) → Ends d n → AllDue P (k n)) → AllDue P (d >>= k)
 due-bind P (end n) k h f = f n refl
 due-bind P (stop a p) k h f = h
+due-bind P (seen fact d) k h f = due-bind P d k h f
 due-bind P (due r p d) k h f = (h .0, due-bind P d k (h .1) f)
 
 -- so of the first that has no room, and its place
 pub due-lacks : (P : Record → ℕ → Type 0) (d : Due) (made room p : ℕ) → AllDue P d → Lacks d made room p → (r : Record) × P r p
 due-lacks P (end n) made room p h l = absurd l
 due-lacks P (stop a q) made room p h l = absurd l
+due-lacks P (seen fact d) made room p h l = due-lacks P d made room p h l
 due-lacks P (due r q d) made room p h l = ⊎-elim (λ x. (r, rw (x .1) (h .0))) (λ x. due-lacks P d (made + size r) room p (h .1) (x .1)) l
 
 -- the reading carried out stops there
@@ -139,6 +156,7 @@ pub run-lacks : (d : Due) (made : ℕ) (image : List ℕ) {p : ℕ} → Lacks d 
 unfolding run
 run-lacks (end n) made image h = absurd h
 run-lacks (stop a q) made image h = absurd h
+run-lacks (seen fact d) made image h = run-lacks d made image h
 run-lacks (due r q d) made image {p} h =
     ⊎-elim (λ x. rw (lt-leb (made + size r) (length image) (x .0)) (ap (Stop 4) (sym (x .1))))
     (λ x.
@@ -159,6 +177,7 @@ run-went (stop a p) made image {c} {m} e =
     let s : Next c m ≡ Stop a p = ap (λ (x : Ran). x .step) e in
     let z : _≡_ {A = ℕ} 0 1 = cc in
     absurd (omega arith)
+run-went (seen fact d) made image e = run-went d made image e
 run-went (due r p d) made image {c} {m} {i} e =
     picked (λ (x : Ran). ran (Next c m) i ≡ x → (m ≡ made + length (bytesOf r ++ bytes d)) × Ends d (c .at)) (leb (made + size r) (length image)) _ _
     (λ t f.
@@ -179,6 +198,7 @@ run-stopped (end n) made image {a} {p} e ne =
 run-stopped (stop b q) made image {a} {p} e ne =
     let s : Stop a p ≡ Stop b q = ap (λ (x : Ran). x .step) e in
     (cc, cc)
+run-stopped (seen fact d) made image e ne = run-stopped d made image e ne
 run-stopped (due r q d) made image {a} {p} {i} e ne =
     picked (λ (x : Ran). ran (Stop a p) i ≡ x → Stops d a p) (leb (made + size r) (length image)) _ _
     (λ t f. run-stopped d (made + size r) (sets image made (bytesOf r)) f ne)
@@ -208,6 +228,7 @@ module _ (f : ℕ → List ℕ → Whole) (g : ℕ → ℕ → Whole) where
   unfolding inRoom bytes
   in-room-fits room b (end n) h = ap (f n) (sym (append-nil b))
   in-room-fits room b (stop a p) h = refl
+  in-room-fits room b (seen fact d) h = in-room-fits room b d h
   in-room-fits room b (due r p d) h =
       let l = length-append (bytesOf r) (bytes d) in
       let m = length-append b (bytesOf r) in
@@ -220,6 +241,7 @@ module _ (f : ℕ → List ℕ → Whole) (g : ℕ → ℕ → Whole) where
   unfolding inRoom
   in-room-lacks room b (end n) h = absurd h
   in-room-lacks room b (stop a q) h = absurd h
+  in-room-lacks room b (seen fact d) h = in-room-lacks room b d h
   in-room-lacks room b (due r q d) {p} h =
       ⊎-elim (λ x. pick-no (length b + size r) room _ _ (x .0) ∙ ap (refused 4) (sym (x .1)))
       (λ x.
@@ -246,6 +268,7 @@ settled-stop a p room = refl
 ended-ran : (d : Due) (m : ℕ) (i b : List ℕ) → take m i ≡ b → m ≡ length b → finished (onEnd d (λ n. Next (to n) m) Stop) i ≡ ended d b
 ended-ran (end n) m i b e l = rw (e, l)
 ended-ran (stop a p) m i b e l = refl
+ended-ran (seen fact d) m i b e l = ended-ran d m i b e l
 ended-ran (due r p d) m i b e l = ended-ran d m i b e l
 
 -- from an empty image

@@ -5,12 +5,13 @@ use Rattle.image.specs.declared.reading.Reading.{Reading}
 use Rattle.image.specs.declared.reading.Step.{Step}
 use Rattle.image.specs.declared.reading.Step.the-variants.{Next, Stop}
 use Rattle.image.specs.Record.{bytesOf, size}
-use Rattle.image.specs.Due.{Due, end, stop, due}
+use Rattle.image.specs.Due.{Due, end, stop, seen, due}
 
 -- the bytes of a reading's records
 unfoldable pub bytes : Due → List ℕ
 bytes (end n) = []
 bytes (stop a p) = []
+bytes (seen fact d) = bytes d
 bytes (due r p d) = bytesOf r ++ bytes d
 
 -- a result, with the bytes that the image begins with
@@ -30,6 +31,7 @@ refused a p = record { reading = record { answer = a; used = p; made = 0 }; byte
 unfoldable pub inRoom : (room : ℕ) (b : List ℕ) → Due → (f : ℕ → List ℕ → Whole) (g : ℕ → ℕ → Whole) → Whole
 inRoom room b (end n) f g = f n b
 inRoom room b (stop a p) f g = g a p
+inRoom room b (seen fact d) f g = inRoom room b d f g
 inRoom room b (due r p d) f g = pick (leb (length b + size r) room) (inRoom room (b ++ bytesOf r) d f g) (refused 4 p)
 
 -- a reading that is all there is

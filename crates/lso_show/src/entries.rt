@@ -15,7 +15,7 @@ use packet::head::Entry;
 use packet::head::HEADER;
 use packet::head::Head;
 use packet::head::MESSAGE;
-use packet::head::head_at;
+use packet::walk::entry_at;
 use wire::answer::ACCEPTED;
 use wire::answer::NO_ENTRY;
 use wire::cursor::Cursor;
@@ -75,18 +75,6 @@ fn uncut(page: &mut Page, used: &mut usize, input: &[u8], answer: u8, place: usi
     refused(page, used, input, input, of_packet(true), r, 0);
 }
 
-// The place behind the value of an entry, which in a packet that is cut exactly is inside.
-fn behind(input: &[u8], e: Entry) -> usize {
-    let at = e.place;
-    let length = e.length;
-    if at <= input.len() {
-        if length <= input.len() - at {
-            return at + length;
-        }
-    }
-    input.len()
-}
-
 // Shows the entry of a kind at a place, and returns the place behind it.
 fn entry(
     page: &mut Page,
@@ -96,12 +84,12 @@ fn entry(
     at: usize,
     image: &mut [u8],
 ) -> usize {
-    match head_at(input, kind, Cursor { at: at }) {
+    match entry_at(input, kind, Cursor { at: at }) {
         Head::Stop(_, p) => p,
-        Head::Got(e, _) => {
+        Head::Got(e, d) => {
             head(page, used, input, e);
             value(page, used, input, e, image);
-            behind(input, e)
+            d.at
         }
     }
 }

@@ -11,7 +11,7 @@ use Rattle.wire.proofs.Stands.{Here, cut, skip, inside, there, u32-at, text-at,
 use Rattle.image.specs.declared.record.Record.{Record}
 use Rattle.image.specs.Record.{bytesOf, unplaced}
 use Rattle.image.specs.Taking.{Fits}
-use Rattle.image.specs.Due.{Due, end, stop, due, _>>=_, Ends, Stops}
+use Rattle.image.specs.Due.{Due, end, stop, seen, due, _>>=_, Ends, Stops}
 use Rattle.image.specs.Whole.{bytes}
 use Rattle.amf0.specs.Reading.{topValue}
 use Rattle.amf0.specs.Standard.{Sort, Tree, depth, UTF-8, Encodes}
@@ -73,6 +73,7 @@ closes (end q) k m n h e =
     let f : k q ≡ end n = rw h at e in
     record { ends = rw f refl; same = ap recordsOf f }
 closes (stop a p) k m n h e = absurd h
+closes (seen fact d) k m n h e = let c = closes d k m n h e in record { ends = c .ends; same = c .same }
 closes (due r p d) k m n h e = let c = closes d k m n h e in record { ends = c .ends; same = ap (λ rs. r ∷ rs) (c .same) }
 
 -- elements that were read as those of b

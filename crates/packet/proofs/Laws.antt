@@ -1,8 +1,8 @@
 -- The laws of heads, of the cut and of an entry's reading.
-use Rattle.wire.proofs.Kit.{ℕ, zero, suc, _+_, _-_, _≤_, _<_, _≡_, refl, sym, ap, subst, _∙_, List, [], _∷_, _++_, append-assoc, append-nil, Bool, true, false}
+use Rattle.wire.proofs.Kit.{ℕ, zero, suc, _+_, _*_, _-_, _≤_, _<_, _≡_, refl, sym, ap, subst, _∙_, List, [], _∷_, _++_, append-assoc, append-nil, Bool, true, false}
 use Rattle.wire.proofs.Kit.{_≢_, _⊎_, inl, inr, ⊎-elim, add-one, arith, length, getD, take, drop, set, replicate, drop-cons, drop-drop, drop-of-length-le}
 use Rattle.wire.proofs.Kit.{length-append, length-take, length-drop, sets, length-take-le, leb, ltb, eqb, leb-true, leb-false, le-leb, lt-leb, ltb-true}
-use Rattle.wire.proofs.Kit.{ltb-false, lt-ltb, ne-eqb}
+use Rattle.wire.proofs.Kit.{ltb-false, lt-ltb, eq-eqb, ne-eqb, eqb-true, eqb-false}
 use lib.Seq.{drop-nil, take-suc-set}
 use Rattle.wire.specs.Choice.{pick}
 use Rattle.wire.specs.declared.cursor.Cursor.{Cursor}
@@ -13,19 +13,19 @@ use Rattle.wire.specs.declared.cursor.Tag.the-variants as Tag
 use Rattle.wire.specs.Limit as limit
 use Rattle.wire.specs.Text.{insideOf}
 use Rattle.wire.specs.Number.{number}
-use Rattle.wire.specs.Field.{to, u8At, u16At, tagAt, got8, got16, pastTag}
+use Rattle.wire.specs.Field.{to, bytesAt, u8At, u16At, tagAt, got8, got16, pastTag}
 use Rattle.wire.proofs.Laws.{picked, tag-next, tag-stop}
 use Rattle.wire.proofs.Stands.{go8, go16, go32, goText}
 use Rattle.image.specs.declared.reading.Step.{Step}
 use Rattle.image.specs.declared.reading.Step.the-variants.{Next, Stop}
 use Rattle.image.specs.Record.{bytesOf, size}
-use Rattle.image.specs.Due.{Due, end, stop, due, based, Ran, ran, run}
+use Rattle.image.specs.Due.{Due, end, stop, seen, due, based, Ends, Stops, Ran, ran, run}
 use Rattle.image.specs.Whole.{refused, finished}
-use Rattle.image.proofs.Laws.{clear-more}
-use Rattle.image.proofs.Settle.{finished-ran}
-use Rattle.amf0.specs.Reading.{valueIn}
-use Rattle.amf0.proofs.Laws.{part-read}
-use Rattle.image.proofs.Kept.{Kept}
+use Rattle.image.proofs.Laws.{clear-more, based-zero}
+use Rattle.image.proofs.Settle.{on-ends, on-case, finished-ran}
+use Rattle.amf0.specs.Reading.{topValue, valueIn}
+use Rattle.amf0.proofs.Laws.{part-over, part-read}
+use Rattle.image.proofs.Kept.{Kept, ends-kept, stops-kept}
 use Rattle.amf0.proofs.Reasons.{Named, kept}
 use Rattle.packet.specs.declared.head.Entry.{Entry}
 use Rattle.packet.specs.declared.head.Head.{Head}
@@ -35,12 +35,12 @@ use Rattle.packet.specs.declared.entry.Found.{Found}
 use Rattle.packet.specs.declared.entry.Found.the-variants as Found
 use Rattle.packet.specs.declared.walk.Walk.{Walk}
 use Rattle.packet.specs.declared.walk.Walk.the-variants as W
-use Rattle.packet.specs.Head.{versionAt, frontOf, headerAt, messageAt, headAt, gotHead}
-use Rattle.packet.specs.Entry.{Ending, done, halt, reach, Trail, stopped, puts, _thence_, entryAt, walk, endAt, messagesFrom, Cut, found, stops, strict, cutOf, noEntry, Listed, uncut, listed, filled, valueOf, readSpan, entryIn, foundIn}
+use Rattle.packet.specs.Head.{unknown, versionAt, frontOf, headerAt, messageAt, headAt, gotHead}
+use Rattle.packet.specs.Entry.{Ending, done, halt, reach, Trail, stopped, puts, _thence_, measured, measuredAt, entryAt, walk, endAt, messagesFrom, Cut, found, stops, strict, cutOf, noEntry, Listed, uncut, listed, filled, valueOf, readSpan, entryIn, foundIn}
 use Rattle.packet.specs.Code.{behind, restOf, goesOn, goesBelow, past, refusedCut, countedIn, judgedOf, Out}
 use Rattle.amf0.specs.Span.{Span, held, judge, inSpan, answerOf, oneValue}
 
--- ---- heads
+-- ---- what refuses
 
 -- a field's refusal
 pub record Field (a : ℕ) : Type 0 where
@@ -52,6 +52,41 @@ two = record { low = omega arith; high = omega arith }
 
 pub three : Field 3
 three = record { low = omega arith; high = omega arith }
+
+-- an answer that refuses the cut
+pub record Cuts (a : ℕ) : Type 0 where
+  pub low : 1 ≤ a
+  pub high : a ≤ 7
+  pub room : a ≢ 4
+  pub tree : a ≢ 6
+
+field-cuts : {a : ℕ} → Field a → Cuts a
+field-cuts f = record { low = omega arith; high = omega arith; room = λ e. omega arith; tree = λ e. omega arith }
+
+value-cuts : {a : ℕ} → Named a → Cuts a
+value-cuts n = record { low = omega arith; high = omega arith; room = n .other; tree = λ e. omega arith }
+
+one : Cuts 1
+one = record { low = omega arith; high = omega arith; room = λ e. omega arith; tree = λ e. omega arith }
+
+seven : Cuts 7
+seven = record { low = omega arith; high = omega arith; room = λ e. omega arith; tree = λ e. omega arith }
+
+-- the answer that refuses the cut of a packet
+pub record Refuses (s : List ℕ) (a : ℕ) : Type 0 where
+  pub cuts : Cuts a
+  pub over : a ≡ 1 → limit.bytes < length s
+
+field-refuses : (s : List ℕ) {a : ℕ} → Field a → Refuses s a
+field-refuses s f = record { cuts = field-cuts f; over = λ e. absurd (omega arith) }
+
+value-refuses : (s : List ℕ) {a : ℕ} → Named a → Refuses s a
+value-refuses s n = record { cuts = value-cuts n; over = λ e. absurd (omega arith) }
+
+over-refuses : (s : List ℕ) → limit.bytes < length s → Refuses s 1
+over-refuses s l = record { cuts = one; over = λ e. l }
+
+-- ---- heads
 
 -- n bytes from p on lie from a place up to another
 pub record Between (at next p n : ℕ) : Type 0 where
@@ -65,25 +100,31 @@ pub record Begun (s : List ℕ) (at : ℕ) (e : Entry) (v : ℕ) : Type 0 where
   pub first : Between at v (e .place1) (e .length1)
   pub second : Between at v (e .place2) (e .length2)
 
--- or a field refuses it, inside an input in which it begins
+-- and its length stands in the four bytes before that; or a field refuses it, inside an input in which it begins
 abbrev pub Headed : List ℕ → ℕ → Head → Type 0
-Headed s at (Head.Got e c) = Begun s at e (c .at)
+Headed s at (Head.Got e c) = Begun s at e (c .at) × (e .length ≡ number (bytesAt 4 s (c .at - 4)))
 Headed s at (Head.Stop a p) = Field a × (at ≤ length s → p ≤ length s)
 
 module _ (s : List ℕ) (at : ℕ) where
+  -- the number in the four bytes before the place that is four bytes behind q
+  before-value : (q : ℕ) → number (bytesAt 4 s q) ≡ number (bytesAt 4 s (q + 4 - 4))
+  before-value q = let e : q + 4 - 4 ≡ q = omega arith in rw e
+
   header-told : Headed s at (headerAt s at)
   unfolding headerAt
   header-told = goText (Headed s at) Head.Stop s at 2 _
       (λ n e i u. go8 (Headed s at) Head.Stop s (at + 2 + n) _
       (λ j. go32 (Headed s at) Head.Stop s (at + 2 + n + 1) _
-      (λ k.
-      record {
-        place = refl;
-        from = omega arith;
-        within = k;
-        first = record { bounds = λ x y z. (omega arith, omega arith) };
-        second = record { bounds = λ x y z. absurd (omega arith) };
-      })
+      (λ k. (
+        record {
+          place = refl;
+          from = omega arith;
+          within = k;
+          first = record { bounds = λ x y z. (omega arith, omega arith) };
+          second = record { bounds = λ x y z. absurd (omega arith) };
+        },
+        before-value (at + 2 + n + 1),
+      ))
       (λ k. (two, λ l. omega arith)))
       (λ j. (two, λ l. omega arith)))
       (λ i. (two, λ l. l)) (λ n e i j. (two, λ l. i)) (λ n e i u. (three, λ l. omega arith))
@@ -93,14 +134,16 @@ module _ (s : List ℕ) (at : ℕ) where
   message-told = goText (Headed s at) Head.Stop s at 2 _
       (λ n e i u. goText (Headed s at) Head.Stop s (at + 2 + n) 2 _
       (λ m f j v. go32 (Headed s at) Head.Stop s (at + 2 + n + 2 + m) _
-      (λ k.
-      record {
-        place = refl;
-        from = omega arith;
-        within = k;
-        first = record { bounds = λ x y z. (omega arith, omega arith) };
-        second = record { bounds = λ x y z. (omega arith, omega arith) };
-      })
+      (λ k. (
+        record {
+          place = refl;
+          from = omega arith;
+          within = k;
+          first = record { bounds = λ x y z. (omega arith, omega arith) };
+          second = record { bounds = λ x y z. (omega arith, omega arith) };
+        },
+        before-value (at + 2 + n + 2 + m),
+      ))
       (λ k. (two, λ l. omega arith)))
       (λ j. (two, λ l. i)) (λ m f j k. (two, λ l. j)) (λ m f j v. (three, λ l. omega arith)))
       (λ i. (two, λ l. l)) (λ n e i j. (two, λ l. i)) (λ n e i u. (three, λ l. omega arith))
@@ -109,9 +152,79 @@ module _ (s : List ℕ) (at : ℕ) where
   head-told kind = picked (Headed s at) (eqb kind 0x31) _ _ (λ e. header-told) (λ e. message-told)
 
   pub head-begun : (kind : ℕ) {e : Entry} {c : Cursor} → headAt kind s at ≡ Head.Got e c → Begun s at e (c .at)
-  head-begun kind h = rw h at (head-told kind)
+  head-begun kind h = let t = rw h at (head-told kind) in t .0
 
--- ---- entries by their declared lengths
+  pub head-length : (kind : ℕ) {e : Entry} {c : Cursor} → headAt kind s at ≡ Head.Got e c → e .length ≡ number (bytesAt 4 s (c .at - 4))
+  head-length kind h = let t = rw h at (head-told kind) in t .1
+
+-- ---- entries
+
+-- a value of the input itself
+pub value-read : (s : List ℕ) (at : ℕ) → length s ≤ limit.bytes → at ≤ length s → valueIn 0 s at ≡ topValue s at
+value-read s at l h = part-read 0 s at (omega arith) h ∙ based-zero (topValue s at)
+
+module _ (kind : ℕ) (s : List ℕ) (at : ℕ) where
+  pub entry-cut : {a p : ℕ} → headAt kind s at ≡ Head.Stop a p → entryAt kind s at ≡ Head.Stop a p
+  unfolding entryAt
+  entry-cut h = rw h
+
+  pub entry-fits : {e : Entry} {c : Cursor} → headAt kind s at ≡ Head.Got e c → e .length ≢ unknown → c .at + e .length ≤ length s
+      → entryAt kind s at ≡ Head.Got e (to (c .at + e .length))
+  unfolding entryAt
+  entry-fits h k l = rw (h, ne-eqb _ unknown k, le-leb _ _ l)
+
+  pub entry-over : {e : Entry} {c : Cursor} → headAt kind s at ≡ Head.Got e c → e .length ≢ unknown → length s < c .at + e .length
+      → entryAt kind s at ≡ Head.Stop 2 (c .at - 4)
+  unfolding entryAt
+  entry-over h k l = rw (h, ne-eqb _ unknown k, lt-leb _ _ l)
+
+  pub entry-unknown : {e : Entry} {c : Cursor} → headAt kind s at ≡ Head.Got e c → e .length ≡ unknown → entryAt kind s at ≡ measuredAt s e (c .at)
+  unfolding entryAt
+  entry-unknown h u = rw (h, eq-eqb _ unknown u)
+
+  pub entry-measured : {e : Entry} {c : Cursor} {n : ℕ} → headAt kind s at ≡ Head.Got e c → e .length ≡ unknown → length s ≤ limit.bytes
+      → Ends (topValue s (c .at)) n → entryAt kind s at ≡ Head.Got (measured e (n - c .at)) (to n)
+  entry-measured {e} {c} {n} h u l f =
+      entry-unknown h u
+      ∙ rw (value-read s (c .at) l (head-begun s at kind h .within)) (on-ends (topValue s (c .at)) n _ _ f)
+
+  -- What an entry comes to, by its head: that is refused; or its length is known, and its value is inside the input or not; or it is not known, and its value is
+  -- read where it stands, to its end or not, in an input within the limit.
+  pub data Entered : Head → Type 0 where
+    no-head : {a p : ℕ} → headAt kind s at ≡ Head.Stop a p → Entered (Head.Stop a p)
+    fits : {e : Entry} {c : Cursor} → headAt kind s at ≡ Head.Got e c → e .length ≢ unknown → c .at + e .length ≤ length s
+        → Entered (Head.Got e (to (c .at + e .length)))
+    exceeds : {e : Entry} {c : Cursor} → headAt kind s at ≡ Head.Got e c → e .length ≢ unknown → length s < c .at + e .length
+        → Entered (Head.Stop 2 (c .at - 4))
+    ends : {e : Entry} {c : Cursor} {n : ℕ} → headAt kind s at ≡ Head.Got e c → e .length ≡ unknown → length s ≤ limit.bytes → Ends (topValue s (c .at)) n
+        → Entered (Head.Got (measured e (n - c .at)) (to n))
+    halts : {e : Entry} {c : Cursor} {a p : ℕ} → headAt kind s at ≡ Head.Got e c → e .length ≡ unknown → length s ≤ limit.bytes
+        → Stops (topValue s (c .at)) a p → Entered (Head.Stop a p)
+    over-limit : {e : Entry} {c : Cursor} → headAt kind s at ≡ Head.Got e c → e .length ≡ unknown → limit.bytes < length s → Entered (Head.Stop 1 0)
+
+  pub entry-told : Entered (entryAt kind s at)
+  unfolding entryAt
+  entry-told = go (headAt kind s at) refl
+    where
+      read : {e : Entry} {c : Cursor} → headAt kind s at ≡ Head.Got e c → e .length ≡ unknown → (t : Bool) → leb (length s) limit.bytes ≡ t
+          → Entered (measuredAt s e (c .at))
+      read {e} {c} h u true t =
+          let l = leb-true (length s) limit.bytes t in
+          rw (value-read s (c .at) l (head-begun s at kind h .within))
+          (on-case Entered (topValue s (c .at)) _ _ (λ n f. Entered.ends h u l f) (λ a p f. Entered.halts h u l f))
+      read {e} {c} h u false t =
+          let l = leb-false (length s) limit.bytes t in
+          rw (part-over 0 s (c .at) (omega arith)) (Entered.over-limit h u l)
+
+      go : (x : Head) → headAt kind s at ≡ x
+          → Entered (gotHead Head.Stop x λ e v.
+          pick (eqb (e .length) unknown)
+          (measuredAt s e v)
+          (pick (leb (v + e .length) (length s)) (Head.Got e (to (v + e .length))) (Head.Stop 2 (v - 4))))
+      go (Head.Got e c) h = picked Entered (eqb (e .length) unknown) _ _ (λ u. read h (eqb-true _ _ u) (leb (length s) limit.bytes) refl)
+          (λ k. picked Entered (leb (c .at + e .length) (length s)) _ _
+          (λ l. Entered.fits h (eqb-false _ _ k) (leb-true _ _ l)) (λ l. Entered.exceeds h (eqb-false _ _ k) (leb-false _ _ l)))
+      go (Head.Stop a p) h = Entered.no-head h
 
 -- an entry at a place: its value is inside the input and ends at z
 pub record Spanned (s : List ℕ) (at : ℕ) (e : Entry) (z : ℕ) : Type 0 where
@@ -121,35 +234,30 @@ pub record Spanned (s : List ℕ) (at : ℕ) (e : Entry) (z : ℕ) : Type 0 wher
 
 abbrev pub Placed : List ℕ → ℕ → Head → Type 0
 Placed s at (Head.Got e c) = Spanned s at e (c .at)
-Placed s at (Head.Stop a p) = Field a
-
-pub entry-told : (kind : ℕ) (s : List ℕ) (at : ℕ) → Placed s at (entryAt kind s at)
-unfolding entryAt
-entry-told kind s at = go (headAt kind s at) (head-told s at kind)
-  where
-    go : (x : Head) → Headed s at x
-        → Placed s at (gotHead Head.Stop x λ e v. pick (leb (v + e .length) (length s)) (Head.Got e (to (v + e .length))) (Head.Stop 2 (v - 4)))
-    go (Head.Got e c) h = picked (Placed s at) (leb (c .at + e .length) (length s)) _ _
-        (λ t. record { begun = subst (Begun s at e) (sym (h .place)) h; ends = rw (h .place); within = leb-true _ _ t }) (λ t. two)
-    go (Head.Stop a p) h = h .0
+Placed s at (Head.Stop a p) = Refuses s a
 
 module _ (kind : ℕ) (s : List ℕ) (at : ℕ) where
-  pub entry-cut : {a p : ℕ} → headAt kind s at ≡ Head.Stop a p → entryAt kind s at ≡ Head.Stop a p
-  unfolding entryAt
-  entry-cut h = rw h
+  entry-placed : (x : Head) → Entered kind s at x → Placed s at x
+  entry-placed (Head.Stop a p) (Entered.no-head h) = let t = rw h at (head-told s at kind) in field-refuses s (t .0)
+  entry-placed (Head.Got e c) (Entered.fits h k l) =
+      let b = head-begun s at kind h in
+      record { begun = subst (Begun s at e) (sym (b .place)) b; ends = rw (b .place); within = l }
+  entry-placed (Head.Stop a p) (Entered.exceeds h k l) = field-refuses s two
+  entry-placed (Head.Got e c) (Entered.ends {e = f} {c = d} {n} h u l g) =
+      let b = head-begun s at kind h in
+      let v : ℕ = d .at in
+      let i = ends-kept Named s (3 * v) n (topValue s v) (kept limit.levels s v (b .within)) g in
+      let m : Begun s at (measured f (n - v)) v =
+      record { place = b .place; from = b .from; within = b .within; first = b .first; second = b .second }
+      in
+      record { begun = subst (Begun s at (measured f (n - v))) (sym (b .place)) m; ends = omega (arith, i .0, b .place); within = i .1 }
+  entry-placed (Head.Stop a p) (Entered.halts {c = d} h u l g) =
+      let b = head-begun s at kind h in
+      value-refuses s (stops-kept Named s (3 * d .at) a p (topValue s (d .at)) (kept limit.levels s (d .at) (b .within)) g .0)
+  entry-placed (Head.Stop a p) (Entered.over-limit h u l) = over-refuses s l
 
-  pub entry-fits : {e : Entry} {c : Cursor} → headAt kind s at ≡ Head.Got e c → c .at + e .length ≤ length s
-      → entryAt kind s at ≡ Head.Got e (to (c .at + e .length))
-  unfolding entryAt
-  entry-fits h l = rw (h, le-leb _ _ l)
-
-  pub entry-over : {e : Entry} {c : Cursor} → headAt kind s at ≡ Head.Got e c → length s < c .at + e .length
-      → entryAt kind s at ≡ Head.Stop 2 (c .at - 4)
-  unfolding entryAt
-  entry-over h l = rw (h, lt-leb _ _ l)
-
-pub entry-spanned : (kind : ℕ) (s : List ℕ) (at : ℕ) {e : Entry} {c : Cursor} → entryAt kind s at ≡ Head.Got e c → Spanned s at e (c .at)
-entry-spanned kind s at h = rw h at (entry-told kind s at)
+  pub entry-spanned : {e : Entry} {c : Cursor} → entryAt kind s at ≡ Head.Got e c → Spanned s at e (c .at)
+  entry-spanned h = rw h at (entry-placed (entryAt kind s at) (entry-told kind s at))
 
 -- every entry's value is inside the input
 abbrev pub Inside : List ℕ → List Entry → Type 0
@@ -165,16 +273,16 @@ inside-at s [] i d h f = absurd (omega arith)
 inside-at s (e ∷ es) zero d h f = f .0
 inside-at s (e ∷ es) (suc i) d h f = inside-at s es i d (omega arith) (f .1)
 
--- how a trail ends: inside the input, or by a field's refusal
+-- how a trail ends: inside the input, or refused
 abbrev pub Ended : List ℕ → Ending → Type 0
 Ended s (done z) = z ≤ length s
-Ended s (halt a p) = Field a
+Ended s (halt a p) = Refuses s a
 
 pub record Went (s : List ℕ) (t : Trail) : Type 0 where
   pub inside : Inside s (t .entries)
   pub ended : Ended s (t .ending)
 
-went-stopped : (s : List ℕ) {a : ℕ} (p : ℕ) → Field a → Went s (stopped a p)
+went-stopped : (s : List ℕ) {a : ℕ} (p : ℕ) → Refuses s a → Went s (stopped a p)
 went-stopped s p f = record { inside = tt; ended = f }
 
 went-puts : (s : List ℕ) (es : List Entry) (t : Trail) → Inside s es → Went s t → Went s (puts es t)
@@ -190,7 +298,7 @@ went-thence s t k w g = went-puts s (t .entries) (reach stopped (t .ending) k) (
 walk-told : (kind : ℕ) (s : List ℕ) (n at : ℕ) → at ≤ length s → Went s (walk kind s n at)
 unfolding walk
 walk-told kind s zero at h = record { inside = tt; ended = h }
-walk-told kind s (suc n) at h = go (walk-told kind s n) (entryAt kind s at) (entry-told kind s at)
+walk-told kind s (suc n) at h = go (walk-told kind s n) (entryAt kind s at) (entry-placed kind s at (entryAt kind s at) (entry-told kind s at))
   where
     go : ((q : ℕ) → q ≤ length s → Went s (walk kind s n q)) → (x : Head) → Placed s at x → Went s (gotHead stopped x λ e q. puts (e ∷ []) (walk kind s n q))
     go g (Head.Got e c) p = went-puts s (e ∷ []) (walk kind s n (c .at)) (omega (arith, p .ends, p .within), tt) (g (c .at) (p .within))
@@ -335,23 +443,6 @@ listing l n t h s =
 
 -- ---- the whole cut
 
--- an answer that refuses the cut
-pub record Cuts (a : ℕ) : Type 0 where
-  pub low : 1 ≤ a
-  pub high : a ≤ 7
-  pub room : a ≢ 4
-  pub deep : a ≢ 5
-  pub tree : a ≢ 6
-
-field-cuts : {a : ℕ} → Field a → Cuts a
-field-cuts f = record { low = omega arith; high = omega arith; room = λ e. omega arith; deep = λ e. omega arith; tree = λ e. omega arith }
-
-one : Cuts 1
-one = record { low = omega arith; high = omega arith; room = λ e. omega arith; deep = λ e. omega arith; tree = λ e. omega arith }
-
-seven : Cuts 7
-seven = record { low = omega arith; high = omega arith; room = λ e. omega arith; deep = λ e. omega arith; tree = λ e. omega arith }
-
 abbrev pub Versioned : List ℕ → Tag → Type 0
 Versioned s (Tag.Past c) = (c .at ≡ 2) × (2 ≤ length s)
 Versioned s (Tag.Stop a p) = (2 ≤ a) × Cuts a × (p ≤ length s)
@@ -377,14 +468,6 @@ pub record Split (s : List ℕ) (es : List Entry) : Type 0 where
   pub short : length s ≤ limit.bytes
   pub inside : Inside s es
 
--- the answer that refuses the cut of a packet
-pub record Refuses (s : List ℕ) (a : ℕ) : Type 0 where
-  pub cuts : Cuts a
-  pub over : a ≡ 1 → limit.bytes < length s
-
-field-refuses : (s : List ℕ) {a : ℕ} → Field a → Refuses s a
-field-refuses s f = record { cuts = field-cuts f; over = λ e. absurd (omega arith) }
-
 abbrev pub Splits : List ℕ → Cut → Type 0
 Splits s (found es z) = Split s es
 Splits s (stops a p) = Refuses s a
@@ -398,7 +481,7 @@ pub front-told : (s : List ℕ) → Fronted s (frontOf s)
 unfolding frontOf u16At
 front-told s =
     picked (Fronted s) (leb (length s) limit.bytes) _ _
-    (λ t. go (leb-true _ _ t) (versionAt s) (version-told s)) (λ t. record { cuts = one; over = λ e. leb-false _ _ t })
+    (λ t. go (leb-true _ _ t) (versionAt s) (version-told s)) (λ t. over-refuses s (leb-false _ _ t))
   where
     go : length s ≤ limit.bytes → (x : Tag) → Versioned s x → Fronted s (pastTag U16.Stop x λ p. u16At s p)
     go l (Tag.Past c) v = picked (Fronted s) (leb (c .at + 2) (length s)) _ _ (λ t. (l, omega (arith, v .0), omega (arith, v .0, leb-true (c .at + 2) (length s) t))) (λ t. field-refuses s two)
@@ -409,8 +492,8 @@ rest-told : (s : List ℕ) (h q : ℕ) → q ≤ length s → Went s (walk 0x31 
 rest-told s h q i = went-thence s (walk 0x31 s h q) (messagesFrom s) (walk-told 0x31 s h q i) λ e j.
     go16 (Went s) stopped s e _
     (λ k. went-thence s _ (endAt s) (walk-told 0x32 s _ (e + 2) k) λ z l.
-    picked (Went s) (leb (length s) z) _ _ (λ t. record { inside = tt; ended = l }) (λ t. went-stopped s z three))
-    (λ k. went-stopped s e two)
+    picked (Went s) (leb (length s) z) _ _ (λ t. record { inside = tt; ended = l }) (λ t. went-stopped s z (field-refuses s three)))
+    (λ k. went-stopped s e (field-refuses s two))
 
 pub cut-told : (s : List ℕ) → Splits s (cutOf s)
 unfolding cutOf
@@ -421,7 +504,7 @@ cut-told s = front (frontOf s) (front-told s)
       where
         go : (x : Ending) → Ended s x → Splits s (reach stops x (found (t .entries)))
         go (done z) h = record { short = l; inside = w .inside }
-        go (halt a p) h = field-refuses s h
+        go (halt a p) h = h
 
     front : (x : U16) → Fronted s x → Splits s (got16 stops x λ h q. strict (walk 0x31 s h q thence messagesFrom s))
     front (U16.Got h c) f = rest (f .0) (walk 0x31 s h (c .at) thence messagesFrom s) (rest-told s h (c .at) (omega (arith, f .1, f .2)))
@@ -463,6 +546,7 @@ module _ (s : List ℕ) (number room : ℕ) where
 abbrev pub Answers : Due → Type 0
 Answers (end n) = Unit {0}
 Answers (stop a p) = 1 ≤ a
+Answers (seen fact d) = Answers d
 Answers (due r p d) = Answers d
 
 abbrev pub Halts : Step → Type 0
@@ -473,6 +557,7 @@ pub run-halts : (d : Due) (made : ℕ) (image : List ℕ) → Answers d → Halt
 unfolding run
 run-halts (end n) made image h = tt
 run-halts (stop a p) made image h = h
+run-halts (seen fact d) made image h = run-halts d made image h
 run-halts (due r p d) made image h =
     picked (λ (x : Ran). Halts (x .step)) (leb (made + size r) (length image)) _ _
     (λ t. run-halts d (made + size r) (sets image made (bytesOf r)) h) (λ t. omega arith)
@@ -481,11 +566,13 @@ run-halts (due r p d) made image h =
 pub answered : (N : ℕ → Type 0) → ((a : ℕ) → N a → 2 ≤ a) → (s : List ℕ) (c : ℕ) (d : Due) → Kept N s c d → Answers d
 answered N h s c (end n) k = tt
 answered N h s c (stop a p) k = omega (arith, h a (k .1))
+answered N h s c (seen fact d) k = answered N h s c d k
 answered N h s c (due r p d) k = answered N h s (c + length (bytesOf r)) d (k .1)
 
 based-answers : (b : ℕ) (d : Due) → Answers d → Answers (based b d)
 based-answers b (end n) h = h
 based-answers b (stop a p) h = h
+based-answers b (seen fact d) h = based-answers b d h
 based-answers b (due r p d) h = based-answers b d h
 
 -- a step judged, and the whole judged

@@ -15,12 +15,11 @@ use Rattle.image.specs.declared.record.Record.the-variants.{Packet}
 use Rattle.image.specs.declared.reading.Step.{Step}
 use Rattle.image.specs.declared.reading.Step.the-variants.{Next, Stop}
 use Rattle.image.specs.Record.{bytesOf, size}
-use Rattle.image.specs.Due.{Due, end, stop, due, _>>=_, Ends, Ran, ran, run}
+use Rattle.image.specs.Due.{Due, end, stop, seen, due, _>>=_, Ends, Ran, ran, run}
 use Rattle.image.specs.Whole.{bytes, refused, settled, finished}
-use Rattle.image.proofs.Laws.{based-zero, run-length, run-stop, size-bytes}
+use Rattle.image.proofs.Laws.{run-length, run-stop, size-bytes}
 use Rattle.image.proofs.Settle.{finished-run, settled-stop}
-use Rattle.amf0.specs.Reading.{value, topValue, valueIn}
-use Rattle.amf0.proofs.Laws.{part-read}
+use Rattle.amf0.specs.Reading.{topValue}
 use Rattle.packet.specs.declared.head.Entry.{Entry}
 use Rattle.packet.specs.declared.head.Head.the-variants as Head
 use Rattle.packet.specs.Head.{versionAt, frontOf, headAt}
@@ -30,10 +29,6 @@ use Rattle.packet.proofs.Laws.{Answers, Halts, run-halts, answered}
 use Rattle.packet.proofs.Reasons.{Tells, packet-kept}
 
 -- ---- entry by entry
-
--- a value of the input itself
-pub value-read : (s : List ℕ) (at : ℕ) → length s ≤ limit.bytes → at ≤ length s → valueIn 0 s at ≡ topValue s at
-value-read s at l h = part-read 0 s at (omega arith) h ∙ based-zero (topValue s at)
 
 module _ (kind : ℕ) (s : List ℕ) (n at : ℕ) where
   pub entries-done : n ≤ 0 → entriesAt kind s n at ≡ end at
@@ -72,6 +67,11 @@ pub run-nexts : (d : Due) (made : ℕ) (image : List ℕ) → Nexts d made (run 
 unfolding run bytes
 run-nexts (end n) made image = (omega arith, refl)
 run-nexts (stop a p) made image = tt
+run-nexts (seen fact d) made image = further (run d made image .step) (run-nexts d made image)
+  where
+    further : (x : Step) → Nexts d made x → Nexts (seen fact d) made x
+    further (Next c m) n = n
+    further (Stop a p) n = tt
 run-nexts (due r p d) made image =
     picked (λ (x : Ran). Nexts (due r p d) made (x .step)) (leb (made + size r) (length image)) _ _
     (λ t. further (run d (made + size r) (sets image made (bytesOf r)) .step) (run-nexts d (made + size r) (sets image made (bytesOf r))))
@@ -88,6 +88,7 @@ run-next d made image e = rw (sym (ap (λ (x : Ran). x .step) e)) at (run-nexts 
 count-ends : (s : List ℕ) (d : Due) (n : ℕ) → Ends d n → countAfter s d ≡ got16 (λ a p. 0) (u16At s n) λ m p. m
 count-ends s (end m) n e = rw e
 count-ends s (stop a p) n e = absurd e
+count-ends s (seen fact d) n e = count-ends s d n e
 count-ends s (due r p d) n e = count-ends s d n e
 
 -- ---- the count of messages is set after the headers are read
@@ -111,6 +112,7 @@ run-counted : (d : Due) (made : ℕ) (image x : List ℕ) → 3 + length x ≤ m
 unfolding run
 run-counted (end n) made image x h = refl
 run-counted (stop a p) made image x h = refl
+run-counted (seen fact d) made image x h = run-counted d made image x h
 run-counted (due r p d) made image x h =
     rw (length-sets image 3 x, sets-swap image 3 made x (bytesOf r) h, run-counted d (made + size r) (sets image made (bytesOf r)) x (omega arith))
     (counted-pick (leb (made + size r) (length image)) x _ _)

@@ -43,7 +43,7 @@ record-small e = picked (λ (r : Record). length (bytesOf r) ≤ 11) (eqb (e .ki
 
 entry-kept : (s : List ℕ) (at : ℕ) (k : ℕ → Due) (x : Head) → at ≤ length s → Headed s at x → ((n : ℕ) → n ≤ length s → Kept Tells s (3 * n) (k n))
     → Kept Tells s (3 * at) (gotHead stop x λ e v. due (recordOf e) at (k v))
-entry-kept s at k (Head.Got e c) l h g = (l, fewer Tells s _ (3 * c .at) (k (c .at)) (omega (arith, record-small e, h .from)) (g (c .at) (h .within)))
+entry-kept s at k (Head.Got e c) l h g = let b = h .0 in (l, fewer Tells s _ (3 * c .at) (k (c .at)) (omega (arith, record-small e, b .from)) (g (c .at) (b .within)))
 entry-kept s at k (Head.Stop a p) l h g = (omega arith, field-tells (h .0), h .1 l)
 
 plain-kept : (s : List ℕ) (at : ℕ) → at ≤ length s → Kept Tells s (3 * at) (topValue s at)

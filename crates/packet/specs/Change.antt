@@ -1,14 +1,26 @@
 -- What a packet with other bytes in its values keeps, and what its entries answer against the value reader and against the whole reading: what demand 3 speaks of.
-use Rattle.wire.specs.Kit.{ℕ, suc, _≤_, _<_, _≡_, List, [], _∷_, _++_, length, getD}
+use Rattle.wire.specs.Kit.{ℕ, suc, _-_, _≤_, _<_, _≡_, List, [], _∷_, _++_, Bool, true, false, length, getD, eqb}
+use Rattle.wire.specs.Choice.{pick}
+use Rattle.wire.specs.Number.{number}
 use Rattle.wire.specs.Field.{bytesAt}
 use Rattle.image.specs.declared.record.Record.the-variants as R
 use Rattle.image.specs.Record.{bytesOf}
 use Rattle.image.specs.Whole.{accepted, refused}
 use Rattle.amf0.specs.Reading.{readOf}
-use Rattle.amf0.specs.Span.{Judged}
+use Rattle.amf0.specs.Span.{Span, Judged}
 use Rattle.packet.specs.declared.head.Entry.{Entry}
+use Rattle.packet.specs.Head.{unknown}
 use Rattle.packet.specs.Reading.{recordOf, wholeOf}
-use Rattle.packet.specs.Entry.{found, cutOf, noEntry, spanOf, readEntry}
+use Rattle.packet.specs.Entry.{found, cutOf, noEntry, span, spanOf, readEntry}
+
+-- the length field of an entry, four bytes before its value, says how long that is
+abbrev pub known : List ℕ → Entry → Bool
+known s e = pick (eqb (number (bytesAt 4 s (e .place - 4))) unknown) false true
+
+-- the spans of the values whose length is known: what may be changed
+abbrev pub knownSpans : List ℕ → List Entry → List Span
+knownSpans s [] = []
+knownSpans s (e ∷ es) = pick (known s e) (span e ∷ knownSpans s es) (knownSpans s es)
 
 -- the image of entries that are read one by one, the first of which has the number k: each entry's record, and then what reading that entry gives
 abbrev pub imagesFrom : List ℕ → ℕ → ℕ → List Entry → List ℕ
@@ -25,7 +37,7 @@ pub record Agrees (s : List ℕ) (room : ℕ) : Type 0 where
       → readEntry s k room ≡ accepted (getD (headers ++ messages) k noEntry .length) (readEntry s k room .bytes)
   pub image : wholeOf s room .bytes ≡ bytesOf (R.Packet (length headers) (length messages)) ++ imagesFrom s room 0 (headers ++ messages)
 
--- what the changed packet t keeps of s, which its declared lengths cut into the entries es, and what its changed values answer
+-- what the changed packet t keeps of s, which is cut into the entries es, and what its changed values answer
 pub record Keeps (s t : List ℕ) (es : List Entry) : Type 0 where
   -- every flag, every place and length of a text, and every span
   pub cut : cutOf t ≡ cutOf s

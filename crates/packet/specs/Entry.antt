@@ -1,9 +1,11 @@
--- The cut of a packet by its declared lengths, and the reading of one entry: the rule "Reading by entry" (docs/DEMANDS.md).
-use Rattle.wire.specs.Kit.{ℕ, zero, suc, _+_, _-_, List, [], _∷_, _++_, length, getD, replicate, leb, ltb}
+-- The cut of a packet by its declared lengths, with values measured where these are not known, and the reading of one entry: the rule "Reading by entry"
+-- (docs/DEMANDS.md).
+use Rattle.wire.specs.Kit.{ℕ, zero, suc, _+_, _-_, List, [], _∷_, _++_, length, getD, replicate, leb, ltb, eqb}
 use Rattle.wire.specs.Choice.{pick}
 use Rattle.wire.specs.Limit as limit
 use Rattle.wire.specs.Text.{insideOf}
 use Rattle.wire.specs.Field.{to, u16At, got16}
+use Rattle.image.specs.Due.{onEnd}
 use Rattle.image.specs.Whole.{Whole, refused}
 use Rattle.packet.specs.declared.head.Entry.{Entry}
 use Rattle.packet.specs.declared.entry.Cutting.{Cutting}
@@ -11,13 +13,14 @@ use Rattle.packet.specs.declared.entry.Found.{Found}
 use Rattle.packet.specs.declared.entry.Found.the-variants as Found
 use Rattle.packet.specs.declared.head.Head.{Head}
 use Rattle.packet.specs.declared.head.Head.the-variants as Head
-use Rattle.packet.specs.Head.{frontOf, headAt, gotHead, entry}
+use Rattle.packet.specs.Head.{unknown, frontOf, headAt, gotHead, entry}
+use Rattle.amf0.specs.Reading.{valueIn}
 use Rattle.amf0.specs.Span.{Span, spanAt, held, answerOf, oneValue}
 use Rattle.image.specs.Kind as kind
 
 -- ---- the cut
 
--- how a walk by declared lengths ends: at a place, or stopped
+-- how a walk over entries ends: at a place, or stopped
 pub data Ending : Type 0 where
   done : (next : ℕ) → Ending
   halt : (answer place : ℕ) → Ending
@@ -46,10 +49,21 @@ infixl 20 _thence_
 abbrev pub _thence_ : Trail → (ℕ → Trail) → Trail
 t thence k = puts (t .entries) (reach stopped (t .ending) k)
 
+-- an entry with the length that its value was measured to have
+abbrev pub measured : Entry → ℕ → Entry
+measured e n = entry (e .kind) (e .flag) (e .place1) (e .length1) (e .place2) (e .length2) (e .place) n
+
+-- an entry whose length is not known: its value is read where it stands, and what refuses that refuses the entry
+abbrev pub measuredAt : List ℕ → Entry → ℕ → Head
+measuredAt s e v = onEnd (valueIn 0 s v) (λ n. Head.Got (measured e (n - v)) (to n)) Head.Stop
+
 -- an entry and the place behind its value; a length that exceeds the bytes left is refused, at the length field
 unfoldable pub entryAt : ℕ → List ℕ → ℕ → Head
 entryAt kind s at =
-    gotHead Head.Stop (headAt kind s at) λ e v. pick (leb (v + e .length) (length s)) (Head.Got e (to (v + e .length))) (Head.Stop 2 (v - 4))
+    gotHead Head.Stop (headAt kind s at) λ e v.
+    pick (eqb (e .length) unknown)
+    (measuredAt s e v)
+    (pick (leb (v + e .length) (length s)) (Head.Got e (to (v + e .length))) (Head.Stop 2 (v - 4)))
 
 -- n entries of a kind
 unfoldable pub walk : ℕ → List ℕ → ℕ → ℕ → Trail

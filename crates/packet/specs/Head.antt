@@ -23,6 +23,10 @@ versionAt s =
 unfoldable pub frontOf : List ℕ → U16
 frontOf s = pick (leb (length s) limit.bytes) (pastTag U16.Stop (versionAt s) λ p. u16At s p) (U16.Stop 1 0)
 
+-- the length that says that it is not known
+abbrev pub unknown : ℕ
+unknown = 0xFFFFFFFF
+
 abbrev pub bitOf : ℕ → ℕ
 bitOf f = pick (ltb 0 f) 1 0
 

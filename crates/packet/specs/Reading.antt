@@ -6,7 +6,7 @@ use Rattle.wire.specs.Field.{u16At, got16, pastTag}
 use Rattle.image.specs.declared.record.Record.{Record}
 use Rattle.image.specs.declared.record.Record.the-variants.{Packet, Header, Message}
 use Rattle.image.specs.Kind as kind
-use Rattle.image.specs.Due.{Due, end, stop, due, _>>=_}
+use Rattle.image.specs.Due.{Due, end, stop, seen, due, _>>=_}
 use Rattle.image.specs.Whole.{Whole, settled, refused, all}
 use Rattle.amf0.specs.Reading.{value, topValue}
 use Rattle.packet.specs.declared.head.Entry.{Entry}
@@ -29,6 +29,7 @@ entriesAt kind s (suc n) at =
 abbrev pub countAfter : List ℕ → Due → ℕ
 countAfter s (end n) = got16 (λ a p. 0) (u16At s n) λ m p. m
 countAfter s (stop a p) = 0
+countAfter s (seen fact d) = countAfter s d
 countAfter s (due r p d) = countAfter s d
 
 -- behind the front, h headers from a place on: the packet's record has both counts, and is due after the count of headers

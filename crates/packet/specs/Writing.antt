@@ -8,6 +8,7 @@ use Rattle.image.specs.Kind as kind
 use Rattle.image.specs.Record.{_bytes_, none}
 use Rattle.image.specs.Out.{Out, end, _>>=_, rowOf, row, bytes as bytesOut, Written, unwritten, settled}
 use Rattle.amf0.specs.Writing.{texted, topValue, asked, whole}
+use Rattle.packet.specs.Head.{unknown}
 
 -- a text behind its length
 abbrev pub short : List ℕ → ℕ → ℕ → ℕ → Out → Out
@@ -27,9 +28,9 @@ labelled text due at l d =
 unfoldable pub label : ℕ → List ℕ → List ℕ → ℕ → Out
 label due image text at = asked image due at λ l q. labelled text due at l (end q)
 
--- the length that an entry declares
+-- the length that an entry declares: the true one, or that it is not known
 abbrev pub declared : Bool → ℕ → ℕ
-declared exact n = pick exact n 0xFFFFFFFF
+declared exact n = pick exact n unknown
 
 -- an entry: its label, its length and its value
 unfoldable pub entry : ℕ → Bool → List ℕ → List ℕ → ℕ → Out

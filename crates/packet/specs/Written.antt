@@ -30,7 +30,7 @@ abbrev pub writeLabel : Label → List ℕ
 writeLabel (Label.header name flag) = short name ++ (bitOf flag ∷ [])
 writeLabel (Label.message target response) = short target ++ short response
 
--- the length that an entry with a value is written with: that of the bytes behind it, or 0xFFFFFFFF
+-- the length that an entry with a value is written with: that of the bytes behind it, or that it is not known
 abbrev pub lengthOf : Bool → Tree Sort.value → ℕ
 lengthOf exact v = declared exact (length (amf0.write v))
 

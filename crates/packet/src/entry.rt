@@ -1,4 +1,4 @@
-// Reading by entry: the cut by declared lengths, as a list or by the number of an entry, and the value of an entry.
+// Reading by entry: the cut by the entries' lengths, as a list or by the number of an entry, and the value of an entry.
 use crate::head::Entry;
 use crate::walk::Walk;
 use crate::walk::begin;
@@ -64,7 +64,7 @@ fn first(packet: &[u8], w: Walk) -> Found
     }
 }
 
-// Entry `number` of a packet that its declared lengths cut exactly.
+// Entry `number` of a packet that its lengths cut exactly.
 pub fn nth(packet: &[u8], number: usize) -> Found
     ensures { λ r. ⌜ r ≡ foundIn (cutOf (now (packet .entry))) number ⌝ }
 {
@@ -120,7 +120,7 @@ pub(crate) fn clear(list: &mut [Entry], from: usize)
     }
 }
 
-// The entries of a packet that its declared lengths cut exactly, headers first, and zero entries behind them; on a refusal zero entries alone.
+// The entries of a packet that its lengths cut exactly, headers first, and zero entries behind them; on a refusal zero entries alone.
 pub fn cut(packet: &[u8], list: &mut [Entry]) -> Cutting
     ensures { λ r. ⌜ r ≡ listOf (now (packet .entry)) (length (now (list .entry))) .cutting ⌝ }
     ensures { λ _. ⌜ now (list .exit) ≡ filled (listOf (now (packet .entry)) (length (now (list .entry))) .entries) (length (now (list .entry))) ⌝ }

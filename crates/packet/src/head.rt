@@ -17,7 +17,11 @@ pub const HEADER: u8 = kind::HEADER;
 
 pub const MESSAGE: u8 = kind::MESSAGE;
 
-// One entry: a header, with its name and flag, or a message, with its target and response; and the value that it holds, by the length that it declares.
+// The length that says that it is not known.
+pub const UNKNOWN: usize = 0xFFFF_FFFF;
+
+// One entry: a header, with its name and flag, or a message, with its target and response; and the value that it holds, by the length that it
+// declares, or that was measured where it declares none.
 pub struct Entry {
     pub kind: u8,
     pub flag: u8,

@@ -1,7 +1,7 @@
-// The AMF packet: read and written whole, and cut into its entries by the lengths that it declares, each of which is read by itself.
+// The AMF packet: read and written whole, and cut into its entries by their lengths, each of which is read by itself.
 pub mod entry;
 pub mod head;
 pub mod read;
 pub mod row;
-mod walk;
+pub mod walk;
 pub mod write;

@@ -1,10 +1,13 @@
-// A walk over the entries of a packet, by the lengths that they declare. It never looks into a value.
+// A walk over the entries of a packet, by the lengths that they declare. It looks into a value only where its length is not known.
 use crate::head::Entry;
 use crate::head::HEADER;
 use crate::head::Head;
 use crate::head::MESSAGE;
+use crate::head::UNKNOWN;
 use crate::head::front;
 use crate::head::head_at;
+use amf0::read::measure;
+use amf0::survey::Ended;
 use wire::answer::NOT_RIGHT;
 use wire::answer::NOT_WHOLE;
 use wire::cursor::Cursor;
@@ -13,7 +16,7 @@ ghost use mathlib.Core.Path.{_≡_};
 ghost use mathlib.Core.Bool.{true};
 ghost use Prim.Native.Nat.{suc, _-_, _≤_, _<_};
 ghost use lib.ListN.{length, getD};
-ghost use Rattle.packet.specs.Entry.{_thence_, walk, entryAt, endAt, messagesFrom, strict, cutOf, noEntry};
+ghost use Rattle.packet.specs.Entry.{_thence_, walk, measuredAt, entryAt, endAt, messagesFrom, strict, cutOf, noEntry};
 ghost use Rattle.packet.specs.Code.{behind, goesOn, goesBelow, restOf, leftOf, past, Out};
 
 // How far a walk has come: to an entry of a kind at a cursor, with so many more of that kind behind it; to the packet's end; or it is refused.
@@ -44,8 +47,31 @@ pub(crate) fn no_entry() -> Entry
     }
 }
 
-// The entry at a cursor, and the cursor behind its value.
-fn entry_at(s: &[u8], kind: u8, c: Cursor) -> Head
+// An entry whose value begins at a cursor and has a length that is not known: the value is read where it stands.
+fn measured(s: &[u8], e: Entry, c: Cursor) -> Head
+    ensures { λ r. ⌜ r ≡ measuredAt (now (s .entry)) e (c .at) ⌝ }
+{
+    let at = c.at;
+    match measure(s, 0, c) {
+        Ended::Stop(a, p) => Head::Stop(a, p),
+        Ended::Next(d) => Head::Got(
+            Entry {
+                kind: e.kind,
+                flag: e.flag,
+                place1: e.place1,
+                length1: e.length1,
+                place2: e.place2,
+                length2: e.length2,
+                place: e.place,
+                length: d.at - at,
+            },
+            d,
+        ),
+    }
+}
+
+// The entry at a cursor, and the cursor behind its value: for the layers above.
+pub fn entry_at(s: &[u8], kind: u8, c: Cursor) -> Head
     ensures { λ r. ⌜ r ≡ entryAt kind (now (s .entry)) (c .at) ⌝ }
 {
     match head_at(s, kind, c) {
@@ -53,6 +79,9 @@ fn entry_at(s: &[u8], kind: u8, c: Cursor) -> Head
         Head::Got(e, d) => {
             let n = e.length;
             let at = d.at;
+            if n == UNKNOWN {
+                return measured(s, e, d);
+            }
             if n <= s.len() - at {
                 Head::Got(e, Cursor { at: at + n })
             } else {

@@ -1,4 +1,4 @@
--- The whole reading of a packet whose declared lengths are those of its values, against its reading by entry.
+-- The whole reading of a packet whose lengths are those of its values, or not known, against its reading by entry.
 use Rattle.wire.proofs.Kit.{ℕ, zero, suc, _+_, _*_, _≤_, _<_, _≡_, refl, sym, ap, _∙_, List, [], _∷_, _++_, append-assoc, arith, le-refl, add-zero, zero-add, append-nil}
 use Rattle.wire.proofs.Kit.{suc-add, length, getD, length-append, le-leb, lt-ltb}
 use native.Mathlib.Nat.{add-suc}
@@ -6,11 +6,12 @@ use Rattle.wire.specs.Number.{Bytes}
 use Rattle.wire.specs.Limit as limit
 use Rattle.wire.specs.Field.{u16At, got16}
 use Rattle.wire.specs.declared.cursor.Cursor.{Cursor}
+use Rattle.wire.proofs.Stands.{Here}
 use Rattle.wire.specs.declared.cursor.U16.the-variants as U16
 use Rattle.wire.specs.declared.cursor.Tag.the-variants as Tag
 use Rattle.image.specs.declared.record.Record.the-variants.{Packet}
 use Rattle.image.specs.Record.{bytesOf}
-use Rattle.image.specs.Due.{Due, end, stop, due, based, Ends}
+use Rattle.image.specs.Due.{Due, end, stop, seen, due, based, Ends}
 use Rattle.image.specs.Whole.{Whole, bytes, accepted}
 use Rattle.image.proofs.Settle.{bytes-bind}
 use Rattle.amf0.specs.Reading.{topValue}
@@ -21,20 +22,23 @@ use Rattle.packet.specs.declared.head.Head.{Head}
 use Rattle.packet.specs.declared.head.Head.the-variants as Head
 use Rattle.packet.specs.Head.{versionAt, frontOf, headAt}
 use Rattle.packet.specs.Reading.{recordOf, entriesAt, countAfter, packetAt, wholeOf}
-use Rattle.packet.specs.Entry.{reached, entryAt, walk, found, cutOf, noEntry, spanOf, readEntry, span}
+use Rattle.packet.specs.Entry.{reached, measured, walk, found, cutOf, noEntry, spanOf, readEntry, span}
 use Rattle.packet.specs.Change.{imagesFrom, Agrees}
 use Rattle.packet.proofs.Laws.{Begun, head-begun}
+use Rattle.packet_theorems.specs.Cuts.{Says}
+use Rattle.packet_theorems.proofs.Said.{entry-said}
 use Rattle.packet_theorems.proofs.Taken.{whole-taken}
 use Rattle.amf0.specs.Span.{oneValue}
 use Rattle.amf0_theorems.proofs.Spans.{ends-bind, alone, answer-all}
 
--- ---- entries whose values end where their declared lengths say
+-- ---- entries whose values end where their lengths say
 
--- entries of a kind from a place of s to another, each value, as the whole reading reads it, as long as its entry declares
+-- entries of a kind from a place of s to another, each value, as the whole reading reads it, as long as its length says, or of a length that is not known
 pub data Exactly (kind : ℕ) (s : List ℕ) : List Entry → ℕ → ℕ → Type 0 where
   none : {at : ℕ} → Exactly kind s [] at at
-  more : {e : Entry} {c : Cursor} {es : List Entry} {at z : ℕ} → headAt kind s at ≡ Head.Got e c → Ends (topValue s (e .place)) (e .place + e .length)
-      → Exactly kind s es (e .place + e .length) z → Exactly kind s (e ∷ es) at z
+  more : {e : Entry} {c : Cursor} {d : ℕ} {y r : List ℕ} {es : List Entry} {at z : ℕ} → headAt kind s at ≡ Head.Got e c → e .length ≡ d → Says d y
+      → Here s (e .place) y r → Ends (topValue s (e .place)) (e .place + length y) → Exactly kind s es (e .place + length y) z
+      → Exactly kind s (measured e (length y) ∷ es) at z
 
 -- the image of entries read alone, each behind its record
 abbrev alones : List ℕ → List Entry → List ℕ
@@ -47,26 +51,28 @@ Ended s (e ∷ es) = Ends (topValue (spanOf s e) 0) (e .length) × Ended s es
 
 -- both readings of such entries
 pub record Reads (kind : ℕ) (s : List ℕ) (es : List Entry) (at z : ℕ) : Type 0 where
-  pub walks : walk kind s (length es) at ≡ reached es z
+  pub walks : length s ≤ limit.bytes → walk kind s (length es) at ≡ reached es z
   pub ends : Ends (entriesAt kind s (length es) at) z
   pub image : bytes (entriesAt kind s (length es) at) ≡ alones s es
   pub values : Ended s es
 
 exactly-reads : (kind : ℕ) (s : List ℕ) (es : List Entry) (at z : ℕ) → Bytes s → Exactly kind s es at z → Reads kind s es at z
-unfolding walk entriesAt bytes entryAt
-exactly-reads kind s es at z bs Exactly.none = record { walks = refl; ends = refl; image = refl; values = tt }
-exactly-reads kind s es at z bs (Exactly.more {e} {c} {es = fs} h v x) = go (exactly-reads kind s fs (e .place + e .length) z bs x) (head-begun s at kind h)
+unfolding walk entriesAt bytes
+exactly-reads kind s es at z bs Exactly.none = record { walks = λ l. refl; ends = refl; image = refl; values = tt }
+exactly-reads kind s es at z bs (Exactly.more {e} {c} {y = y} {es = fs} h same w g v x) =
+    go (exactly-reads kind s fs (e .place + length y) z bs x) (head-begun s at kind h)
   where
-    go : Reads kind s fs (e .place + e .length) z → Begun s at e (c .at) → Reads kind s (e ∷ fs) at z
+    go : Reads kind s fs (e .place + length y) z → Begun s at e (c .at) → Reads kind s (measured e (length y) ∷ fs) at z
     go r d =
         let next = sym (d .place) in
         let u = topValue s (e .place) in
-        let b = ends-kept Named s (3 * e .place) (e .place + e .length) u (kept limit.levels s (e .place) (omega (arith, d .place, d .within))) v .1 in
-        let a = alone s (e .place) (e .length) bs b v in
+        let n : ℕ = e .place + length y in
+        let b = ends-kept Named s (3 * e .place) n u (kept limit.levels s (e .place) (omega (arith, d .place, d .within))) v .1 in
+        let a = alone s (e .place) (length y) bs b v in
         record {
-          walks = rw (h, next, le-leb (e .place + e .length) (length s) b, r .walks);
-          ends = rw (h, next) (ends-bind u (entriesAt kind s (length fs)) (e .place + e .length) z v (r .ends));
-          image = rw (h, next, bytes-bind u (entriesAt kind s (length fs)) (e .place + e .length) v, a .same, r .image);
+          walks = λ l. rw (entry-said kind at l h same w g, r .walks l);
+          ends = rw (h, next) (ends-bind u (entriesAt kind s (length fs)) n z v (r .ends));
+          image = rw (h, next, bytes-bind u (entriesAt kind s (length fs)) n v, a .same, r .image);
           values = (a .ends, r .values);
         }
 
@@ -100,7 +106,7 @@ module _ (s : List ℕ) (room : ℕ) (es : List Entry) (n : ℕ) (cut : cutOf s 
 
 -- ---- the whole packet
 
--- a packet whose entries declare the lengths of their values, as the whole reading reads them, up to its last byte
+-- a packet whose entries declare the lengths of their values, as the whole reading reads them, or that these are not known, up to its last byte
 pub record Exacts (s : List ℕ) : Type 0 where
   pub headers : List Entry
   pub messages : List Entry
@@ -117,6 +123,7 @@ pub record Exacts (s : List ℕ) : Type 0 where
 pub count-after : (s : List ℕ) (d : Due) (n m : ℕ) (c : Cursor) → Ends d n → u16At s n ≡ U16.Got m c → countAfter s d ≡ m
 count-after s (end k) n m c e h = rw (← e, h)
 count-after s (stop a p) n m c e h = absurd e
+count-after s (seen fact d) n m c e h = count-after s d n m c e h
 count-after s (due r p d) n m c e h = count-after s d n m c e h
 
 alones-append : (s : List ℕ) (hs ms : List Entry) → alones s (hs ++ ms) ≡ alones s hs ++ alones s ms
@@ -142,7 +149,7 @@ both s bs x =
     let m = exactly-reads 0x32 s ms (x .f .at) (length s) bs (x .message-values) in
     let d : Due = entriesAt 0x31 s (length hs) (x .q .at) in
     record {
-      cut = λ l. rw (le-leb (length s) limit.bytes l, x .version, x .header-count, h .walks, x .message-count, m .walks, le-leb (length s) (length s) (le-refl (length s)), append-nil ms);
+      cut = λ l. rw (le-leb (length s) limit.bytes l, x .version, x .header-count, h .walks l, x .message-count, m .walks l, le-leb (length s) (length s) (le-refl (length s)), append-nil ms);
       image =
           rw (
             x .version,

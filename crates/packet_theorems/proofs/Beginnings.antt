@@ -1,6 +1,6 @@
 -- A proper beginning of a packet is refused with 2: a refusal with another answer stays where bytes are added behind.
 use Rattle.wire.proofs.Kit.{ℕ, _≤_, _≡_, refl, sym, ap, _∙_, _≢_, List, [], _∷_, _++_, append-nil, append-assoc, Bool, true, false, arith, length}
-use Rattle.wire.proofs.Kit.{length-append, eqb, eqb-true, eqb-false}
+use Rattle.wire.proofs.Kit.{length-append, take-append-le, eqb, eqb-true, eqb-false}
 use Rattle.wire.specs.Number.{Bytes}
 use Rattle.wire.specs.Limit as limit
 use Rattle.wire.proofs.Stands.{Here, bytes-left}
@@ -9,27 +9,23 @@ use Rattle.amf0_theorems.proofs.Leading.{longer}
 use Rattle.amf0_theorems.proofs.Refused.{still-refused}
 use Rattle.image.proofs.Settle.{either, on-stops}
 use Rattle.amf0_theorems.specs.Refusal.{Field}
-use Rattle.packet.specs.Packet.{Label, Packet, Encoded}
+use Rattle.packet.specs.Packet.{Packet, Encoded}
 use Rattle.packet.specs.Shown.{Within}
 use Rattle.packet.specs.Reading.{packetAt, incompleteOf, wholeOf}
 use Rattle.packet.specs.declared.entry.Found.the-variants as Found
 use Rattle.packet.specs.Entry.{stops, cutOf, listOf, uncut, foundIn, readEntry}
 use Rattle.packet_theorems.specs.Cuts.{Slice, Cuts}
-use Rattle.packet_theorems.specs.Refusal.{Way, whole, cut, LeadsEntries, IsPacket, LeadsPacket, Seven, RefusedPacket, RefusedCut}
+use Rattle.packet_theorems.specs.Refusal.{Way, whole, Sizes, cut, IsPacket, Seven, RefusedPacket, RefusedCut}
 use Rattle.packet_theorems.proofs.Parts.{Part, goes, halts, goes-halts, Standing, Plain}
-use Rattle.packet_theorems.proofs.Ways.{Goes, packetBy, TellsPacket, way-told, way-halts, way-ends}
+use Rattle.packet_theorems.proofs.Ways.{Goes, packetBy, TellsPacket, way-told, way-halts, way-ends, Carries, fields-carried}
 use Rattle.packet_theorems.proofs.Taken.{roomy}
 use Rattle.packet_theorems.proofs.PacketBytes.{encoded-bytes}
 use Rattle.packet_theorems.proofs.CutExactly.{cuts-packet}
 use Rattle.packet_theorems.proofs.Theorems.{incomplete-room-exact}
 use Rattle.packet_theorems.proofs.Reasons.{readable-packet}
-use Rattle.packet_theorems.proofs.Refusals.{spanBy, span-goes, cut-refused-exactly, valueBy, value-goes, packet-refused}
+use Rattle.packet_theorems.proofs.Refusals.{cutBy, cut-goes, cut-refused-exactly, valueBy, value-goes, packet-refused}
 
 -- ---- bytes added behind
-
--- the fields of values lead on where bytes are added behind one that is there
-record More (w : Way) : Type 0 where
-  inside : (r q x : List ℕ) (f : Field) → 1 ≤ length r → w .Inside r x f → w .Inside (r ++ q) x f
 
 version-more : (r q : List ℕ) → 1 ≤ length r → ((z : List ℕ) → r ≢ 3 ∷ z) → (z : List ℕ) → r ++ q ≢ 3 ∷ z
 version-more [] q h t z e = omega arith
@@ -38,26 +34,25 @@ version-more (b ∷ r) q h t z e = t r cc
 seven-more : {s : List ℕ} (q : List ℕ) → Seven s → Seven (s ++ q)
 seven-more q Seven.begins = Seven.begins
 
-module _ {w : Way} (more : More w) (q : List ℕ) where
-  entries-more : {Kind : Label → Type 0} {r x : List ℕ} {f : Field} {k : ℕ} → 1 ≤ length r → LeadsEntries w Kind r k x f → LeadsEntries w Kind (r ++ q) k x f
-  entries-more h (LeadsEntries.label l) = LeadsEntries.label l
-  entries-more h (LeadsEntries.declared k e) = LeadsEntries.declared k e
-  entries-more {r} {f} h (LeadsEntries.inside {y} k e d i) = LeadsEntries.inside k e d (more .inside r q y f h i)
-  entries-more h (LeadsEntries.next k e d y z) = LeadsEntries.next k e d y (entries-more h z)
+-- values are gone over likewise where bytes are added behind a field that is there
+abbrev More : Way → Type 0
+More w = (r q : List ℕ) → 1 ≤ length r → Carries w w r (r ++ q)
 
-  -- fields lead on where bytes are added behind one that is there
-  packet-more : {r x : List ℕ} {f : Field} → 1 ≤ length r → LeadsPacket w r x f → LeadsPacket w (r ++ q) x f
-  packet-more h LeadsPacket.zero = LeadsPacket.zero
-  packet-more {r} h (LeadsPacket.version t) = LeadsPacket.version (version-more r q h t)
-  packet-more h LeadsPacket.header-count = LeadsPacket.header-count
-  packet-more h (LeadsPacket.headers l y) = LeadsPacket.headers l (entries-more h y)
-  packet-more h (LeadsPacket.message-count l y) = LeadsPacket.message-count l y
-  packet-more h (LeadsPacket.messages l y m z) = LeadsPacket.messages l y m (entries-more h z)
+whole-more : More whole
+whole-more r q h = record { size = λ f z. z; stands = λ d y e. e; inside = λ d y f i. longer q h i; version = version-more r q h }
 
-  -- a refusal with another answer than 2 stays
-  refused-more : {s : List ℕ} {a p : ℕ} → a ≢ 2 → RefusedPacket w s a p → RefusedPacket w (s ++ q) a p
-  refused-more n (RefusedPacket.version-3 v) = RefusedPacket.version-3 (seven-more q v)
-  refused-more n (RefusedPacket.field u) = RefusedPacket.field (still-refused q (λ r x f h l. packet-more h l) u n)
+cut-more : More cut
+cut-more r q h =
+    record { size = sizes; stands = λ d y e. e; inside = λ d y f i. (i .0, longer q h (i .1)); version = version-more r q h }
+  where
+    sizes : (f : Field) → Sizes r f → Sizes (r ++ q) f
+    sizes f Sizes.four = Sizes.four
+    sizes f (Sizes.known i n) = Sizes.known (omega (arith, length-append r q)) (rw (take-append-le 4 r q i) n)
+
+-- a refusal with another answer than 2 stays
+refused-more : {w : Way} → More w → (q : List ℕ) {s : List ℕ} {a p : ℕ} → a ≢ 2 → RefusedPacket w s a p → RefusedPacket w (s ++ q) a p
+refused-more more q n (RefusedPacket.version-3 v) = RefusedPacket.version-3 (seven-more q v)
+refused-more more q n (RefusedPacket.field u) = RefusedPacket.field (still-refused q (λ r x f h l. fields-carried (more r q h) l) u n)
 
 -- ---- a proper beginning
 
@@ -94,13 +89,12 @@ module _ {hs ms : List Slice} (s r : List ℕ) (bs : Bytes (s ++ r)) (exact : Cu
   -- the cut of a proper beginning
   cut-begun : (p : ℕ) × (cutOf s ≡ stops 2 p)
   cut-begun =
-      let more : More cut = record { inside = λ r q x f h i. absurd i } in
       let ss = bytes-left s r bs in
       let packet = cuts-packet (s ++ r) .1 (hs, ms, exact) in
-      let b = way-begun more s r bs (spanBy s) (spanBy (s ++ r)) (span-goes s ss) (span-goes (s ++ r) bs) proper packet in
+      let b = way-begun cut-more s r bs (cutBy s) (cutBy (s ++ r)) (cut-goes s ss) (cut-goes (s ++ r) bs) proper packet in
       (b .0, cut-refused-exactly s 2 (b .0) ss .1 (RefusedCut.not-cut small (b .1)))
 
-  -- A proper beginning of a packet that its declared lengths cut exactly is, within the limit, refused with 2 by `cut`, whatever the list.
+  -- A proper beginning of a packet that its lengths cut exactly is, within the limit, refused with 2 by `cut`, whatever the list.
   pub cut-beginning : (room : ℕ) → (p : ℕ) × (listOf s room ≡ uncut 2 p)
   unfolding listOf
   cut-beginning room = (cut-begun .0, rw (cut-begun .1))
@@ -121,11 +115,10 @@ module _ (p : Packet) (s r : List ℕ) (room : ℕ) (packet : Encoded p (s ++ r)
   -- A proper beginning of a packet whose values are not too deep is, within the limit and where it is not refused for room, refused with 2.
   pub incomplete-beginning : incompleteOf s room .reading .answer ≢ 4 → (p : ℕ) × (incompleteOf s room ≡ refused 2 p)
   incomplete-beginning n =
-      let more : More whole = record { inside = λ r q x f h i. longer q h i } in
       let bs = encoded-bytes packet in
       let ss = bytes-left s r bs in
       let b =
-      way-begun more s r bs (valueBy s) (valueBy (s ++ r)) (value-goes s ss) (value-goes (s ++ r) bs) proper
+      way-begun whole-more s r bs (valueBy s) (valueBy (s ++ r)) (value-goes s ss) (value-goes (s ++ r) bs) proper
       (readable-packet (s ++ r) .0 (record { packet = p; encoded = packet; within = deep }))
       in
       let fits : length (bytes (packetAt s)) ≤ room =

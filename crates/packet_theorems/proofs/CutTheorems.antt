@@ -1,20 +1,21 @@
 -- The theorems on the cut into a list, over what it comes to.
-use Rattle.wire.proofs.Kit.{ℕ, zero, suc, _≤_, _<_, _≡_, refl, sym, ap, _≢_, _↔_, List, [], _∷_, _++_, map, arith, length, getD, leb, leb-true, le-leb, lt-ltb}
+use Rattle.wire.proofs.Kit.{ℕ, zero, suc, _≤_, _<_, _≡_, refl, sym, ap, _≢_, _↔_, List, [], _∷_, _++_, arith, length, getD, leb, leb-true, le-leb, lt-ltb}
+use Rattle.wire.specs.Number.{Bytes}
 use Rattle.wire.proofs.Laws.{picked}
 use Rattle.amf0.specs.Span.{Changed}
 use Rattle.packet.specs.declared.head.Entry.{Entry}
 use Rattle.packet.specs.declared.entry.Found.{Found}
 use Rattle.packet.specs.declared.entry.Found.the-variants as Found
-use Rattle.packet.specs.Entry.{Cut, found, stops, cutOf, noEntry, span, Listed, uncut, listed, listOf, filled, readSpan, readEntry, foundIn}
+use Rattle.packet.specs.Entry.{Cut, found, stops, cutOf, noEntry, Listed, uncut, listed, listOf, filled, readSpan, readEntry, foundIn}
+use Rattle.packet.specs.Change.{knownSpans}
 use Rattle.packet.proofs.Laws.{Splits, cut-told}
 use Rattle.packet_theorems.proofs.Outcome.{ComesList, comes-list}
 use Rattle.packet_theorems.proofs.Theorems.{entry-span}
 use Rattle.packet_theorems.proofs.Demand3.{same-cut}
 
--- an answer of the cut: 0, 1, 2, 3, 4 or 7
+-- an answer of the cut: 0 to 5, or 7
 pub record CutAnswer (a : ℕ) : Type 0 where
   pub high : a ≤ 7
-  pub deep : a ≢ 5
   pub tree : a ≢ 6
 
 stopped : (s : List ℕ) {a p : ℕ} → cutOf s ≡ stops a p → Splits s (stops a p)
@@ -24,9 +25,9 @@ pub cut-answers : (s : List ℕ) (room : ℕ) → CutAnswer (listOf s room .cutt
 cut-answers s room = go (listOf s room) (comes-list s room)
   where
     go : (w : Listed) → ComesList s room w → CutAnswer (w .cutting .answer)
-    go w (ComesList.not-cut e) = let c = stopped s e .cuts in record { high = c .high; deep = c .deep; tree = c .tree }
-    go w (ComesList.too-short e h) = record { high = omega arith; deep = λ z. omega arith; tree = λ z. omega arith }
-    go w (ComesList.cut e h) = record { high = omega arith; deep = λ z. omega arith; tree = λ z. omega arith }
+    go w (ComesList.not-cut e) = let c = stopped s e .cuts in record { high = c .high; tree = c .tree }
+    go w (ComesList.too-short e h) = record { high = omega arith; tree = λ z. omega arith }
+    go w (ComesList.cut e h) = record { high = omega arith; tree = λ z. omega arith }
 
 -- The answer is 4 exactly where the packet is cut, into more entries than the list has room for.
 pub cut-short : (s : List ℕ) (room : ℕ) → listOf s room .cutting .answer ≡ 4 ↔ (es : List Entry) × (cutOf s ≡ found es (length s)) × (room < length es)
@@ -83,7 +84,7 @@ pub cut-span : (s : List ℕ) (list k room : ℕ) → k < listOf s list .cutting
     → let e = getD (filled (listOf s list .entries) list) k noEntry in readSpan s (e .place) (e .length) room ≡ readEntry s k room
 cut-span s list k room h = entry-span s k room (getD (filled (listOf s list .entries) list) k noEntry) (cut-nth s list k h)
 
--- Demand 3, for the list: a packet that is cut, with other bytes inside its values and nothing else changed, is cut into the same list.
-pub same-list : (s t : List ℕ) (es : List Entry) (n room : ℕ) → cutOf s ≡ found es n → Changed (map span es) s t → listOf t room ≡ listOf s room
+-- Demand 3, for the list: a packet that is cut, with other bytes inside its values of a known length and nothing else changed, is cut into the same list.
+pub same-list : (s t : List ℕ) (es : List Entry) (n room : ℕ) → Bytes s → cutOf s ≡ found es n → Changed (knownSpans s es) s t → listOf t room ≡ listOf s room
 unfolding listOf
-same-list s t es n room e c = rw (same-cut s t es n e c)
+same-list s t es n room bs e c = rw (same-cut s t es n bs e c)

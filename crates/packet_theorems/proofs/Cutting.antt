@@ -1,21 +1,21 @@
--- A packet that was written with exact lengths is cut into the entries that it was written of.
-use Rattle.wire.proofs.Kit.{ℕ, zero, suc, _≤_, _<_, _≡_, refl, ap, _∙_, List, [], _∷_, _++_, map, map-append, true, arith, length, getD, length-map}
+-- A packet that was written, in either setting, is cut into the entries that it was written of.
+use Rattle.wire.proofs.Kit.{ℕ, zero, suc, _≤_, _<_, _≡_, refl, ap, _∙_, List, [], _∷_, _++_, map, map-append, Bool, true, false, arith, length, getD, length-map}
 use lib.ListN.{List·getD-map}
 use Rattle.wire.specs.Limit as limit
 use Rattle.image.specs.declared.record.Record.{Record}
-use Rattle.amf0.specs.Standard.{Sort, depth, Encodes}
+use Rattle.amf0.specs.Standard.{Sort, Tree, depth, Encodes}
 use Rattle.amf0.specs.Shown.{laid}
 use Rattle.amf0.specs.Written as amf0
 use Rattle.amf0_theorems.proofs.Puts.{laid-length, laid-size}
 use Rattle.amf0_theorems.proofs.Shortest.{encoded}
 use Rattle.packet.specs.declared.head.Entry.{Entry}
 use Rattle.packet.specs.Packet.{Label, Item, Packet}
-use Rattle.packet.specs.Shown.{counts, Shallow}
+use Rattle.packet.specs.Shown.{counts, Shallow, Within}
 use Rattle.packet.specs.Entry.{found, cutOf, noEntry}
-use Rattle.packet.specs.Written.{writeItems, write, Spells, Images, Parts, itemsOf, noItem}
-use Rattle.packet_theorems.specs.Cuts.{Slice, Slices, Cuts, entriesOf, Each, Valued, Exact}
+use Rattle.packet.specs.Written.{lengthOf, writeItems, write, Spells, Images, Parts, itemsOf, noItem}
+use Rattle.packet_theorems.specs.Cuts.{Slice, Says, Slices, Cuts, entriesOf, Each, Valued, Exact}
 use Rattle.packet_theorems.proofs.CutExactly.{cuts-row, cut-complete}
-use Rattle.packet_theorems.proofs.Shortest.{head, declares, items-length, write-length}
+use Rattle.packet_theorems.proofs.Shortest.{head, items-length, write-length}
 
 -- ---- entries and what they were written of
 
@@ -70,27 +70,34 @@ shallow-at n (i ∷ is) (suc k) x h = shallow-at n is k (x .1) (omega arith)
 
 -- ---- what is written is cut exactly
 
--- what entries are written as, with exact lengths, is a row of slices
-record Sliced (Kind : Label → Type 0) (is : List Item) : Type 0 where
-  stands : Slices Kind (map sliceOf is) (writeItems true is)
+-- the length that a value is written with says what it is written as
+says : (exact : Bool) (v : Tree Sort.value) → length (amf0.write v) ≤ limit.bytes → Encodes Sort.value v (amf0.write v) → depth v ≤ limit.levels
+    → Says (lengthOf exact v) (amf0.write v)
+says true v h e d = Says.known {y = amf0.write v} (omega arith)
+says false v h e d = Says.measured (record { tree = v; encodes = e; deep = d })
+
+-- what entries are written as is a row of slices
+record Sliced (exact : Bool) (Kind : Label → Type 0) (is : List Item) : Type 0 where
+  stands : Slices Kind (map sliceOf is) (writeItems exact is)
   encoding : Encoding is
 
-items-sliced : {Kind : Label → Type 0} {s : List ℕ} {is : List Item} {rs : List Record} → Spells s Kind is rs → length (laid rs) ≤ limit.image
-    → length (writeItems true is) ≤ limit.bytes → Sliced Kind is
-items-sliced Spells.none i j = record { stands = Slices.none; encoding = tt }
-items-sliced (Spells.more {l} {d} {v} {is} {r} {rs} {qs} t f n g c y) i j =
+items-sliced : (exact : Bool) {Kind : Label → Type 0} {s : List ℕ} {is : List Item} {rs : List Record} → Spells s Kind is rs → length (laid rs) ≤ limit.image
+    → length (writeItems exact is) ≤ limit.bytes → Shallow limit.levels is → Sliced exact Kind is
+items-sliced exact Spells.none i j deep = record { stands = Slices.none; encoding = tt }
+items-sliced exact (Spells.more {l} {d} {v} {is} {r} {rs} {qs} t f n g c y) i j deep =
     let u = laid-length rs qs in
     let w = laid-size r (rs ++ qs) in
-    let m = items-length true (record { label = l; declared = d; value = v }) is in
-    let q = items-sliced y (omega arith) (omega arith) in
+    let m = items-length exact (record { label = l; declared = d; value = v }) is in
+    let q = items-sliced exact y (omega arith) (omega arith) (deep .1) in
+    let e = encoded c g (omega arith) in
     record {
-      stands = Slices.more {y = amf0.write v} t (head n f) (declares true v λ e. omega arith) (q .stands);
-      encoding = (encoded c g (omega arith), q .encoding);
+      stands = Slices.more {y = amf0.write v} t (head n f) (says exact v (omega arith) e (deep .0)) (q .stands);
+      encoding = (e, q .encoding);
     }
 
 -- ---- the packet
 
--- b has exact lengths, and its cut finds the entries of p, one by one
+-- the lengths of b are exact or not known, and its cut finds the entries of p, one by one
 pub record Found (b : List ℕ) (p : Packet) : Type 0 where
   pub exact : Exact b
   pub entries : List Entry
@@ -99,18 +106,19 @@ pub record Found (b : List ℕ) (p : Packet) : Type 0 where
   pub each : (k : ℕ) → k < length entries → let i = getD (itemsOf p) k noItem in Parts b (i .label) (amf0.write (i .value)) (getD entries k noEntry)
   pub encodes : (k : ℕ) → k < length entries → let v = getD (itemsOf p) k noItem .value in Encodes Sort.value v (amf0.write v)
 
--- what a packet is written as, with exact lengths
-pub packet-cut : {s image : List ℕ} {p : Packet} → Images s p image → length image ≤ limit.image → length (write true p) ≤ limit.bytes → Found (write true p) p
-packet-cut {s} {image} {p} m i l =
-    let b : List ℕ = write true p in
+-- what a packet is written as, with exact lengths or without
+pub packet-cut : (exact : Bool) {s image : List ℕ} {p : Packet} → Images s p image → length image ≤ limit.image → length (write exact p) ≤ limit.bytes
+    → Within limit.levels p → Found (write exact p) p
+packet-cut exact {p = p} m i l deep =
+    let b : List ℕ = write exact p in
     let hs : List Item = p .headers in
     let ms : List Item = p .messages in
     let u = laid-size (counts p) (m .header-records ++ m .message-records) in
     let w = laid-length (m .header-records) (m .message-records) in
     let c = ap length (m .lies) in
-    let n = write-length true p in
-    let hi = items-sliced (m .headers) (omega arith) (omega arith) in
-    let mi = items-sliced (m .messages) (omega arith) (omega arith) in
+    let n = write-length exact p in
+    let hi = items-sliced exact (m .headers) (omega arith) (omega arith) (deep .0) in
+    let mi = items-sliced exact (m .messages) (omega arith) (omega arith) (deep .1) in
     let x : Cuts (map sliceOf hs) (map sliceOf ms) b =
     cuts-row (length hs) (length ms) (m .fits .a) (m .fits .b) (length-map hs sliceOf) (length-map ms sliceOf) (hi .stands) (mi .stands) refl in
     let f = cut-complete (map sliceOf hs) (map sliceOf ms) b l x in

@@ -23,6 +23,8 @@ use Rattle.packet.specs.Packet.{Label, Item, Items}
 use Rattle.packet.specs.Packet as packet
 use Rattle.packet.specs.Shown.{Names, ShowsItems, Shallow}
 use Rattle.packet.specs.Reading.{recordOf, entriesAt}
+use Rattle.packet.specs.Entry.{measured}
+use Rattle.packet_theorems.specs.Cuts.{Says}
 use Rattle.packet_theorems.proofs.Same.{onHead}
 use Rattle.packet_theorems.proofs.Heads.{Stands, Kinded, group}
 use Rattle.packet_theorems.proofs.Agree.{Exactly}
@@ -43,16 +45,16 @@ pub record First (kind : ℕ) (s : List ℕ) (at : ℕ) (l : Label) (x : List �
   pub behind : Here s (head .entry .place + length y) z r
   pub long : at + length (x ++ (digits 4 d ++ (y ++ z))) ≡ head .entry .place + length y + length z
 
--- entries with exact lengths, as the whole reading reads them
+-- entries whose lengths are exact or not known, as the whole reading reads them
 pub record Exacted (kind : ℕ) (s : List ℕ) (n at z : ℕ) : Type 0 where
   pub entries : List Entry
   pub count : length entries ≡ n
   pub exactly : Exactly kind s entries at z
 
--- every entry in a row declares the length of the bytes that encode its value
+-- every entry in a row declares the length of the bytes that encode its value, or that it is not known
 abbrev pub ExactItems : {Kind : Label → Type 0} {is : List Item} {x : List ℕ} → Items Kind is x → Type 0
 ExactItems Items.none = Unit {0}
-ExactItems (Items.more {d} {y} k h b v i) = (d ≡ length y) × ExactItems i
+ExactItems (Items.more {d} {y} k h b v i) = Says d y × ExactItems i
 
 -- the records of entries, but for places
 abbrev ofLabel : Label → Record
@@ -131,12 +133,11 @@ module _ {kind : ℕ} {Kind : Label → Type 0} (k : Kinded kind Kind) where
                   lies = rw (f .head .read, same, laid-append (recordsOf u) (m .records), m .lies, bytes-laid u);
                 };
             exact = λ x.
-                let same : f .head .entry .length ≡ length y = f .head .declared ∙ x .0 in
                 let m = t .exact (x .1) in
                 record {
-                  entries = f .head .entry ∷ m .entries;
+                  entries = measured (f .head .entry) (length y) ∷ m .entries;
                   count = ap suc (m .count);
-                  exactly = Exactly.more {es = m .entries} {z = p + length y + length z} (f .head .read) (rw same (a .ends)) (rw same (m .exactly));
+                  exactly = Exactly.more (f .head .read) (f .head .declared) (x .0) (f .value) (a .ends) (m .exactly);
                 };
           })
 
@@ -196,23 +197,37 @@ names-one (Names.header f h x) (Names.message i j y z) e = let z : _≡_ {A = �
 names-one (Names.message h j x y) (Names.header f i z) e = let z : _≡_ {A = ℕ} 0 1 = cc in absurd (omega arith)
 names-one (Names.message h i x y) (Names.message j k z w) e = cc
 
-pub items-unique : {kind : ℕ} {Kind : Label → Type 0} {is js : List Item} {x y : List ℕ} → Kinded kind Kind → Items Kind is x → Items Kind js y → (r q : List ℕ)
-    → length is ≡ length js → x ++ r ≡ y ++ q → (is ≡ js) × (x ≡ y)
-items-unique k Items.none Items.none r q c e = (refl, refl)
-items-unique k Items.none (Items.more a b d f i) r q c e = absurd (omega arith)
-items-unique k (Items.more a b d f i) Items.none r q c e = absurd (omega arith)
-items-unique {kind} k (Items.more {l = l} {d = d} {v = v} {is = is} {x = x} {y = y} {z = z} a b c f i)
-    (Items.more {l = l′} {d = d′} {v = v′} {is = is′} {x = x′} {y = y′} {z = z′} a′ b′ c′ f′ i′) r q n e =
+-- the heads of two entries of a kind that begin the same bytes are one, and the same bytes stand behind them
+pub record OneHead (l m : Label) (d e : ℕ) (x w y z r q : List ℕ) : Type 0 where
+  pub label : l ≡ m
+  pub declared : d ≡ e
+  pub row : x ≡ w
+  pub behind : y ++ r ≡ z ++ q
+
+pub heads-one : {kind : ℕ} {Kind : Label → Type 0} {l l′ : Label} {d d′ : ℕ} {x x′ : List ℕ} → Kinded kind Kind → Kind l → packet.Head l x → d < 256 ^ 4
+    → Kind l′ → packet.Head l′ x′ → d′ < 256 ^ 4 → (y z r y′ z′ q : List ℕ)
+    → (x ++ (digits 4 d ++ (y ++ z))) ++ r ≡ (x′ ++ (digits 4 d′ ++ (y′ ++ z′))) ++ q → OneHead l l′ d d′ x x′ y y′ (z ++ r) (z′ ++ q)
+heads-one {kind} {l = l} {l′} {d} {d′} {x} {x′} k a b c a′ b′ c′ y z r y′ z′ q e =
     let s = (x ++ (digits 4 d ++ (y ++ z))) ++ r in
     let m : First kind s 0 l x d y z r = first k a b c (record { same = refl }) in
     let o : First kind s 0 l′ x′ d′ y′ z′ q = first k a′ b′ c′ (record { same = e }) in
     let ee : m .head .entry ≡ o .head .entry = cc (sym (m .head .read) ∙ o .head .read) in
     let pp : m .head .entry .place ≡ o .head .entry .place = ap (λ (t : Entry). t .place) ee in
-    let dd : d ≡ d′ = sym (m .head .declared) ∙ (ap (λ (t : Entry). t .length) ee ∙ o .head .declared) in
-    let ll : l ≡ l′ = names-one (m .head .names) (o .head .names) (ap recordOf ee) in
-    let hh : y ++ (z ++ r) ≡ y′ ++ (z′ ++ q) = sym (m .value .same) ∙ (ap (λ p. drop p s) pp ∙ o .value .same) in
-    let vv = amf0.unique v v′ y y′ (z ++ r) (z′ ++ q) f f′ hh in
-    let zz = front y y′ (z ++ r) (z′ ++ q) hh (ap length (vv .1)) .1 in
-    let xx = front x x′ _ _ (sym (append-assoc x _ r) ∙ (e ∙ append-assoc x′ _ q)) (omega (arith, m .head .place, o .head .place)) .0 in
+    record {
+      label = names-one (m .head .names) (o .head .names) (ap recordOf ee);
+      declared = sym (m .head .declared) ∙ (ap (λ (t : Entry). t .length) ee ∙ o .head .declared);
+      row = front x x′ _ _ (sym (append-assoc x _ r) ∙ (e ∙ append-assoc x′ _ q)) (omega (arith, m .head .place, o .head .place)) .0;
+      behind = sym (m .value .same) ∙ (ap (λ p. drop p s) pp ∙ o .value .same);
+    }
+
+pub items-unique : {kind : ℕ} {Kind : Label → Type 0} {is js : List Item} {x y : List ℕ} → Kinded kind Kind → Items Kind is x → Items Kind js y → (r q : List ℕ)
+    → length is ≡ length js → x ++ r ≡ y ++ q → (is ≡ js) × (x ≡ y)
+items-unique k Items.none Items.none r q c e = (refl, refl)
+items-unique k Items.none (Items.more a b d f i) r q c e = absurd (omega arith)
+items-unique k (Items.more a b d f i) Items.none r q c e = absurd (omega arith)
+items-unique k (Items.more {v = v} {y = y} {z = z} a b c f i) (Items.more {v = v′} {y = y′} {z = z′} a′ b′ c′ f′ i′) r q n e =
+    let o = heads-one k a b c a′ b′ c′ y z r y′ z′ q e in
+    let vv = amf0.unique v v′ y y′ (z ++ r) (z′ ++ q) f f′ (o .behind) in
+    let zz = front y y′ (z ++ r) (z′ ++ q) (o .behind) (ap length (vv .1)) .1 in
     let ii = items-unique k i i′ r q (omega arith) zz in
-    (rw (ll, dd, vv .0, ii .0), rw (xx, dd, vv .1, ii .1))
+    (rw (o .label, o .declared, vv .0, ii .0), rw (o .row, o .declared, vv .1, ii .1))

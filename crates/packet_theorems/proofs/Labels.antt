@@ -64,7 +64,7 @@ messageBy s at = textBy s at then λ v q. textBy s q
 
 header-follows : (s : List ℕ) → Bytes s → (at : ℕ) → Follows (Plain (Labelled IsHeader)) (λ r. LeadsLabel IsHeader) s at (headerBy s at)
 header-follows s bs at =
-    turned to-label from-label (λ r x f e. to-leads r x f) from-leads
+    turned (λ v x r h. to-label v x) from-label (λ r x f e. to-leads r x f) (λ r x f e. from-leads r x f)
     (in-turn (λ v q. numberBy 1 s q then λ b e. goes 0 e) (textBy s at) (text-follows s bs at) λ v x r t h.
     numberless (numberBy 1 s (at + length x)) (number-follows 1 s bs (at + length x) (omega arith)))
   where
@@ -92,7 +92,7 @@ header-follows s bs at =
 
 message-follows : (s : List ℕ) → Bytes s → (at : ℕ) → Follows (Plain (Labelled IsMessage)) (λ r. LeadsLabel IsMessage) s at (messageBy s at)
 message-follows s bs at =
-    turned to-label from-label (λ r x f e. to-leads r x f) from-leads
+    turned (λ v x r h. to-label v x) from-label (λ r x f e. to-leads r x f) (λ r x f e. from-leads r x f)
     (in-turn (λ v q. textBy s q) (textBy s at) (text-follows s bs at) λ v x r t h. text-follows s bs (at + length x))
   where
     to-label : (v : ℕ) (x : List ℕ) → Both (Plain Texted) (λ v. Plain Texted) v x → Plain (Labelled IsMessage) v x

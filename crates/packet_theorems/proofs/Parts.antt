@@ -60,16 +60,20 @@ pub record Follows (St : ℕ → List ℕ → Type 0) (L : List ℕ → List ℕ
   pub stops : (a p : ℕ) → Refused L s at a p → o ≡ halts a p
   pub told : Tells St L s at o
 
--- the same, as another grammar has it, which may say more of bytes that stand there
+-- the same, as another grammar has it: both say the same of bytes that stand there
 module _ {St Tt : ℕ → List ℕ → Type 0} {L M : List ℕ → List ℕ → Field → Type 0} {s : List ℕ} {at : ℕ} where
-  pub turned : {o : Part} → ((v : ℕ) (x : List ℕ) → St v x → Tt v x) → ((v : ℕ) (x r : List ℕ) → Here s at x r → Tt v x → St v x)
-      → ((r x : List ℕ) (f : Field) → drop at s ≡ x ++ r → L r x f → M r x f) → ((r x : List ℕ) (f : Field) → M r x f → L r x f) → Follows St L s at o
-      → Follows Tt M s at o
+  pub turned : {o : Part} → ((v : ℕ) (x r : List ℕ) → Here s at x r → St v x → Tt v x) → ((v : ℕ) (x r : List ℕ) → Here s at x r → Tt v x → St v x)
+      → ((r x : List ℕ) (f : Field) → drop at s ≡ x ++ r → L r x f → M r x f) → ((r x : List ℕ) (f : Field) → drop at s ≡ x ++ r → M r x f → L r x f)
+      → Follows St L s at o → Follows Tt M s at o
   turned {o} to-t to-s to-m to-l a =
-      record { ends = λ v x r t h. a .ends v x r (to-s v x r h t) h; stops = λ b p q. a .stops b p (reworded to-l q); told = go o (a .told) }
+      record {
+        ends = λ v x r t h. a .ends v x r (to-s v x r h t) h;
+        stops = λ b p q. a .stops b p (onward {m = []} (record { same = refl }) (omega arith) to-l q);
+        told = go o (a .told);
+      }
     where
       go : (o : Part) → Tells St L s at o → Tells Tt M s at o
-      go (goes v n) d = record { row = d .row; rest = d .rest; stands = to-t v (d .row) (d .stands); here = d .here; next = d .next }
+      go (goes v n) d = record { row = d .row; rest = d .rest; stands = to-t v (d .row) (d .rest) (d .here) (d .stands); here = d .here; next = d .next }
       go (halts b p) q = onward {m = []} (record { same = refl }) (omega arith) to-m q
 
 -- bytes that give no number

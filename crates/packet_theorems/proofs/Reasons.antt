@@ -143,7 +143,7 @@ fault-some Fault.short = (λ e. omega arith, λ e. omega arith)
 fault-some Fault.malformed = (λ e. omega arith, λ e. omega arith)
 fault-some Fault.too-deep = (λ e. omega arith, λ e. omega arith)
 
-refused-some : {w : Way} {s : List ℕ} {a p : ℕ} → RefusedPacket w s a p → a ≢ 0
+pub refused-some : {w : Way} {s : List ℕ} {a p : ℕ} → RefusedPacket w s a p → a ≢ 0
 refused-some (RefusedPacket.version-3 v) e = omega arith
 refused-some (RefusedPacket.field q) e = fault-some (fault (q .refuses)) .0 e
 

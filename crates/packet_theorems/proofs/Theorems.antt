@@ -1,23 +1,28 @@
 -- The theorems on the packet calls, over what they come to.
-use Rattle.wire.proofs.Kit.{ℕ, _*_, _≤_, _<_, _≡_, refl, sym, ap, _∙_, _≢_, _↔_, List, arith, length, ltb, lt-leb}
+use Rattle.wire.proofs.Kit.{ℕ, _+_, _*_, _≤_, _<_, _≡_, refl, sym, ap, _∙_, _≢_, _↔_, _⊎_, inl, inr, List, [], append-nil, false, arith, zero-add, length, getD}
+use Rattle.wire.proofs.Kit.{ltb, lt-leb, lt-ltb}
+use Rattle.wire.specs.Number.{Bytes}
 use Rattle.wire.specs.Limit as limit
 use Rattle.wire.proofs.Laws.{picked, pick-no}
-use Rattle.image.specs.Due.{Lacks}
-use Rattle.image.specs.Whole.{Whole, bytes, refused, all}
+use Rattle.image.specs.Due.{Due, Ends, Lacks}
+use Rattle.image.specs.Whole.{Whole, bytes, accepted, refused, all}
 use Rattle.packet.specs.declared.head.Entry.{Entry}
 use Rattle.packet.specs.declared.entry.Found.{Found}
 use Rattle.packet.specs.declared.entry.Found.the-variants as Found
 use Rattle.packet.specs.Head.{frontOf}
 use Rattle.packet.specs.Reading.{packetAt, incompleteOf, wholeOf}
-use Rattle.packet.specs.Entry.{Cut, found, stops, cutOf, readSpan, readEntry, foundIn, span}
+use Rattle.packet.specs.Entry.{Cut, found, stops, cutOf, noEntry, readSpan, readEntry, foundIn, span, spanOf}
+use Rattle.packet.specs.Change.{known}
 use Rattle.packet.proofs.Laws.{Splits, cut-told, entry-chosen, span-read}
 use Rattle.image.proofs.Kept.{stops-kept}
 use Rattle.packet.proofs.Reasons.{Tells, packet-kept}
 use Rattle.amf0.specs.Span.{Span, spanAt, held, inSpan, oneValue}
 use Rattle.amf0_theorems.proofs.Call.{value-sober, value-bounded, call-answers, call-refused, call-over-limit, call-room-exact, call-room-place, call-room, call-inside, call-takes}
-use Rattle.amf0_theorems.proofs.Spans.{length-based, held-length, answer-either, answer-known, answer-refused, answer-takes, TakesSpan}
+use Rattle.amf0_theorems.proofs.Spans.{length-based, ends-based, held-length, answer-either, answer-known, answer-refused, answer-takes, lies-within, TakesSpan}
+use Rattle.amf0_theorems.proofs.Telling as telling
+use Rattle.packet_theorems.proofs.Frame.{measured-at, cut-read}
 use Rattle.packet_theorems.proofs.Outcome.{packet-bounded, span-either, entry-either}
-use Rattle.image.proofs.Settle.{lacks-over, all-cases}
+use Rattle.image.proofs.Settle.{one-end, ends-not, lacks-over, all-cases}
 
 -- ---- the answers
 
@@ -43,12 +48,11 @@ pub parse-answers : (s : List ℕ) (room : ℕ) → Answer (wholeOf s room .read
 parse-answers s room =
     over-all (λ w. Answer (w .reading .answer)) s room (incomplete-answers s room) (record { high = omega arith; tree = λ e. omega arith })
 
--- a refusal of `nth`: 1 for an input over the limit, 2, 3 or 7 from the cut, or 8
+-- a refusal of `nth`: 1 for an input over the limit, 2, 3, 5 or 7 from the cut, or 8
 pub record NthAnswer (s : List ℕ) (a : ℕ) : Type 0 where
   pub low : 1 ≤ a
   pub high : a ≤ 8
   pub room : a ≢ 4
-  pub deep : a ≢ 5
   pub tree : a ≢ 6
   pub over : a ≡ 1 → limit.bytes < length s
 
@@ -56,7 +60,7 @@ missing : (s : List ℕ) (number : ℕ) (x : Cut) → Splits s x → {a p : ℕ}
 missing s number (stops b q) w {a} {p} h =
     let e : b ≡ a = cc in
     let c = w .cuts in
-    rw (← e) (record { low = c .low; high = omega arith; room = c .room; deep = c .deep; tree = c .tree; over = w .over })
+    rw (← e) (record { low = c .low; high = omega arith; room = c .room; tree = c .tree; over = w .over })
 missing s number (found es z) w {a} {p} h =
     picked (λ f. f ≡ Found.Stop a p → NthAnswer s a) (ltb number (length es)) _ _
     (λ t e. let z : _≡_ {A = ℕ} 0 1 = cc in absurd (omega arith))
@@ -69,7 +73,6 @@ missing s number (found es z) w {a} {p} h =
           low = omega arith;
           high = omega arith;
           room = λ e. omega arith;
-          deep = λ e. omega arith;
           tree = λ e. omega arith;
           over = λ e. absurd (omega arith);
         }
@@ -150,6 +153,24 @@ unfolding readEntry
 entry-span s number room e f =
     let c = entry-chosen s number room (cutOf s) {e = e} (cut-told s) (sym f) in
     span-read s (span e) room (c .short) (c .inside) ∙ sym (c .read)
+
+-- An entry whose length is not known was measured: it is accepted, and uses the length that it was measured to have, or it is refused with 4, and nothing else.
+pub measured-read : (s : List ℕ) (es : List Entry) (n k room : ℕ) → Bytes s → cutOf s ≡ found es n → k < length es → let e = getD es k noEntry in
+    known s e ≡ false → (readEntry s k room ≡ accepted (e .length) (readEntry s k room .bytes)) ⊎ ((p : ℕ) × (readEntry s k room ≡ refused 4 p))
+unfolding readEntry
+measured-read s es n k room bs cut h u =
+    let c = cut-read s es n cut in
+    let e : Entry = getD es k noEntry in
+    let d : Due = inSpan oneValue s (span e) in
+    let x : List ℕ = spanOf s e in
+    let i : e .place + e .length ≤ length s = omega (arith, c .all, lies-within noEntry k (c .lies) h .1) in
+    let v = measured-at s es k (c .measured bs) h u in
+    let r = telling.reads limit.levels x [] 0 (v .encodes) (record { same = sym (append-nil x) }) (v .deep) in
+    let t : Ends d (e .length) = ends-based (e .place) (oneValue x) (e .length) (rw (zero-add, held-length s (span e) i) at (r .ends)) in
+    rw (cut, lt-ltb k (length es) h)
+    (answer-either oneValue s (span e) i (value-sober x) room (λ w. (w ≡ accepted (e .length) (w .bytes)) ⊎ ((p : ℕ) × (w ≡ refused 4 p)))
+    (λ q l. inr (q, refl)) (λ l q o. absurd (ends-not d (e .length) 5 q t o)) (λ l a q o w. absurd (ends-not d (e .length) a q t o))
+    (λ l m o w. absurd (omega (arith, one-end d t o))) (λ l o. inl refl))
 
 -- ---- refusals
 

@@ -23,8 +23,8 @@ pub data Body (w : Way) : List ℕ → Type 0 where
 
 -- the fields of those
 pub data LeadsBody (w : Way) (r : List ℕ) : List ℕ → Field → Type 0 where
-  size : LeadsBody w r [] (w .size)
-  inside : {d : ℕ} {y : List ℕ} {f : Field} → d < 256 ^ 4 → w .Inside r y f → LeadsBody w r (digits 4 d ++ y) f
+  size : {f : Field} → w .Size r f → LeadsBody w r [] f
+  inside : {d : ℕ} {y : List ℕ} {f : Field} → d < 256 ^ 4 → w .Inside d r y f → LeadsBody w r (digits 4 d ++ y) f
 
 -- the values of s are gone over as the way has it: `step` goes over the value, with the length that was declared, from a place on
 pub record Goes (w : Way) (s : List ℕ) (step : ℕ → ℕ → Part) : Type 0 where
@@ -67,14 +67,14 @@ module _ (w : Way) (Kind : Label → Type 0) (n : ℕ) where
 
   to-leads : (r x : List ℕ) (f : Field) → LeadsRow r x f → LeadsEntries w Kind r (suc n) x f
   to-leads r x f (LeadsBoth.one l) = LeadsEntries.label l
-  to-leads r x f (LeadsBoth.two {x = y} (Plain.plain l) (LeadsBoth.one LeadsBody.size)) = rw (append-nil y) (LeadsEntries.declared (l .kind) (l .head))
+  to-leads r x f (LeadsBoth.two {x = y} (Plain.plain l) (LeadsBoth.one (LeadsBody.size z))) = rw (append-nil y) (LeadsEntries.declared (l .kind) (l .head) z)
   to-leads r x f (LeadsBoth.two (Plain.plain l) (LeadsBoth.one (LeadsBody.inside d i))) = LeadsEntries.inside (l .kind) (l .head) d i
   to-leads r x f (LeadsBoth.two (Plain.plain l) (LeadsBoth.two (Plain.plain (Body.body d y)) z)) = LeadsEntries.next (l .kind) (l .head) d y z
 
   from-leads : (r x : List ℕ) (f : Field) → LeadsEntries w Kind r (suc n) x f → LeadsRow r x f
   from-leads r x f (LeadsEntries.label l) = LeadsBoth.one l
-  from-leads r x f (LeadsEntries.declared {l} k h) =
-      let i : LeadsRow r (x ++ []) (w .size) = LeadsBoth.two (plain (record { label = l; kind = k; head = h })) (LeadsBoth.one LeadsBody.size) in
+  from-leads r x f (LeadsEntries.declared {l} k h z) =
+      let i : LeadsRow r (x ++ []) f = LeadsBoth.two (plain (record { label = l; kind = k; head = h })) (LeadsBoth.one (LeadsBody.size z)) in
       rw (append-nil x) at i
   from-leads r x f (LeadsEntries.inside {l} k h d i) =
       LeadsBoth.two (plain (record { label = l; kind = k; head = h })) (LeadsBoth.one (LeadsBody.inside d i))
@@ -86,7 +86,7 @@ module _ {w : Way} {kind : ℕ} {Kind : Label → Type 0} (k : Kinds kind Kind) 
   unfolding entriesBy
   entries-follows zero at = none-follow w Kind s at
   entries-follows (suc n) at =
-      turned (to-entries w Kind n) (λ v x r h. from-entries w Kind n v x) (λ r x f e. to-leads w Kind n r x f) (from-leads w Kind n)
+      turned (λ v x r h. to-entries w Kind n v x) (λ v x r h. from-entries w Kind n v x) (λ r x f e. to-leads w Kind n r x f) (λ r x f e. from-leads w Kind n r x f)
       (in-turn (λ v q. numberBy 4 s q then step then λ u e. entriesBy k s step n e) (k .labelBy s at) (k .follows s bs at) λ v x r l h.
       in-turn (λ u e. entriesBy k s step n e) (numberBy 4 s (at + length x) then step) (g .follows (at + length x)) λ u y z b i.
       entries-follows n (at + length x + length y))
@@ -248,7 +248,7 @@ module _ {w : Way} (s : List ℕ) (bs : Bytes s) (step : ℕ → ℕ → Part) (
         then-then (zeroBy s 0) (λ v p. zeroBy s p) λ v p.
             numberBy 2 s p then λ h q. entriesBy headers s step h q then λ u e. numberBy 2 s e then λ m f. entriesBy messages s step m f,
       )
-      (turned (to-packet w) (λ v x r h. from-packet w v x) (to-field w s not) (from-field w)
+      (turned (λ v x r h. to-packet w v x) (λ v x r h. from-packet w v x) (to-field w s not) (λ r x f e. from-field w r x f)
       (in-turn _ (zeroBy s 0) (zero-follows s 0) λ v o r a b.
       in-turn _ (zeroBy s (0 + length o)) (zero-follows s (0 + length o)) λ v x r a b.
       let p : ℕ = 0 + length o + length x in
@@ -334,3 +334,37 @@ module _ {w : Way} (s : List ℕ) (bs : Bytes s) (step : ℕ → ℕ → Part) (
 
   pub way-ends : (x r : List ℕ) → IsPacket w x → Here s 0 x r → packetBy s step ≡ goes 0 (length x)
   way-ends x r i h = packet-follows s bs step g (λ v. seven-packet v i h) .ends 0 x r (plain i) h ∙ ap (goes 0) (omega arith)
+
+-- ---- one way and another
+
+-- what is gone over by one way is gone over by another, where that is so of values
+module _ {w u : Way} (stands : (d : ℕ) (y : List ℕ) → w .Stands d y → u .Stands d y) where
+  pub entries-carried : {Kind : Label → Type 0} {n : ℕ} {x : List ℕ} → Entries w Kind n x → Entries u Kind n x
+  entries-carried Entries.none = Entries.none
+  entries-carried (Entries.more {d} {y} k h l e z) = Entries.more k h l (stands d y e) (entries-carried z)
+
+  pub packet-carried : {x : List ℕ} → IsPacket w x → IsPacket u x
+  packet-carried (IsPacket.packet h x m y) = IsPacket.packet h (entries-carried x) m (entries-carried y)
+
+-- values are gone over by one way, where r is left, as they are by another, where q is left
+pub record Carries (w u : Way) (r q : List ℕ) : Type 0 where
+  pub size : (f : Field) → w .Size r f → u .Size q f
+  pub stands : (d : ℕ) (y : List ℕ) → w .Stands d y → u .Stands d y
+  pub inside : (d : ℕ) (y : List ℕ) (f : Field) → w .Inside d r y f → u .Inside d q y f
+  pub version : ((z : List ℕ) → r ≢ 3 ∷ z) → (z : List ℕ) → q ≢ 3 ∷ z
+
+-- so the same fields lead on
+module _ {w u : Way} {r q : List ℕ} (c : Carries w u r q) where
+  leads-carried : {Kind : Label → Type 0} {n : ℕ} {x : List ℕ} {f : Field} → LeadsEntries w Kind r n x f → LeadsEntries u Kind q n x f
+  leads-carried (LeadsEntries.label l) = LeadsEntries.label l
+  leads-carried {f} (LeadsEntries.declared k h z) = LeadsEntries.declared k h (c .size f z)
+  leads-carried {f} (LeadsEntries.inside {d} {y} k h l i) = LeadsEntries.inside k h l (c .inside d y f i)
+  leads-carried (LeadsEntries.next {d} {y} k h l e z) = LeadsEntries.next k h l (c .stands d y e) (leads-carried z)
+
+  pub fields-carried : {x : List ℕ} {f : Field} → LeadsPacket w r x f → LeadsPacket u q x f
+  fields-carried LeadsPacket.zero = LeadsPacket.zero
+  fields-carried (LeadsPacket.version t) = LeadsPacket.version (c .version t)
+  fields-carried LeadsPacket.header-count = LeadsPacket.header-count
+  fields-carried (LeadsPacket.headers h y) = LeadsPacket.headers h (leads-carried y)
+  fields-carried (LeadsPacket.message-count h y) = LeadsPacket.message-count h (entries-carried (c .stands) y)
+  fields-carried (LeadsPacket.messages h y m z) = LeadsPacket.messages h (entries-carried (c .stands) y) m (leads-carried z)

@@ -63,7 +63,7 @@ framed {s} {r} h m x y b c all =
       long = simp length-append (omega arith);
     }
 
--- every entry of a packet declares the length of the bytes that encode its value
+-- every entry of a packet declares the length of the bytes that encode its value, or that it is not known
 abbrev pub ExactPacket : {p : Packet} {s : List ℕ} → Encoded p s → Type 0
 ExactPacket (Encoded.packet h m hs ms) = ExactItems hs × ExactItems ms
 
@@ -76,7 +76,7 @@ pub record PacketImage (s : List ℕ) (p : Packet) (image : List ℕ) : Type 0 w
   pub images : Images s p image
   pub alike : map unplaced (counts p ∷ (images .header-records ++ images .message-records)) ≡ ofPacket p
 
--- a packet that stands at the front of s is read up to n, and its image shows it; X says that its lengths are exact
+-- a packet that stands at the front of s is read up to n, and its image shows it; X says that its lengths are exact or not known
 pub record ToldPacket (p : Packet) (s : List ℕ) (n : ℕ) (X : Type 0) : Type 0 where
   pub ends : Ends (packetAt s) n
   pub shows : length s ≤ limit.bytes → ShowsPacket s p (bytes (packetAt s))
@@ -204,17 +204,25 @@ packet-found s z bs =
 
 -- ---- no other
 
+-- two packets that begin the same bytes have as many headers and messages, and are the same bytes where these are
+pub row-one : {A B : Type 0} (h m h′ m′ : ℕ) (x y x′ y′ r t : List ℕ) → h < 256 ^ 2 → m < 256 ^ 2 → h′ < 256 ^ 2 → m′ < 256 ^ 2
+    → rowOf h m x y ++ r ≡ rowOf h′ m′ x′ y′ ++ t → ((r q : List ℕ) → h ≡ h′ → x ++ r ≡ x′ ++ q → A × (x ≡ x′))
+    → ((r q : List ℕ) → m ≡ m′ → y ++ r ≡ y′ ++ q → B × (y ≡ y′)) → A × B × (rowOf h m x y ≡ rowOf h′ m′ x′ y′)
+row-one h m h′ m′ x y x′ y′ r t hl ml hl′ ml′ e hu mu =
+    let s = rowOf h m x y ++ r in
+    let a : Framed s h m x y r = framed h m x y hl ml (record { same = refl }) in
+    let b : Framed s h′ m′ x′ y′ t = framed h′ m′ x′ y′ hl′ ml′ (record { same = e }) in
+    let hc : h ≡ h′ = cc (sym (a .header-count) ∙ b .header-count) in
+    let u = hu ((digits 2 m ++ y) ++ r) ((digits 2 m′ ++ y′) ++ t) hc (sym (a .headers-here .same) ∙ b .headers-here .same) in
+    let long : 4 + length x ≡ 4 + length x′ = ap (λ w. 4 + length w) (u .1) in
+    let mc : m ≡ m′ = cc (sym (a .message-count) ∙ (ap (u16At s) long ∙ b .message-count)) in
+    let v = mu r t mc (sym (a .messages-here .same) ∙ (ap (λ n. drop (n + 2) s) long ∙ b .messages-here .same)) in
+    (u .0, v .0, rw (hc, mc, u .1, v .1))
+
 pub packet-unique : {p q : Packet} {x y : List ℕ} (r t : List ℕ) → Encoded p x → Encoded q y → x ++ r ≡ y ++ t → (p ≡ q) × (x ≡ y)
 packet-unique r t (Encoded.packet {hs} {ms} {x} {y} hl ml hi mi) (Encoded.packet {hs = hs′} {ms = ms′} {x = x′} {y = y′} hl′ ml′ hi′ mi′) e =
-    let s = rowOf (length hs) (length ms) x y ++ r in
-    let a : Framed s (length hs) (length ms) x y r = framed (length hs) (length ms) x y hl ml (record { same = refl }) in
-    let b : Framed s (length hs′) (length ms′) x′ y′ t = framed (length hs′) (length ms′) x′ y′ hl′ ml′ (record { same = e }) in
-    let hc : length hs ≡ length hs′ = cc (sym (a .header-count) ∙ b .header-count) in
-    let h = items-unique headers hi hi′ ((digits 2 (length ms) ++ y) ++ r) ((digits 2 (length ms′) ++ y′) ++ t) hc (sym (a .headers-here .same) ∙ b .headers-here .same) in
-    let long : 4 + length x ≡ 4 + length x′ = ap (λ w. 4 + length w) (h .1) in
-    let mc : length ms ≡ length ms′ = cc (sym (a .message-count) ∙ (ap (u16At s) long ∙ b .message-count)) in
-    let m = items-unique messages mi mi′ r t mc (sym (a .messages-here .same) ∙ (ap (λ n. drop (n + 2) s) long ∙ b .messages-here .same)) in
-    (rw (h .0, m .0), rw (hc, mc, h .1, m .1))
+    let u = row-one (length hs) (length ms) (length hs′) (length ms′) x y x′ y′ r t hl ml hl′ ml′ e (items-unique headers hi hi′) (items-unique messages mi mi′) in
+    (rw (u .0, u .1), u .2)
 
 -- so what is read of a packet goes to no depth over the limit
 pub packet-shallow : {p : Packet} {x : List ℕ} (s r : List ℕ) → Encoded p x → Here s 0 x r → Bytes s → (z : ℕ) → Ends (packetAt s) z → Within limit.levels p

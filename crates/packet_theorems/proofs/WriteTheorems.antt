@@ -156,9 +156,9 @@ module _ {s : List ℕ} {room : ℕ} {v : Whole} (m : WasRead s room v) (exact :
     pub again : (more once : ℕ) → 3 * length b ≤ more → length b ≤ once → rewriteOf wholeOf b more exact once ≡ written b
     again more once h = written-again (v .bytes) s b exact (m .packet) out more (m .image .writable) e h .1 once
 
--- ---- exact lengths
+-- ---- the cut of what is written
 
--- b has exact lengths, and its cut finds the entries of the packet p, headers first and then messages
+-- the lengths of b are exact or not known, and its cut finds the entries of the packet p, headers first and then messages
 pub record CutsExactly (b : List ℕ) (p : Packet) : Type 0 where
   pub exact : Exact b
   pub entries : List Entry
@@ -174,13 +174,14 @@ pub record CutsExactly (b : List ℕ) (p : Packet) : Type 0 where
   -- and reading by entry agrees with the whole reading, in every room in which that accepts
   pub agrees : (room : ℕ) → wholeOf b room .reading .answer ≡ 0 → Agrees b room
 
--- What the writer makes with exact lengths, of the image of any packet, is cut into that packet's entries.
-pub cuts-exactly : (image text b : List ℕ) (p : Packet) (out : ℕ) → Writable image text p → writeOf image text true out ≡ written b → CutsExactly b p
-cuts-exactly image text b p out w e =
-    let g = written-sized (write true p) out b (sym (packet-written true out w) ∙ e) in
-    let f = packet-cut (w .images) (w .image-size) (g .small) in
-    let m = write-encoded true (w .images) (w .image-size) (λ t. g .small) in
-    let bs : Bytes (write true p) = encoded-bytes m in
+-- What the writer makes of the image of any packet, in either setting, is cut into that packet's entries.
+pub cuts-exactly : (image text b : List ℕ) (exact : Bool) (p : Packet) (out : ℕ) → Writable image text p → writeOf image text exact out ≡ written b
+    → CutsExactly b p
+cuts-exactly image text b exact p out w e =
+    let g = written-sized (write exact p) out b (sym (packet-written exact out w) ∙ e) in
+    let f = packet-cut exact (w .images) (w .image-size) (g .small) (w .deep) in
+    let m = write-encoded exact (w .images) (w .image-size) (λ t. g .small) in
+    let bs : Bytes (write exact p) = encoded-bytes m in
     let all = shallow-append limit.levels (p .headers) (p .messages) (w .deep .0) (w .deep .1) in
     rw (g .same)
     (record {
@@ -191,10 +192,10 @@ cuts-exactly image text b p out w e =
       each = f .each;
       reads = λ k room h r.
           let o = f .each k h in
-          entry-complete (write true p) bs (f .entries) (length (write true p)) (f .cut) k h (getD (itemsOf p) k noItem .value) room
+          entry-complete (write exact p) bs (f .entries) (length (write exact p)) (f .cut) k h (getD (itemsOf p) k noItem .value) room
           (rw (o .span) (f .encodes k h)) (shallow-at limit.levels (itemsOf p) k all (omega (arith, f .count)))
           (rw (o .span) (rw (o .long) at r));
-      agrees = λ room a. agreement (write true p) room bs (f .exact) a;
+      agrees = λ room a. agreement (write exact p) room bs (f .exact) a;
     })
 
 -- the used bytes of s are a packet, and b is cut into its entries
@@ -204,10 +205,10 @@ pub record CutsAsRead (s b : List ℕ) (v : Whole) : Type 0 where
   pub cuts : CutsExactly b packet
 
 -- So is what it makes of a packet that was read.
-pub cuts-as-read : {s : List ℕ} {room : ℕ} {v : Whole} (m : WasRead s room v) (b : List ℕ) (out : ℕ) → writeOf (v .bytes) s true out ≡ written b
+pub cuts-as-read : {s : List ℕ} {room : ℕ} {v : Whole} (m : WasRead s room v) (b : List ℕ) (exact : Bool) (out : ℕ) → writeOf (v .bytes) s exact out ≡ written b
     → CutsAsRead s b v
-cuts-as-read {s} {v = v} m b out f =
-    record { packet = m .packet; before = m .encoded; cuts = cuts-exactly (v .bytes) s b (m .packet) out (m .image .writable) f }
+cuts-as-read {s} {v = v} m b exact out f =
+    record { packet = m .packet; before = m .encoded; cuts = cuts-exactly (v .bytes) s b exact (m .packet) out (m .image .writable) f }
 
 -- ---- the answers
 

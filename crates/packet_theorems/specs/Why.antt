@@ -13,7 +13,7 @@ use Rattle.packet.specs.declared.entry.Found.the-variants as Found
 use Rattle.packet.specs.Packet.{Packet, Encoded}
 use Rattle.packet.specs.Shown.{Within}
 use Rattle.packet.specs.Reading.{packetAt}
-use Rattle.packet.specs.Entry.{noEntry, span, Listed, uncut}
+use Rattle.packet.specs.Entry.{Cut, noEntry, span, Listed, uncut}
 use Rattle.packet_theorems.specs.Cuts.{CutInto}
 use Rattle.packet_theorems.specs.Refusal.{whole, RefusedPacket, RefusedCut}
 
@@ -55,6 +55,11 @@ pub data ComesNth (s : List ℕ) (number : ℕ) : Found → Type 0 where
   not-cut : {a p : ℕ} → RefusedCut s a p → ComesNth s number (Found.Stop a p)
   no-entry : {es : List Entry} → CutInto s es → length es ≤ number → ComesNth s number (Found.Stop 8 0)
   is : {es : List Entry} → CutInto s es → number < length es → ComesNth s number (Found.Is (getD es number noEntry))
+
+-- the answer and the place of a cut, as those of a reading that makes these bytes
+abbrev pub answered : Cut → (image : List ℕ) → Whole
+answered (Cut.found es n) image = accepted n image
+answered (Cut.stops a p) image = refused a p
 
 -- ---- one value
 

@@ -282,7 +282,7 @@ module _ (x s : List ℕ) (at : ℕ) where
       go true e = fit-both w (leb-true _ _ e)
       go false e = out-both w (leb-false _ _ e)
 
-  bytes-both : (w : ℕ) → bytesAt w (x ++ s) (length x + at) ≡ bytesAt w s at
+  pub bytes-both : (w : ℕ) → bytesAt w (x ++ s) (length x + at) ≡ bytesAt w s at
   bytes-both w = ap (take w) (drop-append-add x s at)
 
 module _ {N : Type 0} (got : ℕ → Cursor → N) (stop : ℕ → ℕ → N) (w : ℕ) (x s : List ℕ) (at : ℕ) where

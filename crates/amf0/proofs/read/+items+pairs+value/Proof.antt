@@ -4,10 +4,10 @@ use Rattle.wire.specs.declared.cursor.U8.the-variants as U8
 use Rattle.wire.specs.Field.{u8At, to}
 use Rattle.wire.proofs.Laws.{u8-next, u8-stop, text-next, text-stop}
 use Rattle.image.specs.declared.record.Record.the-variants.{Key}
-use Rattle.image.specs.Due.{Due, run, due, end, stop, _>>=_, based}
-use Rattle.image.proofs.Laws.{run-then, run-halt, run-then-based, run-halt-based, run-stop, run-end, within, within-stop, within-next}
+use Rattle.image.specs.Due.{Due, Fact, run, seen, due, end, stop, _>>=_, based}
+use Rattle.image.proofs.Laws.{run-then, run-halt, run-then-based, run-halt-based, run-stop, run-seen, run-end, within, within-stop, within-next}
 use Rattle.amf0.specs.Fields.{fieldsAt, gotFields}
-use Rattle.amf0.specs.Reading.{value as valueOf, pairs as pairsOf, items as itemsOf, pair as pairOf, follow}
+use Rattle.amf0.specs.Reading.{value as valueOf, pairs as pairsOf, items as itemsOf, pair as pairOf, follow, ownAt}
 use Rattle.amf0.proofs.Laws.{value-cut, value-deep, value-refused, value-fields, fields-refused, fields-due, pairs-cut, pairs-pair, pair-cut, pair-end, pair-key, items-done, items-item, u8-whole}
 use Rattle.amf0.proofs.read.items.Reads as items
 use Rattle.amf0.proofs.read.items.Kinds as items-kinds
@@ -209,7 +209,7 @@ pairs-returns-3 t c =
     let e = sym (c .before .before .before .before .before .before .before .before .before .be-u8 .ensures) ∙ c .before .before .before .before .before .before .before .m .given .1 in
     let r = u8-next _ _ _ _ e in
     let i = l .inv .0 in (
-      rw (k .same, pair-end _ (l .c .at) _ _ (v .0) (v .1 .0) (v .1 .1 .0 .at) e (c .before .before .before .before .before .if1 .taken)) (c .before .before .put-end .ensures .0),
+      rw (k .same, pair-end _ (l .c .at) _ _ (v .0) (v .1 .0) (v .1 .1 .0 .at) e (c .before .before .before .before .before .if1 .taken), run-seen) (c .before .before .put-end .ensures .0),
       within (c .before .before .put-end .ensures .1) (omega arith) (omega arith) (omega (arith, l .inv .3)),
     )
 
@@ -312,7 +312,7 @@ pairs-loop-again t c =
 value-behind : (t : ℕ) (c : value-lts.After-parse-fields (value-claims t) (value-at t) value.Post)
     → let a = c .before .before .before .before .before .before .before .before .args in
     let s = now (a .s) in
-    valueOf (a .left) s (a .c .at) ≡ gotFields stop (fieldsAt s (a .c .at + 1) (c .before .before .before .k .given .0 .0)) (λ r f q. due r (a .c .at) (follow (valueOf (a .left - 1) s) s f q))
+    valueOf (a .left) s (a .c .at) ≡ gotFields stop (fieldsAt s (a .c .at + 1) (c .before .before .before .k .given .0 .0)) (λ r f q. seen (ownAt (a .left - 1) s (a .c .at) q) (due r (a .c .at) (follow (valueOf (a .left - 1) s) s f q)))
 value-behind t c =
     let k = c .before .before .before in
     let o = k .before .before .before .before .before in
@@ -333,6 +333,7 @@ value-laid t c =
     let a = h .before .before .before .before .before .before .before .before .args in
     let s = now (a .s) in
     let at = a .c .at in
+    let look : ℕ → Fact = ownAt (a .left - 1) s at in
     let more = follow (valueOf (a .left - 1) s) s in
     let v = c .before .e .given .0 in
     let u = r .r .given .0 in
@@ -344,7 +345,7 @@ value-laid t c =
       omega arith,
       omega arith,
       omega arith,
-      rw (value-behind t h, fields-due (a .base) at more _ (sym (r .r .given .1) ∙ h .parse-fields .ensures .0)) (run-then d k _ _ (rw (c .before .e .given .1) at (p .0))),
+      rw (value-behind t h, fields-due (a .base) at look more _ (sym (r .r .given .1) ∙ h .parse-fields .ensures .0), run-seen) (run-then d k _ _ (rw (c .before .e .given .1) at (p .0))),
     )
 
 value-returns-4 : (t : ℕ) → value-lts.Need-returns-4 (value-claims t) (value-at t) value.Post
@@ -352,11 +353,12 @@ value-returns-4 t c =
     let r = c .before .before .before .before .before .before .before .before in
     let h = r .before .before in
     let a = h .before .before .before .before .before .before .before .before .args in
+    let look : ℕ → Fact = ownAt (a .left - 1) (now (a .s)) (a .c .at) in
     let more = follow (valueOf (a .left - 1) (now (a .s))) (now (a .s)) in
     let u = r .r .given .0 in
     let d = due (u .0) (a .base + a .c .at) (end (u .1 .1 .0 .at)) in
     let k : ℕ → Due = λ n. based (a .base) (more (u .1 .0) n) in (
-      rw (value-behind t h, fields-due (a .base) (a .c .at) more _ (sym (r .r .given .1) ∙ h .parse-fields .ensures .0))
+      rw (value-behind t h, fields-due (a .base) (a .c .at) look more _ (sym (r .r .given .1) ∙ h .parse-fields .ensures .0), run-seen)
           (sym (run-halt d k _ _ (rw (c .before .a2 .given .1) at (c .before .before .before .before .before .put .ensures .0)))),
       within-stop,
     )
@@ -456,7 +458,8 @@ pub +items+pairs+value-spec : {M : Type 1} → statement M
     (λ c.
     let h = c .before .before .before in
     let a = h .before .before .before .before .before .before .before .before .args in
+    let look : ℕ → Fact = ownAt (a .left - 1) (now (a .s)) (a .c .at) in
     let more = follow (valueOf (a .left - 1) (now (a .s))) (now (a .s)) in
-    (rw (value-behind t h, fields-refused (a .base) (a .c .at) more _ (sym (c .before .a .given .1) ∙ h .parse-fields .ensures .0)) (sym (run-stop _ _ _ _)), within-stop))
+    (rw (value-behind t h, fields-refused (a .base) (a .c .at) look more _ (sym (c .before .a .given .1) ∙ h .parse-fields .ensures .0)) (sym (run-stop _ _ _ _)), within-stop))
     (λ c. search needs) (value-returns-4 t) (λ c. search needs) (value-returns-5 t) (λ c. search needs) (value-returns-6 t) (λ c. search needs)
     (value-returns-7 t))

@@ -4,8 +4,8 @@ use Rattle.image.specs.Due.{Due, end, due, _>>=_, run}
 use Rattle.image.proofs.Laws.{run-then, run-halt, run-stop, run-end, within-stop, within-next}
 use Rattle.amf0.specs.Reading.{value, topValue}
 use Rattle.packet.specs.Reading.{recordOf, entriesAt}
-use Rattle.packet.proofs.Laws.{head-begun}
-use Rattle.packet.proofs.Packing.{value-read, entries-done, entries-cut, entries-more}
+use Rattle.packet.proofs.Laws.{head-begun, value-read}
+use Rattle.packet.proofs.Packing.{entries-done, entries-cut, entries-more}
 use Rattle.packet.proofs.read.parse_entries.Statement.{statement}
 use Rattle.packet.proofs.read.parse_entries.Tie as tie
 
