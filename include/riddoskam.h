@@ -12,7 +12,7 @@
    is said here (crates/riddoskam/src/lib.rt).
 
    What firmware asks before it links (tools/footprint computes and measures it, and `tools/footprint check` holds the library to these figures):
-   - code 29,748 bytes, constants 1,260; no data that is written, nothing thread-local, no constructor, no unwinding;
+   - code 31,534 bytes, constants 1,392; no data that is written, nothing thread-local, no constructor, no unwinding;
    - it links memset; its instructions are those of every x86-64 processor, SSE2 among them, and none of floating point;
    - as the ABI of x86-64 Linux allows, functions keep bytes below the stack pointer (the red zone, 128 bytes): an interrupt that runs on the stack of a
      call must leave them alone;
@@ -23,7 +23,7 @@
        riddoskam_lso_parse_incomplete         9,432   7,585
        riddoskam_packet_parse                 9,704   8,300
        riddoskam_packet_parse_incomplete      9,704   8,273
-       riddoskam_packet_parse_entry           9,312   8,582
+       riddoskam_packet_parse_entry           9,312  10,506
        riddoskam_packet_parse_span            9,240   6,788
        riddoskam_write_value                 10,304   7,117
        riddoskam_lso_write_to_bytes          10,592  10,320
@@ -31,8 +31,8 @@
        riddoskam_index                       11,216   9,000
        riddoskam_find                           504   3,321
        riddoskam_step                           432   3,128
-       riddoskam_packet_nth                     840   4,015
-       riddoskam_packet_cut                     680   3,981
+       riddoskam_packet_nth                   6,184   5,939
+       riddoskam_packet_cut                   6,024   5,905
        riddoskam_record_at                      160   2,561
        riddoskam_put                            264   2,588
        riddoskam_inside                           8      15
@@ -48,9 +48,9 @@
 #include <stdint.h>
 
 /* The version of the repository that this header is of. */
-#define RIDDOSKAM_VERSION "0.2.0"
+#define RIDDOSKAM_VERSION "0.3.0"
 #define RIDDOSKAM_VERSION_MAJOR 0
-#define RIDDOSKAM_VERSION_MINOR 2
+#define RIDDOSKAM_VERSION_MINOR 3
 #define RIDDOSKAM_VERSION_PATCH 0
 
 /* What is written overlaps no other argument: C's `restrict`, which C++ has not. RIDDOSKAM_ARRAY is the brackets of a parameter that is n numbers in a row, and
@@ -74,7 +74,7 @@ extern "C" {
 enum {
     RIDDOSKAM_ACCEPTED = 0,
     RIDDOSKAM_OVER_LIMIT = 1,    /* input, text, image or output over its limit */
-    RIDDOSKAM_NOT_WHOLE = 2,     /* a field isn't whole, or a count or a declared length exceeds the bytes left */
+    RIDDOSKAM_NOT_WHOLE = 2,     /* a field isn't whole, or a count or a declared length exceeds the bytes left; FFFFFFFF doesn't */
     RIDDOSKAM_NOT_RIGHT = 3,     /* a fixed byte is wrong, text isn't UTF-8, no value has this marker, or bytes are left over */
     RIDDOSKAM_NO_ROOM = 4,       /* the image, the output, the index or the row of entries doesn't fit */
     RIDDOSKAM_TOO_DEEP = 5,      /* a value at depth 33 */
@@ -206,9 +206,9 @@ uint8_t riddoskam_packet_parse(const uint8_t *input, size_t input_length, uint8_
 uint8_t riddoskam_packet_parse_incomplete(const uint8_t *input, size_t input_length, uint8_t *RIDDOSKAM_RESTRICT image, size_t image_length,
                                           size_t *RIDDOSKAM_RESTRICT used, size_t *RIDDOSKAM_RESTRICT made);
 
-/* The value of entry `number`, from 0, headers first, of a packet that its declared lengths cut exactly: read as that part of the packet alone, so no other
-   entry's value has a say. Places count from the packet's start. Accepted, `*used` is the value's length. Answers 0 to 5 and 7 to 9; refused, `*used` is the
-   place. */
+/* The value of entry `number`, from 0, headers first, of a packet that its lengths cut exactly (see riddoskam_packet_cut): read as that part of the packet alone,
+   so no other entry's value has a say, but for one whose length isn't known and which can't be read: that refuses the cut. Places count from the packet's
+   start. Accepted, `*used` is the value's length. Answers 0 to 5 and 7 to 9; refused, `*used` is the place. */
 uint8_t riddoskam_packet_parse_entry(const uint8_t *packet, size_t packet_length, size_t number, uint8_t *RIDDOSKAM_RESTRICT image, size_t image_length,
                                      size_t *RIDDOSKAM_RESTRICT used, size_t *RIDDOSKAM_RESTRICT made);
 
@@ -231,7 +231,7 @@ uint8_t riddoskam_write_value(const uint8_t *image, size_t image_length, const u
 uint8_t riddoskam_lso_write_to_bytes(const uint8_t *image, size_t image_length, const uint8_t *text, size_t text_length, uint8_t *RIDDOSKAM_RESTRICT out,
                                      size_t out_length, size_t *RIDDOSKAM_RESTRICT count);
 
-/* The packet; each declared length is exact, or FFFFFFFF where `exact_lengths` is false. */
+/* The packet; each declared length is exact, or FFFFFFFF, not known, where `exact_lengths` is false. Both can be cut. */
 uint8_t riddoskam_packet_write_to_bytes(const uint8_t *image, size_t image_length, const uint8_t *text, size_t text_length, bool exact_lengths,
                                         uint8_t *RIDDOSKAM_RESTRICT out, size_t out_length, size_t *RIDDOSKAM_RESTRICT count);
 
@@ -278,14 +278,16 @@ enum {
     RIDDOSKAM_ENTRY_LENGTH
 };
 
-/* Entry `number` of a packet that its declared lengths cut exactly; values are not looked into. Refused, all its numbers are 0; no place is told,
-   but where the cut is refused riddoskam_packet_cut tells it. Answers 0 to 3, 7, 8. */
+/* Entry `number` of a packet that its lengths cut exactly (see riddoskam_packet_cut). Refused, all its numbers are 0; no place is told, but where the cut is
+   refused riddoskam_packet_cut tells it. Answers 0 to 3, 5, 7, 8. */
 uint8_t riddoskam_packet_nth(const uint8_t *packet, size_t packet_length, size_t number, size_t entry RIDDOSKAM_ARRAY(RIDDOSKAM_ENTRY_NUMBERS));
 
 /* All entries of a packet that its declared lengths cut exactly, in one walk: eight numbers each (RIDDOSKAM_ENTRY_NUMBERS), in a row that has room for
-   numbers_length / 8 of them. Accepted: `*used` is the packet's length and `*count` the number of its entries, which stand at the front of the row; every
-   number behind them is 0. 4 where the packet is cut, but into more entries than there is room for. Refused: `*used` is the place of the refusal (see
-   "Places"), 0 where there is no room; `*count` and all numbers are 0. Answers 0 to 4 and 7. */
+   numbers_length / 8 of them. Values are not looked into, but for those whose declared length is FFFFFFFF, which says that it isn't known: such a value is read
+   where it stands, without an image, and the entry has the length that was found. Where it can't be read, its 2, 3 or 5 refuses the cut, at its place.
+   Accepted: `*used` is the packet's length and `*count` the number of its entries, which stand at the front of the row; every number behind them is 0. 4 where
+   the packet is cut, but into more entries than there is room for. Refused: `*used` is the place of the refusal (see "Places"), 0 where there is no room;
+   `*count` and all numbers are 0. Answers 0 to 5 and 7. */
 uint8_t riddoskam_packet_cut(const uint8_t *packet, size_t packet_length, size_t *RIDDOSKAM_RESTRICT numbers, size_t numbers_length,
                              size_t *RIDDOSKAM_RESTRICT used, size_t *RIDDOSKAM_RESTRICT count);
 

@@ -6,8 +6,8 @@
    to be the pattern's is not missed.
 
    Inputs: nests of 1, 31 and 32 containers of each kind and mixed, with keys and class names of some length, round each kind of value and round texts of each
-   width, some broken, so that the innermost value stands at depth 2, 32 and 33; each as a value, a file, a packet and an entry; whole, a byte short, and into
-   images with too little room. What was read is written, indexed, looked up, walked and built again. */
+   width, some broken, so that the innermost value stands at depth 2, 32 and 33; each as a value, a file, a packet, an entry and one that is measured; whole, a
+   byte short, and into images with too little room. What was read is written, indexed, looked up, walked and built again. */
 #include <stdio.h>
 #include <stdlib.h>
 #include <string.h>
@@ -306,6 +306,7 @@ static void as_file(int container, int levels, size_t n, const uint8_t *value, s
 }
 
 static void as_packet(int container, int levels, size_t n, const uint8_t *value, size_t value_length, size_t less) {
+    size_t fields[2];
     length = 0;
     put_number(0, 2);
     for (int message = 0; message < 2; message++) {
@@ -313,7 +314,7 @@ static void as_packet(int container, int levels, size_t n, const uint8_t *value,
         put_letters(n);
         if (message) put_letters(n);
         else put_number(1, 1);
-        size_t at = length;
+        size_t at = fields[message] = length;
         put_number(0, 4);
         nest(container, levels, n, value, value_length);
         size_t end = length;
@@ -324,6 +325,9 @@ static void as_packet(int container, int levels, size_t n, const uint8_t *value,
     length -= less;
     read_in(PACKET_PARSE, PACKET_WRITE, n);
     read_in(PACKET_PARSE_INCOMPLETE, PACKET_WRITE, n);
+    entries();
+    /* with lengths that are not known the cut reads the values */
+    for (int message = 0; message < 2; message++) memset(input + fields[message], 0xFF, 4);
     entries();
 }
 

@@ -12,7 +12,7 @@
    - a writing that is refused leaves the output as it was; an accepted one changes no byte past its count, and what it wrote reads back as an image of the
      same length, in no more bytes than were read where the image was read;
    - an entry's places lie inside the packet, and its value, read alone, gives what reading the entry gives, with its place moved by the span's where it is
-     refused;
+     refused; one whose length is not known is accepted, given room;
    - a cut that is refused leaves zeros and the place that reading an entry tells, 0 where the row is too short; an accepted one has the entries that they are by number, and zeros behind them, and the span of each reads as the
      entry does by its number, to the last byte of the image; any other span reads as its bytes alone;
    - an index that is refused is zero; an accepted one has a record for each key of the image, in order, and zeros behind them; it is refused where a writing
@@ -600,7 +600,7 @@ static void put_entries(int header) {
         put_number(4, 0xFFFFFFFF);
         put_value(below(4));
         size_t end = length;
-        if (below(16)) {
+        if (below(5)) {
             length = at;
             put_number(4, end - at - 4);
             length = end;
@@ -790,7 +790,7 @@ static void entries(void) {
             answer = riddoskam_packet_nth(p, length, k, e);
             left_alone(0, side, length);
         }
-        MUST(strchr("012378", '0' + answer), "it has no such answer");
+        MUST(strchr("0123578", '0' + answer), "it has no such answer");
         told(NTH, answer);
         struct asked entry = {.number = k};
         size_t room = some_room(length);
@@ -807,6 +807,7 @@ static void entries(void) {
         if (r.answer == 0) MUST(r.used == e[7], "an entry that is not used to its end");
         r = reading(ENTRY, input, length, entry, 3 * length, tree);
         MUST(same(r, alone(e[6], e[7])), "an entry answers otherwise than its value alone");
+        if (memcmp(input + e[6] - 4, "\xFF\xFF\xFF\xFF", 4) == 0) MUST(r.answer == 0, "an entry that was measured is refused");
     }
 }
 
@@ -829,7 +830,7 @@ static void cut(void) {
         left_alone(0, side, length);
         left_alone(2, side, room * sizeof *row);
         MUST(memcmp(p, input, length) == 0, "the packet changed");
-        MUST(a <= 9 && strchr("012347", '0' + a), "it has no such answer");
+        MUST(a <= 9 && strchr("0123457", '0' + a), "it has no such answer");
         MUST((length > RIDDOSKAM_LIMIT_BYTES) == (a == 1), "1 is for inputs over the limit");
         if (a == 0)
             MUST(used == length && n <= room / 8, "counts lead out of the buffers");

@@ -75,7 +75,7 @@ pub fn packet_parse_incomplete(input: &[u8], image: &mut [u8]) -> Result<Reading
     read(sys::riddoskam_packet_parse_incomplete, input, image)
 }
 
-/// The value of entry `number` of a packet that its declared lengths cut exactly, read as that part of the packet alone.
+/// The value of entry `number` of a packet that its lengths cut exactly (see [`packet_cut`]), read as that part of the packet alone.
 pub fn packet_parse_entry(packet: &[u8], number: usize, image: &mut [u8]) -> Result<Reading, Refusal> {
     let mut r = Reading { used: 0, made: 0 };
     // SAFETY: as in `read`.
@@ -113,7 +113,7 @@ pub fn lso_write_to_bytes(image: &[u8], text: &[u8], out: &mut [u8]) -> Result<u
     write(sys::riddoskam_lso_write_to_bytes, image, text, out)
 }
 
-/// Writes the packet of an image, with exact lengths or with FFFFFFFF.
+/// Writes the packet of an image, with exact lengths or with FFFFFFFF, which says that a length is not known.
 pub fn packet_write_to_bytes(image: &[u8], text: &[u8], exact_lengths: bool, out: &mut [u8]) -> Result<usize, Answer> {
     let mut count = 0;
     // SAFETY: as in `read`.
@@ -191,7 +191,7 @@ impl From<Numbers> for Entry {
     }
 }
 
-/// Entry `number` of a packet that its declared lengths cut exactly. A refusal has no place here; where the cut is refused, [`packet_cut`] tells it.
+/// Entry `number` of a packet that its lengths cut exactly. A refusal has no place here; where the cut is refused, [`packet_cut`] tells it.
 pub fn packet_nth(packet: &[u8], number: usize) -> Result<Entry, Answer> {
     let mut e = NO_ENTRY;
     // SAFETY: as in `read`.
@@ -208,8 +208,9 @@ pub struct Cutting {
     pub count: usize,
 }
 
-/// All entries of a packet that its declared lengths cut exactly, in one walk. They stand at the front of the list, which is zero behind them, and all zero
-/// where the cut is refused; [`Answer::NoRoom`] where the list is too short.
+/// All entries of a packet that its declared lengths cut exactly, in one walk. A value whose length is FFFFFFFF, not known, is read where it stands, and its entry
+/// has the length that was found; where it can't be read, its refusal is that of the cut. The entries stand at the front of the list, which is zero behind them,
+/// and all zero where the cut is refused; [`Answer::NoRoom`] where the list is too short.
 pub fn packet_cut(packet: &[u8], list: &mut [Numbers]) -> Result<Cutting, Refusal> {
     let mut c = Cutting { used: 0, count: 0 };
     // SAFETY: as in `read`; a slice of arrays of eight is a row of eight times as many numbers.

@@ -75,7 +75,7 @@ impl<'a> Packet<'a> {
         packet_write_to_bytes(self.tree.image, self.tree.text, true, out)
     }
 
-    /// Writes it with the length FFFFFFFF, which says that it is not known, for each entry. Such a packet can't be cut into entries.
+    /// Writes it with the length FFFFFFFF, which says that it is not known, for each entry. To cut such a packet each value is read where it stands.
     pub fn write_without_lengths(self, out: &mut [u8]) -> Result<usize, Answer> {
         packet_write_to_bytes(self.tree.image, self.tree.text, false, out)
     }
@@ -220,8 +220,8 @@ impl fmt::Debug for Messages<'_> {
     }
 }
 
-/// The entries of a packet that its declared lengths cut exactly, headers first. Values are not looked into before they are read, each alone, so that a damaged one
-/// costs itself and no other.
+/// The entries of a packet that its lengths cut exactly, headers first. Values of a known length are not looked into before they are read, each alone, so that a
+/// damaged one costs itself and no other.
 ///
 /// ```
 /// # fn main() -> Result<(), Box<dyn std::error::Error>> {

@@ -297,9 +297,13 @@ fn lengths_as_asked() {
     let n = packet_write_to_bytes(&image[..made], &p, true, &mut out).unwrap();
     assert_eq!(&out[..n], &p[..]);
     let n = packet_write_to_bytes(&image[..made], &p, false, &mut out).unwrap();
-    assert_eq!(packet_nth(&out[..n], 0), Err(Answer::NotWhole));
     let place = packet_nth(&p, 0).unwrap().value.place;
     assert_eq!(out[place - 4..place], [0xFF; 4]);
+    // It says that the length is not known, and the value is measured. No other length does so.
+    assert_eq!(packet_nth(&out[..n], 0), packet_nth(&p, 0));
+    assert_eq!(packet_cut(&out[..n], &mut []), Err(refusal(Answer::NoRoom, 0)));
+    out[place - 1] = 0xFE;
+    assert_eq!(packet_nth(&out[..n], 0), Err(Answer::NotWhole));
     assert_eq!(packet_cut(&out[..n], &mut []), Err(refusal(Answer::NotWhole, place - 4)));
 }
 

@@ -102,7 +102,16 @@ fn packets_as_their_records_have_them() {
     assert_eq!(packet.write(&mut out), Ok(167));
     assert_eq!(&out[..167], PACKET);
     assert_eq!(packet.write_without_lengths(&mut out), Ok(167));
-    assert_eq!(packet_cut(&out[..167], &mut []).unwrap_err().answer, Answer::NotWhole);
+    // Lengths that are not known are measured: the entries are those of the packet with its lengths.
+    let (mut measured, mut known) = ([NO_ENTRY; 5], [NO_ENTRY; 5]);
+    assert_eq!(packet_cut(&out[..167], &mut measured).unwrap().count, 5);
+    packet_cut(PACKET, &mut known).unwrap();
+    assert_eq!(measured, known);
+    // One that can't be read refuses the cut, where it broke.
+    let place = packet_nth(PACKET, 3).unwrap().value.place;
+    out[place] = 4;
+    assert_eq!(packet_cut(&out[..167], &mut measured).unwrap_err(), Refusal { answer: Answer::NotRight, place });
+    assert_eq!(measured, [NO_ENTRY; 5]);
 }
 
 #[test]
