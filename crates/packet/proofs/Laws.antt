@@ -22,7 +22,7 @@ use Rattle.image.specs.Record.{bytesOf, size}
 use Rattle.image.specs.Due.{Due, end, stop, seen, due, based, Ends, Stops, Ran, ran, run}
 use Rattle.image.specs.Whole.{refused, finished}
 use Rattle.image.proofs.Laws.{clear-more, based-zero}
-use Rattle.image.proofs.Settle.{on-ends, on-case, finished-ran}
+use Rattle.image.proofs.Settle.{on-case, finished-ran}
 use Rattle.amf0.specs.Reading.{topValue, valueIn}
 use Rattle.amf0.proofs.Laws.{part-over, part-read}
 use Rattle.image.proofs.Kept.{Kept, ends-kept, stops-kept}
@@ -53,35 +53,39 @@ two = record { low = omega arith; high = omega arith }
 pub three : Field 3
 three = record { low = omega arith; high = omega arith }
 
--- an answer that refuses the cut
-pub record Cuts (a : ℕ) : Type 0 where
-  pub low : 1 ≤ a
+-- an answer that refuses a packet, at least so much
+pub record Tells (least a : ℕ) : Type 0 where
+  pub low : least ≤ a
   pub high : a ≤ 7
   pub room : a ≢ 4
   pub tree : a ≢ 6
 
-field-cuts : {a : ℕ} → Field a → Cuts a
-field-cuts f = record { low = omega arith; high = omega arith; room = λ e. omega arith; tree = λ e. omega arith }
+-- by a field round the values, or in one
+pub field-tells : {least a : ℕ} → least ≤ 2 → Field a → Tells least a
+field-tells l f = record { low = omega arith; high = omega arith; room = λ e. omega arith; tree = λ e. omega arith }
 
-value-cuts : {a : ℕ} → Named a → Cuts a
-value-cuts n = record { low = omega arith; high = omega arith; room = n .other; tree = λ e. omega arith }
+pub value-tells : {least a : ℕ} → least ≤ 2 → Named a → Tells least a
+value-tells l n = record { low = omega (arith, n .low); high = omega (arith, n .high); room = n .other; tree = λ e. omega (arith, n .high) }
 
-one : Cuts 1
+one : Tells 1 1
 one = record { low = omega arith; high = omega arith; room = λ e. omega arith; tree = λ e. omega arith }
 
-seven : Cuts 7
+seven : Tells 2 7
 seven = record { low = omega arith; high = omega arith; room = λ e. omega arith; tree = λ e. omega arith }
+
+weaker : {a : ℕ} → Tells 2 a → Tells 1 a
+weaker t = record { low = omega (arith, t .low); high = t .high; room = t .room; tree = t .tree }
 
 -- the answer that refuses the cut of a packet
 pub record Refuses (s : List ℕ) (a : ℕ) : Type 0 where
-  pub cuts : Cuts a
+  pub cuts : Tells 1 a
   pub over : a ≡ 1 → limit.bytes < length s
 
 field-refuses : (s : List ℕ) {a : ℕ} → Field a → Refuses s a
-field-refuses s f = record { cuts = field-cuts f; over = λ e. absurd (omega arith) }
+field-refuses s f = record { cuts = field-tells (omega arith) f; over = λ e. absurd (omega arith) }
 
 value-refuses : (s : List ℕ) {a : ℕ} → Named a → Refuses s a
-value-refuses s n = record { cuts = value-cuts n; over = λ e. absurd (omega arith) }
+value-refuses s n = record { cuts = value-tells (omega arith) n; over = λ e. absurd (omega (arith, n .low)) }
 
 over-refuses : (s : List ℕ) → limit.bytes < length s → Refuses s 1
 over-refuses s l = record { cuts = one; over = λ e. l }
@@ -181,12 +185,6 @@ module _ (kind : ℕ) (s : List ℕ) (at : ℕ) where
   pub entry-unknown : {e : Entry} {c : Cursor} → headAt kind s at ≡ Head.Got e c → e .length ≡ unknown → entryAt kind s at ≡ measuredAt s e (c .at)
   unfolding entryAt
   entry-unknown h u = rw (h, eq-eqb _ unknown u)
-
-  pub entry-measured : {e : Entry} {c : Cursor} {n : ℕ} → headAt kind s at ≡ Head.Got e c → e .length ≡ unknown → length s ≤ limit.bytes
-      → Ends (topValue s (c .at)) n → entryAt kind s at ≡ Head.Got (measured e (n - c .at)) (to n)
-  entry-measured {e} {c} {n} h u l f =
-      entry-unknown h u
-      ∙ rw (value-read s (c .at) l (head-begun s at kind h .within)) (on-ends (topValue s (c .at)) n _ _ f)
 
   -- What an entry comes to, by its head: that is refused; or its length is known, and its value is inside the input or not; or it is not known, and its value is
   -- read where it stands, to its end or not, in an input within the limit.
@@ -445,7 +443,7 @@ listing l n t h s =
 
 abbrev pub Versioned : List ℕ → Tag → Type 0
 Versioned s (Tag.Past c) = (c .at ≡ 2) × (2 ≤ length s)
-Versioned s (Tag.Stop a p) = (2 ≤ a) × Cuts a × (p ≤ length s)
+Versioned s (Tag.Stop a p) = Tells 2 a × (p ≤ length s)
 
 pub version-told : (s : List ℕ) → Versioned s (versionAt s)
 unfolding versionAt
@@ -455,13 +453,13 @@ version-told s = go (tagAt (0 ∷ []) s 0) refl
         → Versioned s (pastTag Tag.Stop x λ p. got8 Tag.Stop (u8At s p) λ v q. pick (eqb v 0) (Tag.Past (to q)) (pick (eqb v 3) (Tag.Stop 7 p) (Tag.Stop 3 p)))
     go (Tag.Stop a p) h =
         let r = tag-stop s 0 (0 ∷ []) a p h (omega arith) in
-        ⊎-elim (λ e. rw e (omega arith, field-cuts two, r .within)) (λ e. rw e (omega arith, field-cuts three, r .within)) (r .answer)
+        ⊎-elim (λ e. rw e (field-tells (omega arith) two, r .within)) (λ e. rw e (field-tells (omega arith) three, r .within)) (r .answer)
     go (Tag.Past c) h =
         let r = tag-next s 0 (0 ∷ []) c h in
         go8 (Versioned s) Tag.Stop s (c .at) _
         (λ i. picked (Versioned s) (eqb (getD s (c .at) 0) 0) _ _ (λ e. (omega arith, omega arith))
-        (λ e. picked (Versioned s) (eqb (getD s (c .at) 0) 3) _ _ (λ f. (omega arith, seven, omega arith)) (λ f. (omega arith, field-cuts three, omega arith))))
-        (λ i. (omega arith, field-cuts two, omega (arith, r .within)))
+        (λ e. picked (Versioned s) (eqb (getD s (c .at) 0) 3) _ _ (λ f. (seven, omega arith)) (λ f. (field-tells (omega arith) three, omega arith))))
+        (λ i. (field-tells (omega arith) two, omega (arith, r .within)))
 
 -- the entries of a packet that is cut
 pub record Split (s : List ℕ) (es : List Entry) : Type 0 where
@@ -485,7 +483,7 @@ front-told s =
   where
     go : length s ≤ limit.bytes → (x : Tag) → Versioned s x → Fronted s (pastTag U16.Stop x λ p. u16At s p)
     go l (Tag.Past c) v = picked (Fronted s) (leb (c .at + 2) (length s)) _ _ (λ t. (l, omega (arith, v .0), omega (arith, v .0, leb-true (c .at + 2) (length s) t))) (λ t. field-refuses s two)
-    go l (Tag.Stop a p) v = record { cuts = v .1; over = λ e. absurd (omega (arith, v .0)) }
+    go l (Tag.Stop a p) v = record { cuts = weaker (v .0); over = λ e. absurd (omega (arith, v .0 .low)) }
 
 -- what follows the front
 rest-told : (s : List ℕ) (h q : ℕ) → q ≤ length s → Went s (walk 0x31 s h q thence messagesFrom s)

@@ -25,8 +25,8 @@ use Rattle.packet.specs.declared.head.Head.the-variants as Head
 use Rattle.packet.specs.Head.{versionAt, frontOf, headAt}
 use Rattle.packet.specs.Reading.{recordOf, entriesAt, countAfter, bodyAt, packetAt, incompleteOf, wholeOf}
 use Rattle.packet.specs.Code.{packetIn, runMessages, Packed}
-use Rattle.packet.proofs.Laws.{Answers, Halts, run-halts, answered}
-use Rattle.packet.proofs.Reasons.{Tells, packet-kept}
+use Rattle.packet.proofs.Laws.{Tells, Answers, Halts, run-halts, answered}
+use Rattle.packet.proofs.Reasons.{packet-kept}
 
 -- ---- entry by entry
 
@@ -228,7 +228,7 @@ packed-halts : (s image : List ℕ) {x : Step} {after : List ℕ} → Packed x a
 packed-halts s image p =
     rw (p .step)
     (run-halts (packetIn s) 0 image
-    (picked Answers (leb (length s) limit.bytes) (packetAt s) (stop 1 0) (λ t. answered Tells (λ a m. m .low) s 0 (packetAt s) (packet-kept s)) (λ t. omega arith)))
+    (picked Answers (leb (length s) limit.bytes) (packetAt s) (stop 1 0) (λ t. answered (Tells 2) (λ a m. m .low) s 0 (packetAt s) (packet-kept s)) (λ t. omega arith)))
 
 module _ (s image : List ℕ) {after : List ℕ} where
   pub whole-stop : {a p : ℕ} → Packed (Stop a p) after s image → wholeOf s (length image) ≡ refused a p

@@ -10,8 +10,8 @@ use Rattle.packet.specs.declared.entry.Found.{Found}
 use Rattle.packet.specs.declared.entry.Found.the-variants as Found
 use Rattle.packet.specs.Reading.{packetAt}
 use Rattle.packet.specs.Entry.{Cut, found, stops, cutOf, Listed, uncut, listed, listOf, span, readSpan, entryIn, readEntry, foundIn}
-use Rattle.packet.proofs.Laws.{cut-told, entry-none, entry-chosen}
-use Rattle.packet.proofs.Reasons.{Tells, packet-kept}
+use Rattle.packet.proofs.Laws.{Tells, cut-told, entry-none, entry-chosen}
+use Rattle.packet.proofs.Reasons.{packet-kept}
 use Rattle.image.proofs.Kept.{ends-kept, stops-kept, small, due-inside}
 use Rattle.image.proofs.Settle.{due-lacks}
 use Rattle.packet_theorems.proofs.Frame.{cut-read}
@@ -23,12 +23,12 @@ pub packet-bounded : (s : List ℕ) → Bounded s (packetAt s)
 packet-bounded s =
     let k = packet-kept s in
     record {
-      within = λ n e. ends-kept Tells s 0 n (packetAt s) k e .1;
-      low = λ a p t. stops-kept Tells s 0 a p (packetAt s) k t .0 .low;
-      other = λ a p t. stops-kept Tells s 0 a p (packetAt s) k t .0 .room;
-      small = omega (arith, small Tells s 0 (packetAt s) k);
-      inside = λ a p t. stops-kept Tells s 0 a p (packetAt s) k t .1;
-      due-at = λ room p l. due-lacks (λ r q. q ≤ length s) (packetAt s) 0 room p (due-inside Tells s 0 (packetAt s) k) l .1;
+      within = λ n e. ends-kept (Tells 2) s 0 n (packetAt s) k e .1;
+      low = λ a p t. stops-kept (Tells 2) s 0 a p (packetAt s) k t .0 .low;
+      other = λ a p t. stops-kept (Tells 2) s 0 a p (packetAt s) k t .0 .room;
+      small = omega (arith, small (Tells 2) s 0 (packetAt s) k);
+      inside = λ a p t. stops-kept (Tells 2) s 0 a p (packetAt s) k t .1;
+      due-at = λ room p l. due-lacks (λ r q. q ≤ length s) (packetAt s) 0 room p (due-inside (Tells 2) s 0 (packetAt s) k) l .1;
     }
 
 -- ---- an entry

@@ -13,9 +13,9 @@ use Rattle.packet.specs.Head.{frontOf}
 use Rattle.packet.specs.Reading.{packetAt, incompleteOf, wholeOf}
 use Rattle.packet.specs.Entry.{Cut, found, stops, cutOf, noEntry, readSpan, readEntry, foundIn, span, spanOf}
 use Rattle.packet.specs.Change.{known}
-use Rattle.packet.proofs.Laws.{Splits, cut-told, entry-chosen, span-read}
+use Rattle.packet.proofs.Laws.{Tells, Splits, cut-told, entry-chosen, span-read}
 use Rattle.image.proofs.Kept.{stops-kept}
-use Rattle.packet.proofs.Reasons.{Tells, packet-kept}
+use Rattle.packet.proofs.Reasons.{packet-kept}
 use Rattle.amf0.specs.Span.{Span, spanAt, held, inSpan, oneValue}
 use Rattle.amf0_theorems.proofs.Call.{value-sober, value-bounded, call-answers, call-refused, call-over-limit, call-room-exact, call-room-place, call-room, call-inside, call-takes}
 use Rattle.amf0_theorems.proofs.Spans.{length-based, ends-based, held-length, answer-either, answer-known, answer-refused, answer-takes, lies-within, TakesSpan}
@@ -36,7 +36,7 @@ unfolding incompleteOf
 incomplete-answers s room =
     call-answers s (packetAt s) room Answer (record { high = omega arith; tree = λ e. omega arith }) (record { high = omega arith; tree = λ e. omega arith })
     (record { high = omega arith; tree = λ e. omega arith }) λ a p t.
-    let b = stops-kept Tells s 0 a p (packetAt s) (packet-kept s) t .0 in
+    let b = stops-kept (Tells 2) s 0 a p (packetAt s) (packet-kept s) t .0 in
     record { high = b .high; tree = b .tree }
 
 -- what holds of the incomplete reading, and of a refusal with 3 where that one ends, holds of the whole one
