@@ -1,5 +1,6 @@
 -- Copies by parts that meet or overlap.
-use Rattle.wire.proofs.Kit.{ℕ, zero, suc, ◌+◌, ◌-◌, ◌*◌, ◌≤◌, ◌<◌, ◌≡◌, refl, sym, ap, ◌∙◌, List, [], ◌∷◌, arith, length, get_or, take, set, length-take}
+use Rattle.std.specs.Prelude.{◌+◌, ◌-◌, ◌*◌, ◌≤◌, ◌<◌, ◌≡◌, ◌∷◌}
+use Rattle.wire.proofs.Kit.{ℕ, zero, suc, refl, sym, ap, ◌∙◌, List, [], arith, length, get_or, take, set, length-take}
 use Rattle.wire.proofs.Kit.{length-drop, sets, set_comm, set-set, take-length, drop-cons, length-take-le, towards_suc}
 use lib.Seq.{take-add}
 use Rattle.wire.specs.Number.{number}

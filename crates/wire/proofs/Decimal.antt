@@ -1,5 +1,6 @@
 -- Numbers in decimal: how many digits, and the digits from the last one on.
-use Rattle.wire.proofs.Kit.{ℕ, zero, suc, ◌+◌, ◌-◌, ◌/◌, ◌%◌, ◌^◌, ◌≤◌, ◌<◌, ◌≡◌, refl, List, [], ◌∷◌, ◌++◌, mod-eq_of_lt, pow-suc, add-one, sub-one}
+use Rattle.std.specs.Prelude.{◌+◌, ◌-◌, ◌/◌, ◌%◌, ◌^◌, ◌≤◌, ◌<◌, ◌≡◌, ◌∷◌, ◌++◌}
+use Rattle.wire.proofs.Kit.{ℕ, zero, suc, refl, List, [], mod-eq_of_lt, pow-suc, add-one, sub-one}
 use Rattle.wire.proofs.Kit.{arith, length, set, length-append, sets, ltb, ltb-true, lt-ltb, le-ltb}
 use Rattle.wire.specs.Bytes.{places, decimal}
 use Rattle.wire.proofs.Laws.{picked, sets_append, set_sets}

@@ -1,5 +1,6 @@
 -- The laws of the fields, of numbers in bytes and of stores.
-use Rattle.wire.proofs.Kit.{ℕ, zero, suc, ◌+◌, ◌-◌, ◌*◌, ◌/◌, ◌%◌, ◌^◌, ◌≤◌, ◌<◌, ◌≡◌, refl, sym, ap, ◌∙◌, List, [], ◌∷◌, ◌++◌, Bool, true, false, ◌⊎◌}
+use Rattle.std.specs.Prelude.{◌+◌, ◌-◌, ◌*◌, ◌/◌, ◌%◌, ◌^◌, ◌≤◌, ◌<◌, ◌≡◌, ◌∷◌, ◌++◌, ◌⊎◌}
+use Rattle.wire.proofs.Kit.{ℕ, zero, suc, refl, sym, ap, ◌∙◌, List, [], Bool, true, false}
 use Rattle.wire.proofs.Kit.{inl, inr, add-zero, suc-add, pow-suc, div-one, mod-eq_of_lt, add-one, sub-one, arith, length, get_or, drop, set, length-drop}
 use Rattle.wire.proofs.Kit.{length-append, drop_of_length-le, sets, drop-cons, set_comm, length-sets, leb, eqb, lit<, le-leb, lt-leb, leb-true}
 use Rattle.wire.proofs.Kit.{leb-false, eq-eqb, eqb-true}
@@ -18,8 +19,6 @@ use Rattle.wire.specs.declared.cursor.U8.TheVariants as U8
 use Rattle.wire.specs.declared.cursor.U16.TheVariants as U16
 use Rattle.wire.specs.declared.cursor.U32.TheVariants as U32
 use Rattle.wire.specs.declared.cursor.U64.TheVariants as U64
-use Rattle.wire.specs.declared.cursor.Text.TheVariants as Text
-use Rattle.wire.specs.declared.cursor.Tag.TheVariants as Tag
 
 clash : ◌≡◌ {A = ℕ} 0 1 → ⊥
 clash e = omega arith

@@ -1,5 +1,6 @@
 -- RFC 3629, section 4, as a relation: the definition `utf8` of the specs takes the rows that it has, and no others.
-use Rattle.wire.proofs.Kit.{ℕ, ◌≤◌, ◌≡◌, refl, ap, ◌∙◌, List, [], ◌∷◌, ◌++◌, true, false, drop, leb, leb-true}
+use Rattle.std.specs.Prelude.{◌≤◌, ◌≡◌, ◌∷◌, ◌++◌}
+use Rattle.wire.proofs.Kit.{ℕ, refl, ap, ◌∙◌, List, [], true, false, drop, leb, leb-true}
 use lib.Dec.{T}
 use Rattle.wire.specs.Utf8.{Range, Form, ◌to◌, has, tail, forms, begun, ends, utf8}
 use Rattle.wire.specs.Choice.{pick}

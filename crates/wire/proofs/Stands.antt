@@ -1,20 +1,16 @@
 -- Fields against the bytes that stand in the input: what stands there is read, and what was read stood there.
-use Rattle.wire.proofs.Kit.{ℕ, zero, suc, ◌+◌, ◌^◌, ◌≤◌, ◌<◌, ◌≡◌, refl, sym, ap, ap₂, ◌∙◌, List, [], ◌∷◌, ◌++◌, append_assoc, Bool, true, false}
+use Rattle.std.specs.Prelude.{◌+◌, ◌^◌, ◌≤◌, ◌<◌, ◌≡◌, ◌∷◌, ◌++◌}
+use Rattle.wire.proofs.Kit.{ℕ, zero, suc, refl, sym, ap, ap₂, ◌∙◌, List, [], append_assoc, Bool, true, false}
 use Rattle.wire.proofs.Kit.{add_assoc, add-one, arith, length, take, drop, length-append, length-drop, take-append-drop, get_or, drop-cons, take_at}
 use Rattle.wire.proofs.Kit.{drop_at, drop-drop, length-take-le, take-append-le, drop-append-le, take-append_seam, leb, eqb, le-leb, lt-leb, eq-eqb}
 use Rattle.wire.proofs.Kit.{leb-true, leb-false, eqb-true}
 use lib.Seq.{drop-append-add}
 use Rattle.wire.specs.declared.cursor.Cursor.{Cursor}
 use Rattle.wire.specs.declared.cursor.U8.{U8}
-use Rattle.wire.specs.declared.cursor.U8.TheVariants as U8
 use Rattle.wire.specs.declared.cursor.U16.{U16}
-use Rattle.wire.specs.declared.cursor.U16.TheVariants as U16
 use Rattle.wire.specs.declared.cursor.U32.{U32}
-use Rattle.wire.specs.declared.cursor.U32.TheVariants as U32
 use Rattle.wire.specs.declared.cursor.U64.{U64}
-use Rattle.wire.specs.declared.cursor.U64.TheVariants as U64
 use Rattle.wire.specs.declared.cursor.Text.{Text}
-use Rattle.wire.specs.declared.cursor.Text.TheVariants as Text
 use Rattle.wire.specs.declared.cursor.Tag.TheVariants as Tag
 use Rattle.wire.specs.Number.{digits, number, Bytes}
 use Rattle.wire.specs.Utf8.{utf8}

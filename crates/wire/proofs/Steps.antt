@@ -1,5 +1,6 @@
 -- What one more byte does: to the UTF-8 check, and to the comparison of two rows.
-use Rattle.wire.proofs.Kit.{ℕ, zero, suc, ◌+◌, ◌-◌, ◌≤◌, ◌<◌, ◌≡◌, refl, sym, ap, ◌∙◌, List, [], ◌∷◌, Bool, true, false, ◌⊎◌, ⊎_elim, add-one, arith}
+use Rattle.std.specs.Prelude.{◌+◌, ◌-◌, ◌≤◌, ◌<◌, ◌≡◌, ◌∷◌, ◌⊎◌}
+use Rattle.wire.proofs.Kit.{ℕ, zero, suc, refl, sym, ap, ◌∙◌, List, [], Bool, true, false, ⊎_elim, add-one, arith}
 use Rattle.wire.proofs.Kit.{length, get_or, drop, drop_of_length-le, drop-cons, leb, ltb, eqb, le-leb, lt-leb, leb-true, leb-false, eq-eqb, ne_eqb}
 use Rattle.wire.proofs.Kit.{ltb-true, ltb-false, lt-ltb, le-ltb}
 use mathlib.Core.Bool.{◌&&◌, ◌||◌, beq}

@@ -1,5 +1,5 @@
 -- What the steps of the UTF-8 check say of the bytes behind them.
-use Rattle.wire.specs.Kit.{ℕ, ◌+◌, ◌≤◌, ◌<◌, ◌≡◌, List, [], ◌∷◌, Bool, false, length, get_or, drop, ltb, eqb}
+use Rattle.std.specs.Prelude.{ℕ, ◌+◌, ◌≤◌, ◌<◌, ◌≡◌, List, [], ◌∷◌, Bool, false, length, get_or, drop, ltb, eqb}
 use Rattle.wire.specs.declared.utf8.Lead.{Lead}
 use Rattle.wire.specs.declared.utf8.Lead.TheVariants.{One, Two, Three, Four, Bad}
 use Rattle.wire.specs.declared.utf8.Step.{Step}

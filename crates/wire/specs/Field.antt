@@ -1,18 +1,12 @@
 -- The fields that a reading is made of: each is whole, and then right, or refused at its place.
-use Rattle.wire.specs.Kit.{ℕ, ◌+◌, List, [], ◌∷◌, Bool, true, false, length, take, drop, leb, eqb}
+use Rattle.std.specs.Prelude.{ℕ, ◌+◌, List, [], ◌∷◌, Bool, true, false, length, take, drop, leb, eqb}
 use Rattle.wire.specs.declared.cursor.Cursor.{Cursor}
 use Rattle.wire.specs.declared.cursor.U8.{U8}
-use Rattle.wire.specs.declared.cursor.U8.TheVariants as U8
 use Rattle.wire.specs.declared.cursor.U16.{U16}
-use Rattle.wire.specs.declared.cursor.U16.TheVariants as U16
 use Rattle.wire.specs.declared.cursor.U32.{U32}
-use Rattle.wire.specs.declared.cursor.U32.TheVariants as U32
 use Rattle.wire.specs.declared.cursor.U64.{U64}
-use Rattle.wire.specs.declared.cursor.U64.TheVariants as U64
 use Rattle.wire.specs.declared.cursor.Text.{Text}
-use Rattle.wire.specs.declared.cursor.Text.TheVariants as Text
 use Rattle.wire.specs.declared.cursor.Tag.{Tag}
-use Rattle.wire.specs.declared.cursor.Tag.TheVariants as Tag
 use Rattle.wire.specs.Choice.{pick}
 use Rattle.wire.specs.Number.{number}
 use Rattle.wire.specs.Utf8.{utf8}

@@ -6,4 +6,3 @@ pub mod Text
 pub mod Utf8
 pub mod Code
 pub mod Field
-pub mod Kit

@@ -1,5 +1,5 @@
 -- The rule "Limits" (docs/DEMANDS.md).
-use Rattle.wire.specs.Kit.{ℕ}
+use Rattle.std.specs.Prelude.{ℕ}
 
 -- the most bytes that an input, a writer's text or written output may have
 abbrev pub bytes : ℕ

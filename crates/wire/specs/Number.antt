@@ -1,5 +1,6 @@
 -- Numbers in bytes, the highest first, over the width.
-use Rattle.wire.specs.Kit.{ℕ, zero, suc, ◌+◌, ◌*◌, ◌/◌, ◌%◌, ◌^◌, ◌<◌, List, [], ◌∷◌, length, sets, leb}
+use Rattle.std.specs.Prelude.{ℕ, zero, suc, ◌+◌, ◌*◌, ◌/◌, ◌%◌, ◌^◌, ◌<◌, List, [], ◌∷◌, length, leb}
+use Rattle.std.proofs.lemmas.List.Edits.{sets}
 use Rattle.wire.specs.Choice.{pick}
 
 -- n in w bytes

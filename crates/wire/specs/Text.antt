@@ -1,5 +1,5 @@
 -- The text that a place and a length name: inside where the place and the length end within the input.
-use Rattle.wire.specs.Kit.{ℕ, ◌+◌, List, [], Bool, length, take, drop, leb}
+use Rattle.std.specs.Prelude.{ℕ, ◌+◌, List, [], Bool, length, take, drop, leb}
 use Rattle.wire.specs.Choice.{pick}
 
 abbrev pub inside_of : List ℕ → ℕ → ℕ → Bool

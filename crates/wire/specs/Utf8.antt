@@ -1,5 +1,5 @@
 -- Well-formed UTF-8: RFC 3629, section 4.
-use Rattle.wire.specs.Kit.{ℕ, List, [], ◌∷◌, Bool, true, false, leb}
+use Rattle.std.specs.Prelude.{ℕ, List, [], ◌∷◌, Bool, true, false, leb}
 use Rattle.wire.specs.Choice.{pick}
 
 -- the bytes from low to high

@@ -6,43 +6,43 @@ use crate::answer::{NOT_RIGHT, NOT_WHOLE};
 use crate::number::{number_at, number8_at};
 use crate::utf8::is_utf8;
 
-#[derive(Drop)]
+#[derive(Clone, Copy)]
 pub struct Cursor {
     pub at: usize,
 }
 
-#[derive(Drop)]
+#[derive(Clone, Copy)]
 pub enum U8 {
     Got(u8, Cursor),
     Stop(u8, usize),
 }
 
-#[derive(Drop)]
+#[derive(Clone, Copy)]
 pub enum U16 {
     Got(u16, Cursor),
     Stop(u8, usize),
 }
 
-#[derive(Drop)]
+#[derive(Clone, Copy)]
 pub enum U32 {
     Got(u32, Cursor),
     Stop(u8, usize),
 }
 
-#[derive(Drop)]
+#[derive(Clone, Copy)]
 pub enum U64 {
     Got(u64, Cursor),
     Stop(u8, usize),
 }
 
 // A text's place and length.
-#[derive(Drop)]
+#[derive(Clone, Copy)]
 pub enum Text {
     Got(usize, usize, Cursor),
     Stop(u8, usize),
 }
 
-#[derive(Drop)]
+#[derive(Clone, Copy)]
 pub enum Tag {
     Past(Cursor),
     Stop(u8, usize),

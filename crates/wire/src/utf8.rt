@@ -4,7 +4,7 @@ ghost use Rattle.wire.specs.Utf8.{utf8, ends};
 ghost use Rattle.wire.specs.Code.{Asked, Over, Onward, Stepped, Plain, Run, Fits, Owed, Paid};
 
 // The character that a first byte begins: of how many bytes it is, and from three on the range of the second.
-#[derive(Drop)]
+#[derive(Clone, Copy)]
 pub enum Lead {
     One,
     Two,
@@ -14,7 +14,7 @@ pub enum Lead {
 }
 
 // Where the check goes on behind a byte or a character, or that it found none.
-#[derive(Drop)]
+#[derive(Clone, Copy)]
 pub enum Step {
     To(usize),
     Stuck,

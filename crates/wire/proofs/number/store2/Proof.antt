@@ -1,9 +1,0 @@
--- `store2` meets its contract: the stores are those of the digits.
-use Rattle.wire.proofs.Kit.{div-one, towards_suc, arith, length-set, needs}
-use Rattle.wire.proofs.number.store2.Statement.{statement}
-use Rattle.wire.proofs.number.store2.Tie as tie
-
-pub store2_spec : {M : Type 1} → statement M
-store2_spec =
-    tie.close (tie.spec (λ c. search needs) (λ c. search needs) (λ c. search needs) (λ c. search needs) (λ c. simp length-set (omega arith))
-    (λ c. search needs) (λ c. simp (div-one, towards_suc)))
