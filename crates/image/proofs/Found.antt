@@ -1,15 +1,12 @@
 -- A record that stands in an image is found there, and only one that stands there is found.
-use Rattle.wire.proofs.Kit.{ℕ, ◌+◌, ◌^◌, ◌≤◌, ◌<◌, ◌≡◌, refl, sym, ◌∙◌, List, [], ◌∷◌, ◌++◌, Bool, true, false, add_assoc, arith, length, drop, length-append}
+use Rattle.std.specs.Prelude.{◌+◌, ◌^◌, ◌≤◌, ◌<◌, ◌≡◌, ◌∷◌, ◌++◌}
+use Rattle.wire.proofs.Kit.{ℕ, refl, sym, ◌∙◌, List, [], Bool, true, false, add_assoc, arith, length, drop, length-append}
 use Rattle.wire.proofs.Kit.{drop-append_seam, leb, eqb, lit<, leb-true, eqb-true}
 use Rattle.wire.specs.declared.cursor.Cursor.{Cursor}
 use Rattle.wire.specs.declared.cursor.U8.{U8}
-use Rattle.wire.specs.declared.cursor.U8.TheVariants as U8
 use Rattle.wire.specs.declared.cursor.U16.{U16}
-use Rattle.wire.specs.declared.cursor.U16.TheVariants as U16
 use Rattle.wire.specs.declared.cursor.U32.{U32}
-use Rattle.wire.specs.declared.cursor.U32.TheVariants as U32
 use Rattle.wire.specs.declared.cursor.U64.{U64}
-use Rattle.wire.specs.declared.cursor.U64.TheVariants as U64
 use Rattle.wire.specs.declared.cursor.Text.TheVariants as Place
 use Rattle.wire.specs.Choice.{pick}
 use Rattle.wire.specs.Number.{digits, Bytes}

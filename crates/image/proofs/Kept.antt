@@ -1,6 +1,7 @@
 -- A reading that goes forward and ends inside the input, lays at most three bytes for each byte that it reads, and is refused with one of some answers, at a
 -- place inside the input.
-use Rattle.wire.proofs.Kit.{ℕ, ◌+◌, ◌*◌, ◌≤◌, List, arith, length, length-append}
+use Rattle.std.specs.Prelude.{◌+◌, ◌*◌, ◌≤◌}
+use Rattle.wire.proofs.Kit.{ℕ, List, arith, length, length-append}
 use Rattle.image.specs.Record.{bytes_of}
 use Rattle.image.specs.Due.{Due, end, stop, seen, due, ◌>>=◌, Ends, Stops}
 use Rattle.image.specs.Whole.{bytes}

@@ -1,5 +1,6 @@
 -- A record by its kind: those of the layers above values.
-use Rattle.wire.proofs.Kit.{ℕ, ◌≡◌, refl, Bool, eqb}
+use Rattle.std.specs.Prelude.{◌≡◌}
+use Rattle.wire.proofs.Kit.{ℕ, refl, Bool, eqb}
 use Rattle.wire.specs.Choice.{pick}
 use Rattle.image.specs.declared.record.Record.{Record}
 use Rattle.image.specs.declared.record.Record.TheVariants.{Number, Boolean, Text, Object, Null, Undefined, Reference, EcmaArray, ObjectEnd, StrictArray, Date, Unsupported, Xml, TypedObject, Key, Packet, Header, Message, Lso}

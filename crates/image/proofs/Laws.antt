@@ -1,12 +1,13 @@
 -- The laws of records, of readings and of a reading carried out.
-use Rattle.wire.proofs.Kit.{ℕ, suc, ◌+◌, ◌-◌, ◌≤◌, ◌<◌, ◌≡◌, refl, sym, ap, ◌∙◌, List, [], ◌∷◌, ◌++◌, append_assoc, append-nil, Bool, true, false, div-one}
+use Rattle.std.specs.Prelude.{◌+◌, ◌-◌, ◌≤◌, ◌<◌, ◌≡◌, ◌∷◌, ◌++◌}
+use Rattle.wire.proofs.Kit.{ℕ, suc, refl, sym, ap, ◌∙◌, List, [], append_assoc, append-nil, Bool, true, false, div-one}
 use Rattle.wire.proofs.Kit.{mod-eq_of_lt, zero-add, add-zero, add-one, arith, length, set, take, replicate, length-append, length-take, sets, length-sets}
 use Rattle.wire.proofs.Kit.{take_all, leb}
 use lib.Seq.{take-suc-set}
 use Rattle.wire.specs.Choice.{pick}
 use Rattle.wire.specs.Field.{to}
 use Rattle.wire.specs.declared.cursor.Cursor.{Cursor}
-use Rattle.wire.specs.Number.{digits, stored}
+use Rattle.wire.specs.Number.{stored}
 use Rattle.wire.specs.Bytes.{laid}
 use Rattle.wire.proofs.Laws.{pick_yes, pick_no, picked, length_digits, laid_room, then_sets}
 use Rattle.image.specs.declared.record.Field.{Field}

@@ -1,5 +1,6 @@
 -- The laws of rows, of writings and of a writing carried out, and what it comes to.
-use Rattle.wire.proofs.Kit.{ℕ, ◌+◌, ◌≤◌, ◌<◌, ◌≡◌, refl, sym, ap, ◌∙◌, List, [], ◌∷◌, ◌++◌, append_assoc, append-nil, Bool, true, false, add-zero, add_assoc}
+use Rattle.std.specs.Prelude.{◌+◌, ◌≤◌, ◌<◌, ◌≡◌, ◌∷◌, ◌++◌}
+use Rattle.wire.proofs.Kit.{ℕ, refl, sym, ap, ◌∙◌, List, [], append_assoc, append-nil, Bool, true, false, add-zero, add_assoc}
 use Rattle.wire.proofs.Kit.{zero-add, arith, length, length-append, length-take, length-drop, sets, sets-eq, length-sets, leb-true, le-leb}
 use Rattle.wire.specs.Choice.{pick}
 use Rattle.wire.specs.Bytes.{laid}
@@ -232,19 +233,19 @@ module _ (count : ℕ) (text : List ℕ) (r : Row) (at : ℕ) (d : Out) where
     row_in_mark h = pick_yes count most _ _ m ∙ pick_no r.mark.width 8 _ _ h
 
     module _ (x : r.mark.width ≤ 8) where
-      pub rowIn-a : 8 < r.a.width → row_in count text r at d ≡ stop 1 0
+      pub row_in_a : 8 < r.a.width → row_in count text r at d ≡ stop 1 0
       unfolding row_in
-      rowIn-a h = pick_yes count most _ _ m ∙ pick_yes r.mark.width 8 _ _ x ∙ pick_no r.a.width 8 _ _ h
+      row_in_a h = pick_yes count most _ _ m ∙ pick_yes r.mark.width 8 _ _ x ∙ pick_no r.a.width 8 _ _ h
 
       module _ (y : r.a.width ≤ 8) where
-        pub rowIn-b : 8 < r.b.width → row_in count text r at d ≡ stop 1 0
+        pub row_in_b : 8 < r.b.width → row_in count text r at d ≡ stop 1 0
         unfolding row_in
-        rowIn-b h =
+        row_in_b h =
             pick_yes count most _ _ m ∙ pick_yes r.mark.width 8 _ _ x ∙ pick_yes r.a.width 8 _ _ y ∙ pick_no r.b.width 8 _ _ h
 
-        pub rowIn-row : r.b.width ≤ 8 → row_in count text r at d ≡ row text r at d
+        pub row_in_row : r.b.width ≤ 8 → row_in count text r at d ≡ row text r at d
         unfolding row_in
-        rowIn-row h =
+        row_in_row h =
             pick_yes count most _ _ m ∙ pick_yes r.mark.width 8 _ _ x ∙ pick_yes r.a.width 8 _ _ y ∙ pick_yes r.b.width 8 _ _ h
 
 -- ---- where a step goes on
@@ -274,7 +275,7 @@ row_bind text r at q k = go (named_of text r)
 
 module _ (text : List ℕ) (r : Row) (at q count : ℕ) (out : List ℕ) (s : Slim r) (m : count ≤ most) where
   pub row_in_lem : row_in count text r at (end q) ≡ row text r at (end q)
-  row_in_lem = rowIn-row count text r at (end q) m s.mark s.a s.b
+  row_in_lem = row_in_row count text r at (end q) m s.mark s.a s.b
 
   -- the row is put out, and the rest goes on behind it
   pub row_then : (k : ℕ → Out) {c : Cursor} {n : ℕ} {o : List ℕ} → poured (Next c n) o ≡ pour (row_in count text r at (end q)) count out

@@ -1,5 +1,6 @@
 -- What a reading that was carried out comes to, as `Whole` has it: the bytes of its records, and how it ends.
-use Rattle.wire.proofs.Kit.{ℕ, ◌+◌, ◌≤◌, ◌<◌, ◌≡◌, refl, sym, ap, ◌∙◌, ◌⊎◌, inl, inr, ⊎_elim, ◌≢◌, le-leb, lt-leb, List, [], ◌++◌, append_assoc, append-nil, arith, length, take, drop}
+use Rattle.std.specs.Prelude.{◌+◌, ◌≤◌, ◌<◌, ◌≡◌, ◌⊎◌, ◌≢◌, ◌++◌}
+use Rattle.wire.proofs.Kit.{ℕ, refl, sym, ap, ◌∙◌, inl, inr, ⊎_elim, le-leb, lt-leb, List, [], append_assoc, append-nil, arith, length, take, drop}
 use Rattle.wire.proofs.Kit.{length-append, sets, sets-eq, take_at, length-sets, length-take-le, leb, eqb, leb-true, leb-false, eqb-true, eqb-false, ne_eqb}
 use Rattle.wire.specs.Field.{to}
 use Rattle.wire.specs.declared.cursor.Cursor.{Cursor}

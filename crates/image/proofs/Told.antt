@@ -1,5 +1,6 @@
 -- Numbers tell just the record that has them, and laying a record by its numbers is the inverse of taking it.
-use Rattle.wire.proofs.Kit.{ℕ, ◌+◌, ◌^◌, ◌≤◌, ◌<◌, ◌≡◌, refl, sym, ap, ◌∙◌, ◌≢◌, ◌↔◌, List, [], ◌∷◌, ◌++◌, append_assoc, Bool, true, false, mod-eq_of_lt}
+use Rattle.std.specs.Prelude.{◌+◌, ◌^◌, ◌≤◌, ◌<◌, ◌≡◌, ◌≢◌, ◌↔◌, ◌∷◌, ◌++◌}
+use Rattle.wire.proofs.Kit.{ℕ, refl, sym, ap, ◌∙◌, List, [], append_assoc, Bool, true, false, mod-eq_of_lt}
 use Rattle.wire.proofs.Kit.{arith, length, take, drop, get_or, length-append, length-take-le, take-append-drop, drop-drop, sets, sets-eq, length-sets, take_at, drop_at}
 use Rattle.wire.proofs.Kit.{leb, eqb, lit<, leb-true, leb-false, ne_eqb}
 use native.Mathlib.Nat.{mod-lt, one-le-pow}

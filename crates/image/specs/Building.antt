@@ -1,5 +1,6 @@
 -- A record told by five numbers: its kind and its fields, in the order in which they lie; a field that it has not is 0.
-use Rattle.wire.specs.Kit.{ℕ, ◌+◌, ◌%◌, ◌^◌, ◌≡◌, List, [], ◌∷◌, length, get_or, sets, leb, eqb}
+use Rattle.std.specs.Prelude.{ℕ, ◌+◌, ◌%◌, ◌^◌, ◌≡◌, List, [], ◌∷◌, length, get_or, leb, eqb}
+use Rattle.std.proofs.lemmas.List.Edits.{sets}
 use Rattle.wire.specs.Choice.{pick}
 use Rattle.wire.specs.Field.{equal}
 use Rattle.image.specs.declared.building.Told.{Told}

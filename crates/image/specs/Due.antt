@@ -1,6 +1,7 @@
 -- A reading, with no word of room: the records in the order in which they fall due, each with the place that a refusal for room would name, what is seen
 -- besides, and how the reading ends.
-use Rattle.wire.specs.Kit.{ℕ, ◌+◌, ◌≤◌, ◌<◌, ◌≡◌, ◌⊎◌, List, length, sets, leb}
+use Rattle.std.specs.Prelude.{ℕ, ◌+◌, ◌≤◌, ◌<◌, ◌≡◌, ◌⊎◌, List, length, leb}
+use Rattle.std.proofs.lemmas.List.Edits.{sets}
 use Rattle.wire.specs.Choice.{pick}
 use Rattle.wire.specs.Field.{to}
 use Rattle.wire.specs.declared.cursor.Cursor.{Cursor}

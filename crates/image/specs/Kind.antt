@@ -1,5 +1,5 @@
 -- The kinds of records, in the order of the rule "Tree image" (docs/DEMANDS.md).
-use Rattle.wire.specs.Kit.{ℕ}
+use Rattle.std.specs.Prelude.{ℕ}
 
 abbrev pub number : ℕ
 number = 0x00

@@ -1,5 +1,5 @@
 -- A writing, with no word of room: the rows of bytes in the order in which they are put out, and how the writing ends.
-use Rattle.wire.specs.Kit.{ℕ, ◌+◌, ◌≤◌, ◌≡◌, List, [], ◌++◌, Bool, false, length, drop, leb}
+use Rattle.std.specs.Prelude.{ℕ, ◌+◌, ◌≤◌, ◌≡◌, List, [], ◌++◌, Bool, false, length, drop, leb}
 use Rattle.wire.specs.Choice.{pick}
 use Rattle.wire.specs.Bytes.{laid}
 use Rattle.wire.specs.Field.{to}

@@ -1,6 +1,5 @@
 -- How each record lies: the lines of the rule "Tree image" (docs/DEMANDS.md), in its order.
-use Rattle.wire.specs.Kit.{ℕ, ◌+◌, List, [], ◌∷◌, ◌++◌, Bool, true, false}
-use Rattle.std.specs.Prelude.{get_or}
+use Rattle.std.specs.Prelude.{ℕ, ◌+◌, List, [], ◌∷◌, ◌++◌, Bool, true, false, get_or}
 use Rattle.wire.specs.Number.{digits}
 use Rattle.image.specs.declared.record.Field.{Field}
 use Rattle.image.specs.declared.record.Layout.{Layout}

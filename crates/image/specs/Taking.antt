@@ -1,14 +1,12 @@
 -- The record at a place of an image: its kind is one of the rule "Tree image" (docs/DEMANDS.md), and its body is whole and right.
-use Rattle.wire.specs.Kit.{ℕ, ◌^◌, ◌<◌, ◌≡◌, List, [], ◌∷◌, Bool, true, false, eqb}
+use Rattle.std.specs.Prelude.{ℕ, ◌^◌, ◌<◌, ◌≡◌, List, [], ◌∷◌, Bool, true, false, eqb}
 use Rattle.wire.specs.Choice.{pick}
 use Rattle.wire.specs.Field.{to, u8_at, u16_at, u24_at, u32_at, u64_at, got8, got16, got32, got64, got_text}
 use Rattle.wire.specs.declared.cursor.Text.{Text as Place}
-use Rattle.wire.specs.declared.cursor.Text.TheVariants as Place
 use Rattle.image.specs.declared.record.Field.{Field}
 use Rattle.image.specs.declared.record.Record.{Record}
 use Rattle.image.specs.declared.record.Record.TheVariants.{Number, Boolean, Text, Object, Null, Undefined, Reference, EcmaArray, ObjectEnd, StrictArray, Date, Unsupported, Xml, TypedObject, Key, Packet, Header, Message, Lso}
 use Rattle.image.specs.declared.taking.Flag.{Flag}
-use Rattle.image.specs.declared.taking.Flag.TheVariants as Flag
 use Rattle.image.specs.declared.taking.Taken.{Taken}
 use Rattle.image.specs.declared.taking.Taken.TheVariants.{Found, Bad}
 use Rattle.image.specs.Kind as kind

@@ -1,5 +1,5 @@
 -- What a reading in a room comes to: the answer, the counts or the place, and every byte of the image.
-use Rattle.wire.specs.Kit.{ℕ, ◌+◌, ◌-◌, List, [], ◌++◌, length, take, replicate, leb, eqb}
+use Rattle.std.specs.Prelude.{ℕ, ◌+◌, ◌-◌, List, [], ◌++◌, length, take, replicate, leb, eqb}
 use Rattle.wire.specs.Choice.{pick}
 use Rattle.image.specs.declared.reading.Reading.{Reading}
 use Rattle.image.specs.declared.reading.Step.{Step}

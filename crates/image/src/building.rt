@@ -11,14 +11,14 @@ use wire::answer::{ACCEPTED, NO_TREE};
 use wire::cursor::Cursor;
 
 // The record that numbers tell; or they tell none.
-#[derive(Drop)]
+#[derive(Clone, Copy)]
 pub enum Told {
     Is(Record),
     Bad,
 }
 
 // What laying a record comes to: the answer, and the image bytes made.
-#[derive(Drop)]
+#[derive(Clone, Copy)]
 pub struct Laying {
     pub answer: u8,
     pub made: usize,

@@ -13,14 +13,14 @@ use wire::cursor::Cursor;
 use wire::number::write_number;
 
 // How a step of a reading ends: at a cursor, with so many image bytes made, or refused by an answer at a place.
-#[derive(Drop)]
+#[derive(Clone, Copy)]
 pub enum Step {
     Next(Cursor, usize),
     Stop(u8, usize),
 }
 
 // What a public reading returns: the answer, the bytes used, or on a refusal the place, and the image bytes made.
-#[derive(Drop)]
+#[derive(Clone, Copy)]
 pub struct Reading {
     pub answer: u8,
     pub used: usize,

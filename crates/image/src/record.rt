@@ -5,7 +5,7 @@ ghost use Rattle.image.specs.Record.{layout_of, lies, none, bit_of, ◌bytes◌}
 use crate::kind;
 
 // A text is its place in the input and its length.
-#[derive(Drop)]
+#[derive(Clone, Copy)]
 pub enum Record {
     // The eight bytes as they stand.
     Number(u64),
@@ -35,14 +35,14 @@ pub enum Record {
 }
 
 // A number in so many bytes.
-#[derive(Drop)]
+#[derive(Clone, Copy)]
 pub struct Field {
     pub width: usize,
     pub number: u64,
 }
 
 // How a record lies: its kind in one byte, and its fields behind it; a field that it has not is 0 bytes wide.
-#[derive(Drop)]
+#[derive(Clone, Copy)]
 pub struct Layout {
     pub kind: u64,
     pub a: Field,

@@ -7,13 +7,13 @@ use crate::record::Record;
 use wire::cursor::{Cursor, Text, U8, U16, U32, U64};
 
 // A record with the cursor behind it; or its kind is none of the table's, or its body is not whole or not right.
-#[derive(Drop)]
+#[derive(Clone, Copy)]
 pub enum Taken {
     Found(Record, Cursor),
     Bad,
 }
 
-#[derive(Drop)]
+#[derive(Clone, Copy)]
 pub enum Flag {
     Got(bool, Cursor),
     Bad,

@@ -17,7 +17,7 @@ use wire::utf8::is_utf8;
 pub const MOST: usize = 0x4000_0000_0000_0000;
 
 // A row: three numbers, each in so many bytes, and a text by its place and length.
-#[derive(Drop)]
+#[derive(Clone, Copy)]
 pub struct Row {
     pub mark: Field,
     pub a: Field,
@@ -27,7 +27,7 @@ pub struct Row {
 }
 
 // What a public writing returns.
-#[derive(Drop)]
+#[derive(Clone, Copy)]
 pub struct Writing {
     pub answer: u8,
     pub count: usize,

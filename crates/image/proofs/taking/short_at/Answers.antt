@@ -1,0 +1,16 @@
+-- The place and then the length, or the first of them that is not whole.
+use Rattle.wire.proofs.Kit.{sym, ◌∙◌}
+use Rattle.image.specs.Taking.{short_at}
+use Rattle.image.proofs.taking.short_at.Goals as goal
+
+pub returns-in-Got-be_u16 : goal.returns-in-Got-be_u16
+unfolding short_at
+returns-in-Got-be_u16 c = rw (sym c.be_u24.ensures ∙ c.in-Got.is, sym c.be_u16.ensures ∙ c.in-Got-be_u16.is)
+
+pub returns-in-Stop-be_u16 : goal.returns-in-Stop-be_u16
+unfolding short_at
+returns-in-Stop-be_u16 c = rw (sym c.be_u24.ensures ∙ c.in-Got.is, sym c.be_u16.ensures ∙ c.in-Stop-be_u16.is)
+
+pub returns-in-Stop : goal.returns-in-Stop
+unfolding short_at
+returns-in-Stop c = rw (sym c.be_u24.ensures ∙ c.in-Stop.is)
