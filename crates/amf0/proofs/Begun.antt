@@ -1,9 +1,9 @@
 -- A value's own bytes put out, and what stands before the value of a pair: the laws that the writer's functions cite.
-use Rattle.wire.proofs.Kit.{ℕ, ◌+◌, ◌≤◌, ◌<◌, ◌≡◌, refl, sym, ap, ◌∙◌, List, Bool, true, false, arith, get_or}
+use Rattle.std.specs.Prelude.{◌+◌, ◌≤◌, ◌<◌, ◌≡◌}
+use Rattle.wire.proofs.Kit.{ℕ, refl, sym, ap, ◌∙◌, List, Bool, true, false, arith, get_or}
 use Rattle.wire.specs.Field.{to, u8_at}
 use Rattle.wire.specs.declared.cursor.Cursor.{Cursor}
 use Rattle.wire.specs.declared.cursor.U8.{U8}
-use Rattle.wire.specs.declared.cursor.U8.TheVariants as U8
 use Rattle.wire.proofs.Laws.{false_true}
 use Rattle.image.specs.declared.record.Record.{Record}
 use Rattle.image.specs.declared.reading.Step.{Step}
@@ -22,10 +22,9 @@ use Rattle.amf0.specs.Shape.{Shape}
 use Rattle.amf0.specs.Shape as S
 use Rattle.amf0.specs.declared.write.Begun.TheVariants as Begun
 use Rattle.amf0.specs.declared.write.Before.{Before}
-use Rattle.amf0.specs.declared.write.Before.TheVariants as Before
 use Rattle.amf0.specs.Writing.{shape_of, valued, paired, among, kinds}
 use Rattle.amf0.specs.Code.{longest, then_of, opened, Owned, keyed, Paired}
-use Rattle.amf0.proofs.Putting.{known_bytes, Shaped, shaped as shape-kind, known_shape}
+use Rattle.amf0.proofs.Putting.{known_bytes, Shaped, shaped as shape_kind, known_shape}
 
 -- the record behind a kind
 pub record_body : (image : List ℕ) (at k : ℕ) (d : Cursor) → u8_at image at ≡ U8.Got k d → record_at image at ≡ body_at k image d.at
@@ -118,7 +117,7 @@ module _ (text : List ℕ) (at count : ℕ) (out : List ℕ) where
         go (Found r c) e k =
             let f = found_kind image (known_bytes image h) at r c e mark d byte in
             ap (λ (x : Out). pour x count out)
-            (no_value (layout_of r).kind (shape_of r) (shape-kind r) (ap (among kinds) (sym f) ∙ n) (λ w g. row text w at (k g c.at)))
+            (no_value (layout_of r).kind (shape_of r) (shape_kind r) (ap (among kinds) (sym f) ∙ n) (λ w g. row text w at (k g c.at)))
             ∙ pour_stop count out 6 at
 
     no_pair : (j : ℕ) (x : Shape) → Shaped j x → (j ≡ kind.key → ⊥) → (j ≡ kind.object_end → ⊥) → (k l : Row → Out) → paired at x k l ≡ stop 6 at
@@ -135,5 +134,5 @@ module _ (text : List ℕ) (at count : ℕ) (out : List ℕ) where
         go (Found r c) e k =
             let f = found_kind image (known_bytes image h) at r c e mark d byte in
             ap (λ (x : Out). pour x count out)
-            (no_pair (layout_of r).kind (shape_of r) (shape-kind r) (λ g. m (f ∙ g)) (λ g. n (f ∙ g)) (λ w. row text w at (k c.at)) (λ w. row text w at (end c.at)))
+            (no_pair (layout_of r).kind (shape_of r) (shape_kind r) (λ g. m (f ∙ g)) (λ g. n (f ∙ g)) (λ w. row text w at (k c.at)) (λ w. row text w at (end c.at)))
             ∙ pour_stop count out 6 at

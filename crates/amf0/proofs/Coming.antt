@@ -1,5 +1,6 @@
 -- What is still to come where values follow: the laws of the loop over them.
-use Rattle.wire.proofs.Kit.{ℕ, zero, suc, ◌+◌, ◌-◌, ◌≤◌, ◌<◌, ◌≡◌, refl, List, Bool, true, false, arith, length, lt-leb}
+use Rattle.std.specs.Prelude.{◌+◌, ◌-◌, ◌≤◌, ◌<◌, ◌≡◌}
+use Rattle.wire.proofs.Kit.{ℕ, zero, suc, refl, List, Bool, true, false, arith, length, lt-leb}
 use Rattle.wire.specs.Field.{u8_at}
 use Rattle.image.specs.declared.taking.Taken.TheVariants.{Bad}
 use Rattle.image.specs.Taking.{record_at}

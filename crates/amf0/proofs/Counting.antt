@@ -1,10 +1,10 @@
 -- The laws of a reading carried out with no record laid.
-use Rattle.wire.proofs.Kit.{ℕ, ◌+◌, ◌≤◌, ◌<◌, ◌≡◌, refl, sym, ap, ◌∙◌, true, leb, leb-true, leb-false, arith, List, length, get_or}
+use Rattle.std.specs.Prelude.{◌+◌, ◌≤◌, ◌<◌, ◌≡◌}
+use Rattle.wire.proofs.Kit.{ℕ, refl, sym, ap, ◌∙◌, true, leb, leb-true, leb-false, arith, List, length, get_or}
 use Rattle.wire.specs.Number.{number}
 use Rattle.wire.specs.Field.{to, bytes_at, u8_at, u16_at, u32_at, u64_at, got8, got16, got32, got64, got_text}
 use Rattle.wire.specs.declared.cursor.Cursor.{Cursor}
 use Rattle.wire.specs.declared.cursor.Text.{Text}
-use Rattle.wire.specs.declared.cursor.Text.TheVariants as Text
 use Rattle.wire.proofs.Laws.{pick_yes, pick_no, picked}
 use Rattle.wire.proofs.Stands.{go8, go16, go32, go64}
 use Rattle.image.specs.declared.record.Record.{Record}
@@ -18,9 +18,7 @@ use Rattle.amf0.specs.Marker.{marker_of}
 use Rattle.amf0.specs.declared.read.Follow.{Follow}
 use Rattle.amf0.specs.declared.read.Follow.TheVariants.{Nothing}
 use Rattle.amf0.specs.declared.read.Fields.{Fields}
-use Rattle.amf0.specs.declared.read.Fields.TheVariants as Fields
 use Rattle.amf0.specs.declared.survey.Passed.{Passed}
-use Rattle.amf0.specs.declared.survey.Passed.TheVariants as Passed
 use Rattle.amf0.specs.declared.survey.Ended.{Ended}
 use Rattle.amf0.specs.declared.survey.Ended.TheVariants.{Next, Stop}
 use Rattle.amf0.specs.Fields.{fields_at, based_fields, gives, got_fields}

@@ -1,5 +1,6 @@
 -- The laws of the reading, step by step, that the functions' proofs cite.
-use Rattle.wire.proofs.Kit.{ℕ, zero, suc, ◌+◌, ◌-◌, ◌≤◌, ◌<◌, ◌≡◌, refl, sym, ap, ◌∙◌, List, sub-one, arith, length, leb, eq-eqb, ne_eqb, leb-true, leb-false}
+use Rattle.std.specs.Prelude.{◌+◌, ◌-◌, ◌≤◌, ◌<◌, ◌≡◌}
+use Rattle.wire.proofs.Kit.{ℕ, zero, suc, refl, sym, ap, ◌∙◌, List, sub-one, arith, length, leb, eq-eqb, ne_eqb, leb-true, leb-false}
 use Rattle.wire.specs.declared.cursor.Cursor.{Cursor}
 use Rattle.wire.specs.declared.cursor.U8.TheVariants as U8
 use Rattle.wire.specs.declared.cursor.Text.TheVariants as Text
@@ -77,10 +78,10 @@ module _ (s : List ℕ) (at : ℕ) where
       unfolding value
       value_deep z e = rw (z, e, h)
 
-      pub value-fields : (left ≡ 0 → ⊥) → u8_at s at ≡ U8.Got m c
+      pub value_fields : (left ≡ 0 → ⊥) → u8_at s at ≡ U8.Got m c
           → value left s at ≡ got_fields stop (fields_at s c.at k) (λ r f q. seen (own_at (left - 1) s at q) (due r at (follow (value (left - 1) s) s f q)))
       unfolding value
-      value-fields z e = go left z
+      value_fields z e = go left z
         where
           go : (l : ℕ) → (l ≡ 0 → ⊥)
               → value l s at ≡ got_fields stop (fields_at s c.at k) (λ r f q. seen (own_at (l - 1) s at q) (due r at (follow (value (l - 1) s) s f q)))

@@ -1,5 +1,6 @@
 -- The laws of the writing, step by step, that the functions' proofs cite.
-use Rattle.wire.proofs.Kit.{ℕ, zero, suc, ◌+◌, ◌-◌, ◌*◌, ◌≤◌, ◌<◌, ◌≡◌, refl, sym, ap, ◌∙◌, List, [], ◌∷◌, Bool, true, false, sub-one, arith, length, get_or, leb, eqb}
+use Rattle.std.specs.Prelude.{◌+◌, ◌-◌, ◌*◌, ◌≤◌, ◌<◌, ◌≡◌, ◌∷◌}
+use Rattle.wire.proofs.Kit.{ℕ, zero, suc, refl, sym, ap, ◌∙◌, List, [], Bool, true, false, sub-one, arith, length, get_or, leb, eqb}
 use Rattle.wire.proofs.Kit.{leb-true, leb-false, eq-eqb, ne_eqb}
 use Rattle.wire.specs.Choice.{pick}
 use Rattle.wire.specs.Number.{digits, Bytes}
@@ -102,8 +103,8 @@ module _ (image : List ℕ) (due at : ℕ) where
           record { from = p.from; fits = p.fits; same = λ n. f ∙ rw (eq-eqb l.kind due n); other = λ n. f ∙ rw (ne_eqb l.kind due n) }
 
       -- another kind's byte stands there
-      pub asked-none : (kind : ℕ) (d : Cursor) → u8_at image at ≡ U8.Got kind d → (kind ≡ due → ⊥) → asked image due at k ≡ stop 6 at
-      asked-none kind d byte other = go (record_at image at) refl
+      pub asked_none : (kind : ℕ) (d : Cursor) → u8_at image at ≡ U8.Got kind d → (kind ≡ due → ⊥) → asked image due at k ≡ stop 6 at
+      asked_none kind d byte other = go (record_at image at) refl
         where
           go : (t : Taken) → record_at image at ≡ t → asked image due at k ≡ stop 6 at
           go Bad e = asked_bad e
@@ -260,9 +261,9 @@ module _ (image text : List ℕ) (count at : ℕ) where
             pick_yes (length text) limit.bytes _ _ t ∙ pick_yes (length image) limit.image _ _ i ∙ pick_yes at (length image) _ _ p
             ∙ pick_no count before _ _ h
 
-        pub in-value : count ≤ before → value_in image text count at ≡ top_value image text at
+        pub in_value : count ≤ before → value_in image text count at ≡ top_value image text at
         unfolding value_in
-        in-value h =
+        in_value h =
             pick_yes (length text) limit.bytes _ _ t ∙ pick_yes (length image) limit.image _ _ i ∙ pick_yes at (length image) _ _ p
             ∙ pick_yes count before _ _ h
 
@@ -289,11 +290,11 @@ module _ (image : List ℕ) (d : Out) (room : ℕ) (z : List ℕ) where
       through : poured (Next c n) o ≡ pour (whole image d) 0 z
       through = sym (checked ∙ ap (λ (x : Out). pour x n o) (pick_yes (length image) c.at _ _ h) ∙ pour_end n o c.at)
 
-      pub whole-over : limit.bytes < n → settled (whole image d) room ≡ unwritten 1
-      whole-over g = settled_over (whole image d) z through room g
+      pub whole_over : limit.bytes < n → settled (whole image d) room ≡ unwritten 1
+      whole_over g = settled_over (whole image d) z through room g
 
-      pub whole-full : n ≤ limit.bytes → room < n → settled (whole image d) room ≡ unwritten 4
-      whole-full g f = settled_full (whole image d) z through room g f
+      pub whole_full : n ≤ limit.bytes → room < n → settled (whole image d) room ≡ unwritten 4
+      whole_full g f = settled_full (whole image d) z through room g f
 
       pub whole_fits : n ≤ limit.bytes → n ≤ room → settled (whole image d) room ≡ written (bytes d)
       whole_fits g f = settled_fits (whole image d) z through room g f ∙ ap written (bytes_bind d _ (check_bytes image))
@@ -310,7 +311,7 @@ module _ (image text : List ℕ) (room : ℕ) where
       (λ t.
       let h = leb-true (length text) limit.bytes t in
       picked P (leb (length image) limit.image) _ _
-      (λ i. rw (in-value image text 0 0 h (leb-true (length image) limit.image i) (omega arith) (omega arith)))
+      (λ i. rw (in_value image text 0 0 h (leb-true (length image) limit.image i) (omega arith) (omega arith)))
       (λ i. none (in_image image text 0 0 h (leb-false (length image) limit.image i))))
       (λ t. none (in_text image text 0 0 (leb-false (length text) limit.bytes t)))
 
@@ -320,18 +321,18 @@ module _ (image text : List ℕ) (room : ℕ) where
     write_halt e = sym whole_write ∙ whole_halt image (value_in image text 0 0) room z e
 
     module _ {c : Cursor} {n : ℕ} {o : List ℕ} (e : poured (Next c n) o ≡ pour (value_in image text 0 0) 0 z) where
-      pub write-past : c.at < length image → write_of image text room ≡ unwritten 6
-      write-past h = sym whole_write ∙ whole_past image (value_in image text 0 0) room z e h
+      pub write_past : c.at < length image → write_of image text room ≡ unwritten 6
+      write_past h = sym whole_write ∙ whole_past image (value_in image text 0 0) room z e h
 
       module _ (h : length image ≤ c.at) where
         pub write_over : limit.bytes < n → write_of image text room ≡ unwritten 1
-        write_over g = sym whole_write ∙ whole-over image (value_in image text 0 0) room z e h g
+        write_over g = sym whole_write ∙ whole_over image (value_in image text 0 0) room z e h g
 
-        pub write-full : n ≤ limit.bytes → room < n → write_of image text room ≡ unwritten 4
-        write-full g f = sym whole_write ∙ whole-full image (value_in image text 0 0) room z e h g f
+        pub write_full : n ≤ limit.bytes → room < n → write_of image text room ≡ unwritten 4
+        write_full g f = sym whole_write ∙ whole_full image (value_in image text 0 0) room z e h g f
 
-        pub write-fits : n ≤ limit.bytes → n ≤ room → write_of image text room ≡ written (bytes (value_in image text 0 0))
-        write-fits g f = sym whole_write ∙ whole_fits image (value_in image text 0 0) room z e h g f
+        pub write_fits : n ≤ limit.bytes → n ≤ room → write_of image text room ≡ written (bytes (value_in image text 0 0))
+        write_fits g f = sym whole_write ∙ whole_fits image (value_in image text 0 0) room z e h g f
 
-        pub write-size : n ≡ length (bytes (value_in image text 0 0))
-        write-size = whole_size image (value_in image text 0 0) room z e h
+        pub write_size : n ≡ length (bytes (value_in image text 0 0))
+        write_size = whole_size image (value_in image text 0 0) room z e h

@@ -1,6 +1,7 @@
 -- A reading goes forward and ends inside the input, lays at most three bytes for each byte that it reads, and is refused with 2, 3 or 5, at a
 -- place inside the input.
-use Rattle.wire.proofs.Kit.{ℕ, zero, suc, ◌+◌, ◌*◌, ◌≤◌, ◌<◌, ◌≢◌, List, le_refl, arith, length, get_or, leb, eqb}
+use Rattle.std.specs.Prelude.{◌+◌, ◌*◌, ◌≤◌, ◌<◌, ◌≢◌}
+use Rattle.wire.proofs.Kit.{ℕ, zero, suc, List, le_refl, arith, length, get_or, leb, eqb}
 use Rattle.wire.specs.Number.{number}
 use Rattle.wire.specs.Field.{bytes_at, text_at, got_text}
 use Rattle.wire.proofs.Laws.{picked}

@@ -1,8 +1,9 @@
 -- A marker and its fields are read as the standard's row, and what was read of them is a row.
-use Rattle.wire.proofs.Kit.{ℕ, zero, suc, ◌+◌, ◌^◌, ◌≤◌, ◌<◌, ◌≡◌, refl, sym, ap, ◌∙◌, List, [], ◌∷◌, ◌++◌, Bool, true, false, arith, length, get_or}
+use Rattle.std.specs.Prelude.{◌+◌, ◌^◌, ◌≤◌, ◌<◌, ◌≡◌, ◌∷◌, ◌++◌}
+use Rattle.wire.proofs.Kit.{ℕ, zero, suc, refl, sym, ap, ◌∙◌, List, [], Bool, true, false, arith, length, get_or}
 use Rattle.wire.proofs.Kit.{List·getD-eq-default, leb, ltb, eqb, le-leb, lt-ltb, ne_eqb, leb-true, leb-false}
 use Rattle.std.proofs.Common.{suc-le-suc, zero-le}
-use Rattle.wire.specs.Number.{digits, number, Bytes}
+use Rattle.wire.specs.Number.{digits, Bytes}
 use Rattle.wire.specs.Utf8.{utf8}
 use Rattle.wire.specs.Field.{u8_at, text_at, got8, got_text}
 use Rattle.wire.proofs.Laws.{picked}

@@ -1,11 +1,10 @@
 -- What the reader's steps tell each other besides what they read.
-use Rattle.wire.specs.Kit.{ℕ, ◌+◌, ◌*◌, ◌≤◌, ◌≡◌, List, Bool}
+use Rattle.std.specs.Prelude.{ℕ, ◌+◌, ◌*◌, ◌≤◌, ◌≡◌, List, Bool}
 use Rattle.wire.specs.Choice.{pick}
 use Rattle.wire.specs.Limit as limit
 use Rattle.wire.specs.declared.cursor.Cursor.{Cursor}
 use Rattle.image.specs.declared.record.Record.{Record}
 use Rattle.image.specs.declared.reading.Step.{Step}
-use Rattle.image.specs.declared.reading.Step.TheVariants as Step
 use Rattle.image.specs.declared.reading.Step.TheVariants.{Next}
 use Rattle.image.specs.declared.taking.Taken.{Taken}
 use Rattle.image.specs.declared.taking.Taken.TheVariants.{Found}
@@ -13,9 +12,7 @@ use Rattle.image.specs.Out.{Out, end, row, pour, poured}
 use Rattle.amf0.specs.declared.write.Rest.{Rest}
 use Rattle.amf0.specs.declared.write.Rest.TheVariants.{Nothing, Pairs, Dense, Values}
 use Rattle.amf0.specs.declared.write.Begun.{Begun}
-use Rattle.amf0.specs.declared.write.Begun.TheVariants as Begun
 use Rattle.amf0.specs.declared.write.Before.{Before}
-use Rattle.amf0.specs.declared.write.Before.TheVariants as Before
 use Rattle.amf0.specs.Writing.{before, taken, valued, paired, shape_of}
 use Rattle.amf0.specs.declared.read.Follow.{Follow}
 use Rattle.amf0.specs.declared.read.Fields.{Fields}

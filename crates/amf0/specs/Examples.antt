@@ -1,6 +1,6 @@
 -- The rule "Examples" (docs/DEMANDS.md): those on values without a star, one table that the checker computes. The starred ones are the table of the crate
 -- `demands`.
-use Rattle.wire.specs.Kit.{ℕ, zero, suc, ◌≡◌, refl, List, [], ◌∷◌, map}
+use Rattle.std.specs.Prelude.{ℕ, zero, suc, ◌≡◌, refl, List, [], ◌∷◌, map}
 use Rattle.wire.specs.Utf8.{ends}
 use Rattle.wire.specs.Field.{u8_at, u16_at, u32_at, u64_at, str_at, text_at}
 use Rattle.image.specs.Record.{bytes_of, size}

@@ -1,5 +1,5 @@
 -- What stands behind each marker: a value's own fields, the record that they make, and what follows them.
-use Rattle.wire.specs.Kit.{ℕ, ◌+◌, List, true, length, leb, ltb}
+use Rattle.std.specs.Prelude.{ℕ, ◌+◌, List, true, length, leb, ltb}
 use Rattle.wire.specs.Choice.{pick}
 use Rattle.wire.specs.Field.{to, u8_at, u16_at, u32_at, u64_at, text_at, got8, got16, got32, got64, got_text}
 use Rattle.image.specs.declared.record.Record.{Record}

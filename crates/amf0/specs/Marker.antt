@@ -1,5 +1,5 @@
 -- What each marker marks.
-use Rattle.wire.specs.Kit.{ℕ, List, [], ◌∷◌, get_or}
+use Rattle.std.specs.Prelude.{ℕ, List, [], ◌∷◌, get_or}
 use Rattle.amf0.specs.declared.type_marker.Marked.{Marked}
 use Rattle.amf0.specs.declared.type_marker.Marked.TheVariants.{Value, Refused}
 use Rattle.amf0.specs.declared.type_marker.TypeMarker.TheVariants.{Number, Boolean, String, Object, Null, Undefined, Reference, EcmaArray, StrictArray, Date, LongString, Unsupported, Xml, TypedObject, Amf3}

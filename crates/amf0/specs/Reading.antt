@@ -1,5 +1,5 @@
 -- What reading a value finds, from a place of an input on: the rule "Reading one value" (docs/DEMANDS.md). `left` is how many levels are left.
-use Rattle.wire.specs.Kit.{ℕ, zero, suc, ◌+◌, ◌-◌, List, length, leb, eqb}
+use Rattle.std.specs.Prelude.{ℕ, zero, suc, ◌+◌, ◌-◌, List, length, leb, eqb}
 use Rattle.wire.specs.Choice.{pick}
 use Rattle.wire.specs.Field.{bytes_at, u8_at, text_at, got8, got_text}
 use Rattle.wire.specs.Limit as limit
@@ -36,8 +36,8 @@ follow value s Pairs at = pairs value s (length s) at
 follow value s (Values n) at = items value n at
 
 -- what is seen of a value whose marker and own fields stand from `at` to q
-abbrev pub field_own : ℕ → List ℕ → ℕ → ℕ → Fact
-field_own left s at q = own left (bytes_at (q - at) s at)
+abbrev pub own_at : ℕ → List ℕ → ℕ → ℕ → Fact
+own_at left s at q = own left (bytes_at (q - at) s at)
 
 -- a value: its marker, its own fields, its record, and what follows
 unfoldable pub value : ℕ → List ℕ → ℕ → Due
@@ -45,7 +45,7 @@ value zero s at = got8 stop (u8_at s at) λ m p. stop (shut (marker_of m)) at
 value (suc left) s at =
     got8 stop (u8_at s at) λ m p.
     got_fields stop (behind s at p (marker_of m)) λ r f q.
-    seen (field_own left s at q) (due r at (follow (value left s) s f q))
+    seen (own_at left s at q) (due r at (follow (value left s) s f q))
 
 -- the value at a place, with every level left
 abbrev pub top_value : List ℕ → ℕ → Due

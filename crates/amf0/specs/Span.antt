@@ -1,6 +1,6 @@
 -- Values in spans of an input, whatever holds them: what a span answers by a reader of its bytes alone, and an input with other bytes inside its spans. Demand 3
 -- speaks of these.
-use Rattle.wire.specs.Kit.{ℕ, ◌+◌, ◌≤◌, ◌<◌, ◌≡◌, ◌≢◌, ◌⊎◌, List, [], ◌∷◌, map, length, get_or, leb, eqb}
+use Rattle.std.specs.Prelude.{ℕ, ◌+◌, ◌≤◌, ◌<◌, ◌≡◌, ◌≢◌, ◌⊎◌, List, [], ◌∷◌, map, length, get_or, leb, eqb}
 use Rattle.wire.specs.Choice.{pick}
 use Rattle.wire.specs.Field.{bytes_at}
 use Rattle.image.specs.declared.record.Record.{Record}

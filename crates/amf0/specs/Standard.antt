@@ -1,7 +1,6 @@
 -- AMF 0 as Adobe's document has it ("Action Message Format -- AMF 0", 2007): values as trees, and the rows of bytes that encode them. Texts are their
 -- bytes, numbers their bits. Where a form is allowed that the document does not have, or more widely than it has it, its name begins with `departure`.
-use Rattle.wire.specs.Kit.{ℕ, zero, suc, ◌^◌, ◌<◌, ◌≤◌, ◌≡◌, List, [], ◌∷◌, ◌++◌, Bool, true, false, length}
-use Rattle.std.specs.Prelude.{max}
+use Rattle.std.specs.Prelude.{ℕ, zero, suc, ◌^◌, ◌<◌, ◌≤◌, ◌≡◌, List, [], ◌∷◌, ◌++◌, Bool, true, false, length, max}
 use Rattle.wire.specs.Number.{digits}
 use Rattle.wire.specs.Utf8.{utf8}
 
@@ -12,12 +11,12 @@ pub data Item : Type 0 where
   string : (text : List ℕ) → Item
   object null undefined : Item
   reference : (index : ℕ) → Item
-  ecma_array : (associative-count : ℕ) → Item
-  strict_array : (Array-count : ℕ) → Item
+  ecma_array : (associative_count : ℕ) → Item
+  strict_array : (array_count : ℕ) → Item
   date : (bits time_zone : ℕ) → Item
   unsupported : Item
   xml_document : (text : List ℕ) → Item
-  typed_object : (class-name : List ℕ) → Item
+  typed_object : (class_name : List ℕ) → Item
 
 -- what a row of bytes can be: a value, object properties up to the end marker, or so many values
 pub data Sort : Type 0 where

@@ -1,6 +1,5 @@
 -- A reading without records: how it ends, and counts of what no record keeps.
-use Rattle.wire.specs.Kit.{ℕ, ◌+◌, ◌-◌, ◌≤◌, ◌^◌, ◌%◌, ◌≡◌, List, Bool, false, length, get_or, leb, ltb, eqb}
-use Rattle.std.specs.Prelude.{slice_set}
+use Rattle.std.specs.Prelude.{ℕ, ◌+◌, ◌-◌, ◌≤◌, ◌^◌, ◌%◌, ◌≡◌, List, Bool, false, length, get_or, leb, ltb, eqb, slice_set}
 use Rattle.wire.specs.Choice.{pick}
 use Rattle.wire.specs.Field.{to, whole, got_text}
 use Rattle.wire.specs.Limit as limit
@@ -10,9 +9,7 @@ use Rattle.image.specs.Due.{Due, Fact, end, stop, seen, due, on_end}
 use Rattle.image.specs.Due.Fact.{own, dropped}
 use Rattle.amf0.specs.declared.read.Follow.{Follow}
 use Rattle.amf0.specs.declared.read.Fields.{Fields}
-use Rattle.amf0.specs.declared.read.Fields.TheVariants as Fields
 use Rattle.amf0.specs.declared.survey.Passed.{Passed}
-use Rattle.amf0.specs.declared.survey.Passed.TheVariants as Passed
 use Rattle.amf0.specs.declared.survey.Ended.{Ended}
 use Rattle.amf0.specs.declared.survey.Ended.TheVariants.{Next, Stop}
 

@@ -1,6 +1,6 @@
 -- What writing a value puts out, from a place of an image on: the rules "Writing checks first" and "What is written" (docs/DEMANDS.md). `left` is how many
 -- levels are left.
-use Rattle.wire.specs.Kit.{ℕ, zero, suc, ◌+◌, List, [], ◌∷◌, Bool, true, false, length, leb, eqb}
+use Rattle.std.specs.Prelude.{ℕ, zero, suc, ◌+◌, List, [], ◌∷◌, Bool, true, false, length, leb, eqb}
 use Rattle.wire.specs.Choice.{pick}
 use Rattle.wire.specs.Number.{digits}
 use Rattle.wire.specs.Bytes.{decimal}

@@ -1,4 +1,6 @@
 // AMF0 values: read into a tree image, and written from one.
+#![tactic(auto)]
+
 pub mod read;
 pub mod survey;
 pub mod type_marker;

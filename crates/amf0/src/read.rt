@@ -19,7 +19,7 @@ use wire::cursor::{Cursor, Text, U8, U16, U32, U64};
 use wire::limit;
 
 // What follows a value's own fields.
-#[derive(Drop)]
+#[derive(Clone, Copy)]
 pub enum Follow {
     Nothing,
     Pairs,
@@ -27,7 +27,7 @@ pub enum Follow {
 }
 
 // A value's own fields: its record, what follows them, and where.
-#[derive(Drop)]
+#[derive(Clone, Copy)]
 pub enum Fields {
     Got(Record, Follow, Cursor),
     Stop(u8, usize),

@@ -8,7 +8,7 @@ ghost use Rattle.image.specs.Due.Fact.{dropped};
 ghost use Rattle.amf0.specs.declared.read.Follow.TheVariants.{Nothing};
 ghost use Rattle.amf0.specs.Fields.{fields_at, based_fields};
 ghost use Rattle.amf0.specs.Reading.{value, pairs, items, own_at, value_in};
-ghost use Rattle.amf0.specs.Survey.{bytes_passed, text_passed, passed, more, more_if, deepened, counter_of, shortens as shortensOf, uneven as unevenOf, noted, told, count, Onward};
+ghost use Rattle.amf0.specs.Survey.{bytes_passed, text_passed, passed, more, more_if, deepened, counter_of, shortens as shortens_of, uneven as uneven_of, noted, told, count, Onward};
 
 use crate::read::Follow;
 use crate::type_marker::{Marked, TypeMarker, type_marker};
@@ -17,14 +17,14 @@ use wire::cursor::{Cursor, Text, U8, U32};
 use wire::limit;
 
 // How a reading without records ends: behind what it read, or refused.
-#[derive(Drop)]
+#[derive(Clone, Copy)]
 pub enum Ended {
     Next(Cursor),
     Stop(u8, usize),
 }
 
 // A value's own fields, passed over: what follows them, and where.
-#[derive(Drop)]
+#[derive(Clone, Copy)]
 pub enum Passed {
     Got(Follow, Cursor),
     Stop(u8, usize),
@@ -87,7 +87,7 @@ fn counter(m: u8) -> usize
 
 // A marker with its fields, n bytes in all, is a long string that would fit a short one.
 fn shortens(m: u8, n: usize) -> bool
-    ensures { result ≡ shortensOf m n }
+    ensures { result ≡ shortens_of m n }
 {
     if m == 0x0C { n <= FITS_SHORT } else { false }
 }
@@ -95,7 +95,7 @@ fn shortens(m: u8, n: usize) -> bool
 // A marker with its fields, n bytes from p on, is a boolean that is neither 0 nor 1.
 fn uneven(m: u8, s: &[u8], p: usize, n: usize) -> bool
     requires { p + n ≤ length s.now }
-    ensures { result ≡ unevenOf m (slice_index (bytes_at n s.now p) 1) }
+    ensures { result ≡ uneven_of m (slice_index (bytes_at n s.now p) 1) }
 {
     if m == 0x01 {
         if 1 < n { 1 < s[p + 1] } else { false }

@@ -2,7 +2,7 @@
 ghost use Rattle.std.specs.Prelude.{◌≡◌};
 ghost use Rattle.amf0.specs.Marker.{marker_of};
 
-#[derive(Drop)]
+#[derive(Clone, Copy)]
 pub enum TypeMarker {
     Number,
     Boolean,
@@ -22,7 +22,7 @@ pub enum TypeMarker {
 }
 
 // What a marker marks: a value, or none, and then it is refused.
-#[derive(Drop)]
+#[derive(Clone, Copy)]
 pub enum Marked {
     Value(TypeMarker),
     Refused,

@@ -2,7 +2,7 @@
 ghost use Rattle.std.specs.Prelude.{◌≡◌, ℕ, ◌+◌, ◌*◌, ◌≤◌, List, length};
 ghost use Rattle.wire.specs.Number.{digits};
 ghost use Rattle.wire.specs.Bytes.{laid, decimal};
-ghost use Rattle.wire.specs.Limit.{bytes as most_bytes, «image» as most-image};
+ghost use Rattle.wire.specs.Limit.{bytes as most_bytes, «image» as most_image};
 ghost use Rattle.image.specs.declared.record.Record.{Record};
 ghost use Rattle.image.specs.declared.record.Record.TheVariants.{ObjectEnd};
 ghost use Rattle.image.specs.declared.taking.Taken.TheVariants.{Found};
@@ -30,7 +30,7 @@ const SHORT: usize = 0xFFFF;
 const BEFORE: usize = 0x1000_0000_0000_0000;
 
 // What follows a value's own bytes: nothing, pairs up to the end, values without a key before such pairs, or so many values.
-#[derive(Drop)]
+#[derive(Clone, Copy)]
 pub enum Rest {
     Nothing,
     Pairs,
@@ -72,7 +72,7 @@ pub fn value_at(image: &[u8], c: Cursor) -> bool
 
 // Puts out the key of a value without one: its number, in decimal, as a short text.
 fn index(out: &mut [u8], count: usize, k: u32) -> usize
-    requires { count ≤ room most-image }
+    requires { count ≤ room most_image }
     ensures value { (result ≡ count + 2 + length (decimal k)) × (result ≤ count + 12) }
     ensures out_after { out.new ≡ laid (decimal k) (count + 2) (laid (digits 2 (length (decimal k))) count out.old) }
 {
@@ -82,7 +82,7 @@ fn index(out: &mut [u8], count: usize, k: u32) -> usize
 }
 
 // How far a value's own bytes were put out: up to a cursor, with so many bytes put out, and then this follows; or refused by an answer at a place.
-#[derive(Drop)]
+#[derive(Clone, Copy)]
 pub enum Begun {
     Next(Cursor, usize, Rest),
     Stop(u8, usize),
@@ -278,7 +278,7 @@ fn own(out: &mut [u8], image: &[u8], text: &[u8], c: Cursor, count: usize) -> Be
 }
 
 // What stands before a value of a pair: its key, or the end of the pairs.
-#[derive(Drop)]
+#[derive(Clone, Copy)]
 pub enum Before {
     Key(Cursor, usize),
     End(Cursor, usize),
@@ -348,7 +348,7 @@ fn due_at(image: &[u8], c: Cursor, due: Rest) -> Rest
 // The value whose record stands at a cursor.
 #[cycle(value_values)]
 fn value(out: &mut [u8], image: &[u8], text: &[u8], c: Cursor, count: usize, left: usize) -> Step
-    requires { (length text.now ≤ most_bytes) × (length image.now ≤ most-image) × (c.at ≤ length image.now) × (count ≤ room c.at + 16) }
+    requires { (length text.now ≤ most_bytes) × (length image.now ≤ most_image) × (c.at ≤ length image.now) × (count ≤ room c.at + 16) }
     ensures out_after { poured result out.new ≡ pour (value left image.now text.now c.at) count out.old }
     ensures ahead { Ahead result (c.at + 1) (length image.now) (count + longest) }
 {
@@ -382,7 +382,7 @@ fn values(
     left: usize,
     rest: Rest,
 ) -> Step
-    requires { (length text.now ≤ most_bytes) × (length image.now ≤ most-image) × (start.at ≤ length image.now) × (done ≤ room start.at) }
+    requires { (length text.now ≤ most_bytes) × (length image.now ≤ most_image) × (start.at ≤ length image.now) × (done ≤ room start.at) }
     ensures out_after { poured result out.new ≡ pour (rest_of (value left image.now text.now) image.now text.now rest start.at) done out.old }
     ensures ahead { Ahead result (start.at + owed rest) (length image.now) (done + longest * owed rest) }
 {
