@@ -1,11 +1,10 @@
 -- The laws of a header, of an element and of a body: how far each reads, how each stops, and that a body's elements stand in a row.
-use Rattle.wire.proofs.Kit.{ℕ, zero, suc, ◌+◌, ◌-◌, ◌*◌, ◌≤◌, ◌≡◌, refl, sym, ap, inl, inr, ⊎_elim, ◌≢◌, List, [], ◌∷◌, ◌++◌, sub-one, arith, length}
+use Rattle.std.specs.Prelude.{◌+◌, ◌-◌, ◌*◌, ◌≤◌, ◌≡◌, ◌≢◌, ◌∷◌, ◌++◌}
+use Rattle.wire.proofs.Kit.{ℕ, zero, suc, refl, sym, ap, inl, inr, ⊎_elim, List, [], sub-one, arith, length}
 use Rattle.wire.proofs.Kit.{length-append, lt-leb, eq-eqb, ne_eqb}
 use Rattle.wire.specs.declared.cursor.Cursor.{Cursor}
 use Rattle.wire.specs.declared.cursor.Tag.{Tag}
-use Rattle.wire.specs.declared.cursor.Tag.TheVariants as Tag
 use Rattle.wire.specs.declared.cursor.Text.{Text}
-use Rattle.wire.specs.declared.cursor.Text.TheVariants as Text
 use Rattle.wire.specs.Field.{to, tag_at, past_tag, text_at, got_text}
 use Rattle.wire.specs.Limit as limit
 use Rattle.wire.proofs.Laws.{tag_next, tag_stop}
@@ -232,9 +231,9 @@ module _ (s : List ℕ) (at : ℕ) (fuel : ℕ) (h : length s ≤ fuel + at) whe
 
     module _ {a p : ℕ} {i : List ℕ} (r : ran (Stop a p) i ≡ run (element_at s at) made image) where
       -- an element that gave 2 or 3 ends the body before it
-      pub body-ends : Either a → run_body (body_at s fuel at) made image ≡ ran (Next (to at) made) i
+      pub body_ends : Either a → run_body (body_at s fuel at) made image ≡ ran (Next (to at) made) i
       unfolding run_body
-      body-ends w =
+      body_ends w =
           let not : a ≢ 4 = λ z. ⊎_elim (λ y. omega arith) (λ y. omega arith) w in
           body_either (λ b. run_body b made image ≡ ran (Next (to at) made) i)
           (λ e t. absurd (ends_not (element_at s at) e.next a p t.ends (run_stopped (element_at s at) made image r not)))

@@ -1,5 +1,6 @@
 -- What the public calls come to, from how their readings end.
-use Rattle.wire.proofs.Kit.{ℕ, ◌*◌, ◌≤◌, ◌<◌, ◌≡◌, sym, ap, ◌∙◌, inl, inr, ◌≢◌, List, [], ◌++◌, arith, length, length-append, leb, eqb, leb-true}
+use Rattle.std.specs.Prelude.{◌*◌, ◌≤◌, ◌<◌, ◌≡◌, ◌≢◌, ◌++◌}
+use Rattle.wire.proofs.Kit.{ℕ, sym, ap, ◌∙◌, inl, inr, List, [], arith, length, length-append, leb, eqb, leb-true}
 use Rattle.wire.proofs.Kit.{leb-false, eqb-true, eqb-false, eq-eqb, ne_eqb}
 use Rattle.wire.specs.Limit as limit
 use Rattle.wire.proofs.Laws.{picked, pick_yes}
@@ -26,7 +27,7 @@ pub incomplete_cases : (s : List ℕ) (room : ℕ) (P : Whole → Type 0) → (l
     → P (accepted (body_at s (length s) p).at (bytes (header_at s) ++ kept (body_at s (length s) p).elements)))
     → P (incomplete_of s room)
 unfolding incomplete_of
-incomplete_cases s room P over no_Header no_room deep read =
+incomplete_cases s room P over no_header no_room deep read =
     picked P (leb (length s) limit.bytes) _ _
     (λ h.
     let l : length s ≤ limit.bytes = leb-true _ _ h in
@@ -47,7 +48,7 @@ incomplete_cases s room P over no_Header no_room deep read =
     (λ f.
     let x = over_lacks (ever_due s p) 0 room (omega arith) (omega arith) in
     rw (in_room_lacks accepted (λ c w. halted c w (accepted b.at (bytes (header_at s) ++ kept b.elements))) room [] (ever_due s p) x.1) (no_room l p e x.0 x.1)))
-    (λ a q e. no_Header l a q e (header_stops s a q e).0))
+    (λ a q e. no_header l a q e (header_stops s a q e).0))
     (λ h. over (leb-false _ _ h))
 
 module _ (s : List ℕ) (p : ℕ) (e : Ends (header_at s) p) where

@@ -1,5 +1,6 @@
 -- The laws of writing a file, step by step, and of its length, which its first pass tells: that the functions' proofs cite.
-use Rattle.wire.proofs.Kit.{ℕ, zero, suc, ◌+◌, ◌-◌, ◌≤◌, ◌<◌, ◌≡◌, refl, sym, ap, ◌∙◌, List, Bool, true, false, sub-one, arith, length, get_or}
+use Rattle.std.specs.Prelude.{◌+◌, ◌-◌, ◌≤◌, ◌<◌, ◌≡◌}
+use Rattle.wire.proofs.Kit.{ℕ, zero, suc, refl, sym, ap, ◌∙◌, List, Bool, true, false, sub-one, arith, length, get_or}
 use Rattle.wire.specs.Choice.{pick}
 use Rattle.wire.specs.Bytes.{laid}
 use Rattle.wire.specs.Limit as limit
@@ -11,10 +12,10 @@ use Rattle.image.specs.declared.record.Layout.{Layout}
 use Rattle.image.specs.declared.reading.Step.TheVariants.{Next, Stop}
 use Rattle.image.specs.declared.writing.Row.{Row}
 use Rattle.image.specs.Kind as kind
-use Rattle.image.specs.Out.{Out, end, stop, put, ◌>>=◌, row_bytes, named_of, row, Poured, poured, pour, bytes as bytesOut, settled, written, unwritten}
+use Rattle.image.specs.Out.{Out, end, stop, put, ◌>>=◌, row_bytes, named_of, row, Poured, poured, pour, bytes as bytes_out, settled, written, unwritten}
 use Rattle.image.proofs.Pouring.{Inside, inside, length_row, row_bind, went, settled_halt, settled_over, settled_full, settled_fits}
 use Rattle.amf0.specs.Writing.{top_value, asked}
-use Rattle.amf0.proofs.Putting.{asked_both, asked-none}
+use Rattle.amf0.proofs.Putting.{asked_both, asked_none}
 use Rattle.lso.specs.Code.{key_of}
 use Rattle.lso.specs.Writing.{opening, naming, closing, keying, zero_byte, header, element, body, file, length_of, write_of}
 
@@ -38,7 +39,7 @@ module _ (image text : List ℕ) (at : ℕ) where
 
   -- a record of another kind is no key
   pub key_other : ((i : ℕ) → get_or image i 0 < 256) → (k : ℕ) (d : Cursor) → u8_at image at ≡ U8.Got k d → (k ≡ kind.key → ⊥) → key_of image text at ≡ stop 6 at
-  key_other h = asked-none image kind.key at (keyed end) h
+  key_other h = asked_none image kind.key at (keyed end) h
 
   -- ---- elements
 
@@ -71,7 +72,7 @@ module _ (says : ℕ → ℕ → ℕ) (image text : List ℕ) where
   -- a file from its record on, and the place behind it
   abbrev pub filing : Layout → ℕ → Out
   filing l q =
-      header (says l.c.number (length (bytesOut (body image text (length image) q)))) text l.b.number l.c.number (body image text (length image) q)
+      header (says l.c.number (length (bytes_out (body image text (length image) q)))) text l.b.number l.c.number (body image text (length image) q)
 
   pub file_asked : file says image text ≡ asked image kind.lso 0 filing
   unfolding file
@@ -93,8 +94,8 @@ module _ (says says' : ℕ → ℕ → ℕ) (image text z : List ℕ) (h : lengt
   unfolding row
   measured_part l q =
       let n = l.c.number in
-      let s = says n (length (bytesOut (body image text (length image) q))) in
-      let t = says' n (length (bytesOut (body image text (length image) q))) in
+      let s = says n (length (bytes_out (body image text (length image) q))) in
+      let t = says' n (length (bytes_out (body image text (length image) q))) in
       let k = length_row text (opening s) in
       let o = length_row text (opening t) in
       blank (named_of text (opening s)) (row_bytes text (opening s)) (row_bytes text (opening t)) _ z (k ∙ sym o) (omega arith)
@@ -133,7 +134,7 @@ module _ (image text z : List ℕ) {c : Cursor} {n : ℕ} {o : List ℕ} where
       let v = row_went text _ 0 _ _ _ u.1 in
       let w = row_went text _ 0 d _ _ v.1 in
       let g = went d _ _ w.1 in
-      let k : n ≡ 22 + m + length (bytesOut d) = omega (arith, u.0.size, v.0.size, w.0.size, g.size) in
+      let k : n ≡ 22 + m + length (bytes_out d) = omega (arith, u.0.size, v.0.size, w.0.size, g.size) in
       record { enough = omega arith; same = ap (λ (s : ℕ). header s text l.b.number m d) (omega arith) }
 
   fixed : poured (Next c n) o ≡ pour (file length_of image text) 0 z → Fixed n (file (λ name body. n - 6) image text) (file length_of image text)
@@ -167,14 +168,14 @@ module _ (image text : List ℕ) (room : ℕ) where
         pub write_over : limit.bytes < n → write_of image text room ≡ unwritten 1
         write_over g = within ∙ settled_over (file length_of image text) z through room g
 
-        pub write-full : n ≤ limit.bytes → room < n → write_of image text room ≡ unwritten 4
-        write-full g f = within ∙ settled_full (file length_of image text) z through room g f
+        pub write_full : n ≤ limit.bytes → room < n → write_of image text room ≡ unwritten 4
+        write_full g f = within ∙ settled_full (file length_of image text) z through room g f
 
-        pub write-fits : n ≤ limit.bytes → n ≤ room → write_of image text room ≡ written (bytesOut (file length_of image text))
-        write-fits g f = within ∙ settled_fits (file length_of image text) z through room g f
+        pub write_fits : n ≤ limit.bytes → n ≤ room → write_of image text room ≡ written (bytes_out (file length_of image text))
+        write_fits g f = within ∙ settled_fits (file length_of image text) z through room g f
 
-        pub write-size : n ≡ length (bytesOut (file length_of image text))
-        write-size = let w = went (file length_of image text) 0 z through in omega (arith, w.size)
+        pub write_size : n ≡ length (bytes_out (file length_of image text))
+        write_size = let w = went (file length_of image text) 0 z through in omega (arith, w.size)
 
-        pub write-fixed : Fixed n (file (λ name body. n - 6) image text) (file length_of image text)
-        write-fixed = fixed image text z through
+        pub write_fixed : Fixed n (file (λ name body. n - 6) image text) (file length_of image text)
+        write_fixed = fixed image text z through

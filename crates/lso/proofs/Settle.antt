@@ -1,5 +1,6 @@
 -- What the file's reading comes to, as `Reading` has it: the bytes of the records that it keeps, with room also for those of the element that it drops.
-use Rattle.wire.proofs.Kit.{ℕ, ◌+◌, ◌≤◌, ◌≡◌, refl, sym, ap, ◌∙◌, ⊎_elim, List, [], ◌++◌, append_assoc, append-nil, Bool, true, false, arith, length}
+use Rattle.std.specs.Prelude.{◌+◌, ◌≤◌, ◌≡◌, ◌++◌}
+use Rattle.wire.proofs.Kit.{ℕ, refl, sym, ap, ◌∙◌, ⊎_elim, List, [], append_assoc, append-nil, Bool, true, false, arith, length}
 use Rattle.wire.proofs.Kit.{take, length-append, sets, length-sets, leb, eqb}
 use Rattle.wire.specs.Choice.{pick}
 use Rattle.wire.specs.Field.{to}

@@ -1,7 +1,7 @@
 -- Fixed bytes and rows of zeros against the bytes that stand in the input: a field of them has two ends.
-use Rattle.wire.proofs.Kit.{ℕ, zero, suc, ◌+◌, ◌≤◌, ◌≡◌, refl, ◌⊎◌, List, [], ◌∷◌, arith, length, drop, replicate}
+use Rattle.std.specs.Prelude.{◌+◌, ◌≤◌, ◌≡◌, ◌⊎◌, ◌∷◌}
+use Rattle.wire.proofs.Kit.{ℕ, zero, suc, refl, List, [], arith, length, drop, replicate}
 use Rattle.wire.specs.declared.cursor.Tag.{Tag}
-use Rattle.wire.specs.declared.cursor.Tag.TheVariants as Tag
 use Rattle.wire.specs.Field.{tag_at, past_tag}
 use Rattle.wire.proofs.Laws.{tag_next, tag_stop}
 use Rattle.wire.proofs.Stands.{Here, join, tag_ends}

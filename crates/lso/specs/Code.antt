@@ -1,6 +1,6 @@
 -- What the reader's steps come to on an image: all that falls due in a body is carried out, and the last is dropped where it gives 2 or 3. What the writer's
 -- steps put out.
-use Rattle.wire.specs.Kit.{ℕ, List, length, leb, eqb, ◌+◌}
+use Rattle.std.specs.Prelude.{ℕ, List, length, leb, eqb, ◌+◌}
 use Rattle.wire.specs.Choice.{pick}
 use Rattle.wire.specs.Limit as limit
 use Rattle.wire.specs.Field.{to}

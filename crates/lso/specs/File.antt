@@ -1,6 +1,5 @@
 -- The file, as the Rust has it: there is no document of it. Which rows of bytes are a file, with its values as AMF 0 has them.
-use Rattle.wire.specs.Kit.{ℕ, ◌^◌, ◌<◌, List, [], ◌∷◌, ◌++◌}
-use Rattle.std.specs.Prelude.{max}
+use Rattle.std.specs.Prelude.{ℕ, ◌^◌, ◌<◌, List, [], ◌∷◌, ◌++◌, max}
 use Rattle.wire.specs.Number.{digits}
 use Rattle.amf0.specs.Standard.{Sort, Tree, UTF-8, Encodes, depth}
 

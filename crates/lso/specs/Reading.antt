@@ -1,10 +1,9 @@
 -- What reading a file finds, and what it comes to in a room: the rule "LSO file" (docs/DEMANDS.md).
-use Rattle.wire.specs.Kit.{ℕ, zero, suc, List, [], ◌∷◌, ◌++◌, length, leb, eqb}
+use Rattle.std.specs.Prelude.{ℕ, zero, suc, List, [], ◌∷◌, ◌++◌, length, leb, eqb}
 use Rattle.wire.specs.Choice.{pick}
 use Rattle.wire.specs.Limit as limit
 use Rattle.wire.specs.Field.{to, u32_at, text_at, tag_at, got32, got_text, past_tag}
 use Rattle.wire.specs.declared.cursor.Tag.{Tag}
-use Rattle.wire.specs.declared.cursor.Tag.TheVariants as Tag
 use Rattle.image.specs.declared.record.Record.TheVariants.{Key, Lso}
 use Rattle.image.specs.Due.{Due, end, stop, due, ◌>>=◌, on_end}
 use Rattle.image.specs.Whole.{Whole, bytes, accepted, refused, in_room, all}

@@ -1,8 +1,7 @@
 -- What the records of a file show: its length and its name, and then its elements told from left to right, its texts taken out of the input.
-use Rattle.wire.specs.Kit.{ℕ, ◌≡◌, List, [], ◌∷◌, length}
+use Rattle.std.specs.Prelude.{ℕ, ◌≡◌, List, [], ◌∷◌, length}
 use Rattle.wire.specs.Field.{bytes_at}
 use Rattle.image.specs.declared.record.Record.{Record}
-use Rattle.image.specs.declared.record.Record.TheVariants as Record
 use Rattle.image.specs.Taking.{Fits}
 use Rattle.amf0.specs.Shown.{Word, told, words, laid, Stands, Right}
 use Rattle.amf0.specs.Shown.Word.{name}

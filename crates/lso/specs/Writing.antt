@@ -1,12 +1,12 @@
 -- What writing a file puts out: the rules "LSO file", "Writing checks first" and "What is written" (docs/DEMANDS.md).
-use Rattle.wire.specs.Kit.{ℕ, zero, suc, ◌+◌, List, length, take, drop, leb}
+use Rattle.std.specs.Prelude.{ℕ, zero, suc, ◌+◌, List, length, take, drop, leb}
 use Rattle.wire.specs.Choice.{pick}
 use Rattle.wire.specs.Number.{number}
 use Rattle.wire.specs.Limit as limit
 use Rattle.image.specs.declared.writing.Row.{Row}
 use Rattle.image.specs.Kind as kind
 use Rattle.image.specs.Record.{◌bytes◌, none}
-use Rattle.image.specs.Out.{Out, end, ◌>>=◌, row_of, row, bytes as bytesOut, Written, unwritten, settled}
+use Rattle.image.specs.Out.{Out, end, ◌>>=◌, row_of, row, bytes as bytes_out, Written, unwritten, settled}
 use Rattle.amf0.specs.Writing.{texted, top_value, asked}
 use Rattle.lso.specs.File.{version, signature, padding}
 
@@ -47,7 +47,7 @@ body image text (suc fuel) at = pick (leb (length image) at) (end at) (element i
 unfoldable pub file : (ℕ → ℕ → ℕ) → List ℕ → List ℕ → Out
 file says image text =
     asked image kind.lso 0 λ own q.
-    header (says own.c.number (length (bytesOut (body image text (length image) q)))) text own.b.number own.c.number (body image text (length image) q)
+    header (says own.c.number (length (bytes_out (body image text (length image) q)))) text own.b.number own.c.number (body image text (length image) q)
 
 -- a written length is 16 plus the name's length plus the body's
 abbrev pub length_of : ℕ → ℕ → ℕ

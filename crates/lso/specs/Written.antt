@@ -1,5 +1,5 @@
 -- What the records of a file's image mean, and the bytes that a file is written as.
-use Rattle.wire.specs.Kit.{ℕ, ◌-◌, ◌^◌, ◌≤◌, ◌<◌, ◌≡◌, List, [], ◌∷◌, ◌++◌, length, take, drop}
+use Rattle.std.specs.Prelude.{ℕ, ◌-◌, ◌^◌, ◌≤◌, ◌<◌, ◌≡◌, List, [], ◌∷◌, ◌++◌, length, take, drop}
 use Rattle.wire.specs.Number.{digits}
 use Rattle.wire.specs.Field.{bytes_at}
 use Rattle.wire.specs.Limit as limit

@@ -1,6 +1,6 @@
 // Writing a file.
 ghost use Rattle.std.specs.Prelude.{◌≡◌, ◌+◌, ◌*◌, ◌≤◌, length};
-ghost use Rattle.wire.specs.Limit.{bytes as most_bytes, «image» as most-image};
+ghost use Rattle.wire.specs.Limit.{bytes as most_bytes, «image» as most_image};
 ghost use Rattle.image.specs.Out.{most, pour, poured, «end», onto, Grown};
 ghost use Rattle.amf0.specs.Code.{Ahead, longest, growth};
 ghost use Rattle.lso.specs.Code.{key_of};
@@ -86,7 +86,7 @@ fn write_key(out: &mut [u8], image: &[u8], text: &[u8], c: Cursor, count: usize)
 
 // A key, its value and a byte of padding.
 fn write_element(out: &mut [u8], image: &[u8], text: &[u8], c: Cursor, count: usize) -> Step
-    requires { (length text.now ≤ most_bytes) × (length image.now ≤ most-image) × (c.at ≤ length image.now) × (count ≤ growth * c.at) }
+    requires { (length text.now ≤ most_bytes) × (length image.now ≤ most_image) × (c.at ≤ length image.now) × (count ≤ growth * c.at) }
     ensures out_after { poured result out.new ≡ pour (element image.now text.now c.at) count out.old }
     ensures ahead { Ahead result (c.at + 1) (length image.now) count }
 {
@@ -101,7 +101,7 @@ fn write_element(out: &mut [u8], image: &[u8], text: &[u8], c: Cursor, count: us
 
 // Elements to the image's end.
 fn write_body(out: &mut [u8], image: &[u8], text: &[u8], start: Cursor, done: usize) -> Step
-    requires { (length text.now ≤ most_bytes) × (length image.now ≤ most-image) × (start.at ≤ length image.now) × (done ≤ growth * start.at) }
+    requires { (length text.now ≤ most_bytes) × (length image.now ≤ most_image) × (start.at ≤ length image.now) × (done ≤ growth * start.at) }
     ensures { poured result out.new ≡ pour (body image.now text.now (length image.now) start.at) done out.old }
 {
     let mut c = start;
@@ -122,7 +122,7 @@ fn write_body(out: &mut [u8], image: &[u8], text: &[u8], start: Cursor, done: us
 
 // The file, whose header says `stored` for its length. On an output without room it counts alone.
 fn write_file(out: &mut [u8], image: &[u8], text: &[u8], stored: u64) -> Step
-    requires { (length text.now ≤ most_bytes) × (length image.now ≤ most-image) }
+    requires { (length text.now ≤ most_bytes) × (length image.now ≤ most_image) }
     ensures { poured result out.new ≡ pour (file (λ name body. stored) image.now text.now) 0 out.old }
 {
     let c = Cursor { at: 0 };
