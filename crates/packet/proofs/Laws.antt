@@ -1,15 +1,14 @@
 -- The laws of heads, of the cut and of an entry's reading.
-use Rattle.wire.proofs.Kit.{ℕ, zero, suc, ◌+◌, ◌*◌, ◌-◌, ◌≤◌, ◌<◌, ◌≡◌, refl, sym, ap, subst, ◌∙◌, List, [], ◌∷◌, ◌++◌, append_assoc, append-nil, Bool, true, false}
-use Rattle.wire.proofs.Kit.{◌≢◌, ◌⊎◌, inl, inr, ⊎_elim, add-one, arith, length, get_or, take, drop, set, replicate, drop-cons, drop-drop, drop_of_length-le}
+use Rattle.std.specs.Prelude.{◌+◌, ◌*◌, ◌-◌, ◌≤◌, ◌<◌, ◌≡◌, ◌∷◌, ◌++◌, ◌≢◌, ◌⊎◌}
+use Rattle.wire.proofs.Kit.{ℕ, zero, suc, refl, sym, ap, subst, ◌∙◌, List, [], append_assoc, append-nil, Bool, true, false}
+use Rattle.wire.proofs.Kit.{inl, inr, ⊎_elim, add-one, arith, length, get_or, take, drop, set, replicate, drop-cons, drop-drop, drop_of_length-le}
 use Rattle.wire.proofs.Kit.{length-append, length-take, length-drop, sets, length-take-le, leb, ltb, eqb, leb-true, leb-false, le-leb, lt-leb, ltb-true}
 use Rattle.wire.proofs.Kit.{ltb-false, lt-ltb, eq-eqb, ne_eqb, eqb-true, eqb-false}
 use lib.Seq.{drop-nil, take-suc-set}
 use Rattle.wire.specs.Choice.{pick}
 use Rattle.wire.specs.declared.cursor.Cursor.{Cursor}
 use Rattle.wire.specs.declared.cursor.U16.{U16}
-use Rattle.wire.specs.declared.cursor.U16.TheVariants as U16
 use Rattle.wire.specs.declared.cursor.Tag.{Tag}
-use Rattle.wire.specs.declared.cursor.Tag.TheVariants as Tag
 use Rattle.wire.specs.Limit as limit
 use Rattle.wire.specs.Text.{inside_of}
 use Rattle.wire.specs.Number.{number}
@@ -29,10 +28,8 @@ use Rattle.image.proofs.Kept.{Kept, ends_kept, stops_kept}
 use Rattle.amf0.proofs.Reasons.{Named, kept}
 use Rattle.packet.specs.declared.head.Entry.{Entry}
 use Rattle.packet.specs.declared.head.Head.{Head}
-use Rattle.packet.specs.declared.head.Head.TheVariants as Head
 use Rattle.packet.specs.declared.entry.Cutting.{Cutting}
 use Rattle.packet.specs.declared.entry.Found.{Found}
-use Rattle.packet.specs.declared.entry.Found.TheVariants as Found
 use Rattle.packet.specs.declared.walk.Walk.{Walk}
 use Rattle.packet.specs.declared.walk.Walk.TheVariants as W
 use Rattle.packet.specs.Head.{unknown, version_at, front_of, header_at, message_at, head_at, got_head}

@@ -1,13 +1,7 @@
 -- What the proofs of the functions cite: the laws of readings and of the cut (`Laws`, `Packing`), of a row of entries' numbers (`Rows`), of writings
--- (`Putting`), and of refusals (`Reasons`). The last five belong to the functions over a lent list of entries, and are made: see docs/DECISIONS.md. The
--- theorems on the calls are in the crate packet_theorems.
+-- (`Putting`), and of refusals (`Reasons`). The theorems on the calls are in the crate packet_theorems.
 pub mod Laws
 pub mod Rows
 pub mod Packing
 pub mod Putting
 pub mod Reasons
-pub mod EntryKind
-pub mod EntryClearKinds
-pub mod EntryClearReads
-pub mod EntryCutKinds
-pub mod EntryCutReads

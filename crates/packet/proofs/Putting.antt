@@ -1,5 +1,6 @@
 -- The laws of writing a packet, step by step, and of a length that is set once its value is measured: that the functions' proofs cite.
-use Rattle.wire.proofs.Kit.{ℕ, zero, suc, ◌+◌, ◌-◌, ◌≤◌, ◌<◌, ◌≡◌, refl, sym, ap, ◌∙◌, List, [], ◌∷◌, Bool, true, false, sub-one, arith, length, set, sets}
+use Rattle.std.specs.Prelude.{◌+◌, ◌-◌, ◌≤◌, ◌<◌, ◌≡◌, ◌∷◌}
+use Rattle.wire.proofs.Kit.{ℕ, zero, suc, refl, sym, ap, ◌∙◌, List, [], Bool, true, false, sub-one, arith, length, set, sets}
 use Rattle.wire.proofs.Kit.{set-set, set_comm, length-sets, leb, eqb, leb-true, leb-false}
 use Rattle.wire.specs.Choice.{pick}
 use Rattle.wire.specs.Number.{digits}
@@ -13,10 +14,10 @@ use Rattle.image.specs.declared.reading.Step.TheVariants.{Next, Stop}
 use Rattle.image.specs.declared.writing.Row.{Row}
 use Rattle.image.specs.Kind as kind
 use Rattle.image.specs.Record.{◌bytes◌, none}
-use Rattle.image.specs.Out.{Out, end, stop, put, ◌>>=◌, row_of, row_bytes, text_of, named_of, row, Poured, poured, pour, bytes as bytesOut, settled, written, unwritten}
+use Rattle.image.specs.Out.{Out, end, stop, put, ◌>>=◌, row_of, row_bytes, text_of, named_of, row, Poured, poured, pour, bytes as bytes_out, settled, written, unwritten}
 use Rattle.image.proofs.Pouring.{length_row, pour_stop}
 use Rattle.amf0.specs.Writing.{texted, top_value, asked, whole}
-use Rattle.amf0.proofs.Putting.{whole_halt, whole_past, whole-over, whole-full, whole_fits, whole_size}
+use Rattle.amf0.proofs.Putting.{whole_halt, whole_past, whole_over, whole_full, whole_fits, whole_size}
 use Rattle.packet.specs.Carried.{Carried}
 use Rattle.packet.specs.Writing.{labelled, label, declared, entry, entries, packet, write_of}
 
@@ -185,7 +186,7 @@ module _ (due : ℕ) (image text : List ℕ) (at : ℕ) where
 
   -- what follows a label
   abbrev pub following : Bool → ℕ → Out
-  following exact q = row text (sizing (declared exact (length (bytesOut (top_value image text q))))) at (top_value image text q)
+  following exact q = row text (sizing (declared exact (length (bytes_out (top_value image text q))))) at (top_value image text q)
 
   pub entry_labelled : (exact : Bool) → entry due exact image text at ≡ label due image text at >>= following exact
   unfolding entry
@@ -248,18 +249,18 @@ module _ (image text : List ℕ) (exact : Bool) (room : ℕ) where
       write_halt e = within ∙ whole_halt image (packet exact image text) room z e
 
       module _ {c : Cursor} {n : ℕ} {o : List ℕ} (e : poured (Next c n) o ≡ pour (packet exact image text) 0 z) where
-        pub write-past : c.at < length image → write_of image text exact room ≡ unwritten 6
-        write-past h = within ∙ whole_past image (packet exact image text) room z e h
+        pub write_past : c.at < length image → write_of image text exact room ≡ unwritten 6
+        write_past h = within ∙ whole_past image (packet exact image text) room z e h
 
         module _ (h : length image ≤ c.at) where
           pub write_over : limit.bytes < n → write_of image text exact room ≡ unwritten 1
-          write_over g = within ∙ whole-over image (packet exact image text) room z e h g
+          write_over g = within ∙ whole_over image (packet exact image text) room z e h g
 
-          pub write-full : n ≤ limit.bytes → room < n → write_of image text exact room ≡ unwritten 4
-          write-full g f = within ∙ whole-full image (packet exact image text) room z e h g f
+          pub write_full : n ≤ limit.bytes → room < n → write_of image text exact room ≡ unwritten 4
+          write_full g f = within ∙ whole_full image (packet exact image text) room z e h g f
 
-          pub write-fits : n ≤ limit.bytes → n ≤ room → write_of image text exact room ≡ written (bytesOut (packet exact image text))
-          write-fits g f = within ∙ whole_fits image (packet exact image text) room z e h g f
+          pub write_fits : n ≤ limit.bytes → n ≤ room → write_of image text exact room ≡ written (bytes_out (packet exact image text))
+          write_fits g f = within ∙ whole_fits image (packet exact image text) room z e h g f
 
-          pub write-size : n ≡ length (bytesOut (packet exact image text))
-          write-size = whole_size image (packet exact image text) room z e h
+          pub write_size : n ≡ length (bytes_out (packet exact image text))
+          write_size = whole_size image (packet exact image text) room z e h

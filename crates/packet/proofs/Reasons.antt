@@ -1,8 +1,8 @@
 -- A packet's reading goes forward and ends inside the input, lays at most three bytes for each byte that it reads, and is refused with 2, 3, 5 or 7,
 -- at a place inside the input.
-use Rattle.wire.proofs.Kit.{ℕ, zero, suc, ◌+◌, ◌*◌, ◌≤◌, List, ◌≢◌, le_refl, arith, length, eqb}
+use Rattle.std.specs.Prelude.{◌+◌, ◌*◌, ◌≤◌}
+use Rattle.wire.proofs.Kit.{ℕ, zero, suc, List, le_refl, arith, length, eqb}
 use Rattle.wire.specs.declared.cursor.Tag.{Tag}
-use Rattle.wire.specs.declared.cursor.Tag.TheVariants as Tag
 use Rattle.wire.specs.Limit as limit
 use Rattle.wire.specs.Number.{number}
 use Rattle.wire.specs.Field.{bytes_at, u16_at, got16, past_tag}
@@ -17,7 +17,6 @@ use Rattle.amf0.specs.Reading.{top_value}
 use Rattle.amf0.proofs.Reasons as values
 use Rattle.packet.specs.declared.head.Entry.{Entry}
 use Rattle.packet.specs.declared.head.Head.{Head}
-use Rattle.packet.specs.declared.head.Head.TheVariants as Head
 use Rattle.packet.specs.Head.{version_at, head_at, got_head}
 use Rattle.packet.specs.Reading.{record_of, entries_at, packet_at}
 use Rattle.packet.proofs.Laws.{Tells, field_tells, value_tells, two, Headed, head_told, Versioned, version_told}

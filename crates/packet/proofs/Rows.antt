@@ -1,5 +1,6 @@
 -- The laws of a row of entries' numbers.
-use Rattle.wire.proofs.Kit.{ℕ, ◌+◌, ◌*◌, ◌-◌, ◌≤◌, ◌<◌, ◌≡◌, refl, sym, ap, ◌∙◌, List, [], ◌∷◌, ◌++◌, append-nil, arith, length, get_or, take, drop, replicate, ltb}
+use Rattle.std.specs.Prelude.{◌+◌, ◌*◌, ◌-◌, ◌≤◌, ◌<◌, ◌≡◌, ◌∷◌, ◌++◌}
+use Rattle.wire.proofs.Kit.{ℕ, refl, sym, ap, ◌∙◌, List, [], append-nil, arith, length, get_or, take, drop, replicate, ltb}
 use Rattle.wire.proofs.Laws.{picked}
 use Rattle.wire.proofs.Kit.{length-append, sets, sets-eq, take_at, length-take-le}
 use Rattle.packet.specs.declared.head.Entry.{Entry}

@@ -1,5 +1,5 @@
 -- What the writer's steps tell each other besides what they write.
-use Rattle.wire.specs.Kit.{ℕ, ◌≡◌, List}
+use Rattle.std.specs.Prelude.{ℕ, ◌≡◌, List}
 use Rattle.wire.specs.declared.cursor.Cursor.{Cursor}
 use Rattle.image.specs.declared.reading.Step.{Step}
 use Rattle.image.specs.declared.reading.Step.TheVariants.{Next}

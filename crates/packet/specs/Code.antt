@@ -1,5 +1,6 @@
 -- What the steps of the code come to.
-use Rattle.wire.specs.Kit.{ℕ, suc, ◌+◌, ◌-◌, ◌≡◌, List, [], Bool, true, false, length, drop, sets, leb, ltb, eqb}
+use Rattle.std.specs.Prelude.{ℕ, suc, ◌+◌, ◌-◌, ◌≡◌, List, [], Bool, true, false, length, drop, leb, ltb, eqb}
+use Rattle.std.proofs.lemmas.List.Edits.{sets}
 use Rattle.wire.specs.Choice.{pick}
 use Rattle.wire.specs.Limit as limit
 use Rattle.wire.specs.Number.{digits}

@@ -1,6 +1,6 @@
 -- The cut of a packet by its declared lengths, with values measured where these are not known, and the reading of one entry: the rule "Reading by entry"
 -- (docs/DEMANDS.md).
-use Rattle.wire.specs.Kit.{ℕ, zero, suc, ◌+◌, ◌-◌, List, [], ◌∷◌, ◌++◌, length, get_or, replicate, leb, ltb, eqb}
+use Rattle.std.specs.Prelude.{ℕ, zero, suc, ◌+◌, ◌-◌, List, [], ◌∷◌, ◌++◌, length, get_or, replicate, leb, ltb, eqb}
 use Rattle.wire.specs.Choice.{pick}
 use Rattle.wire.specs.Limit as limit
 use Rattle.wire.specs.Text.{inside_of}
@@ -10,9 +10,7 @@ use Rattle.image.specs.Whole.{Whole, refused}
 use Rattle.packet.specs.declared.head.Entry.{Entry}
 use Rattle.packet.specs.declared.entry.Cutting.{Cutting}
 use Rattle.packet.specs.declared.entry.Found.{Found}
-use Rattle.packet.specs.declared.entry.Found.TheVariants as Found
 use Rattle.packet.specs.declared.head.Head.{Head}
-use Rattle.packet.specs.declared.head.Head.TheVariants as Head
 use Rattle.packet.specs.Head.{unknown, front_of, head_at, got_head, entry}
 use Rattle.amf0.specs.Reading.{value_in}
 use Rattle.amf0.specs.Span.{Span, span_at, held, answer_of, one_value}

@@ -1,5 +1,5 @@
 -- The packet of the rule "Examples" (docs/DEMANDS.md), and packets near it: read whole, cut, and read by entry and by span, two tables that the checker computes.
-use Rattle.wire.specs.Kit.{ℕ, zero, suc, ◌≡◌, refl, List, [], ◌∷◌, map}
+use Rattle.std.specs.Prelude.{ℕ, zero, suc, ◌≡◌, refl, List, [], ◌∷◌, map}
 use Rattle.wire.specs.Utf8.{ends}
 use Rattle.wire.specs.Field.{u8_at, u16_at, u32_at, u64_at, str_at, text_at, tag_at}
 use Rattle.image.specs.Record.{bytes_of, size}
@@ -37,8 +37,8 @@ abbrev uncut : ℕ → ℕ → Cutting
 uncut a p = record { answer = a; used = p; count = 0 }
 
 -- an input that every call refuses alike
-infix 1 ◌refused-by◌at◌
-abbrev ◌refused-by◌at◌ : List ℕ → ℕ → ℕ → Example
+infix 1 ◌refused_by◌at◌
+abbrev ◌refused_by◌at◌ : List ℕ → ℕ → ℕ → Example
 s refused_by a at p = s whole refused a p part refused a p cut uncut a p entry refused a p
 
 -- so many messages, which these bytes are

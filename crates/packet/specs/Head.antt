@@ -1,15 +1,12 @@
 -- The fields of a packet round its values: the rule "Packet" (docs/DEMANDS.md).
-use Rattle.wire.specs.Kit.{ℕ, List, [], ◌∷◌, length, leb, ltb, eqb}
+use Rattle.std.specs.Prelude.{ℕ, List, [], ◌∷◌, length, leb, ltb, eqb}
 use Rattle.wire.specs.Choice.{pick}
 use Rattle.wire.specs.Limit as limit
 use Rattle.wire.specs.Field.{to, u8_at, u16_at, u32_at, text_at, tag_at, got8, got32, got_text, past_tag}
 use Rattle.wire.specs.declared.cursor.U16.{U16}
-use Rattle.wire.specs.declared.cursor.U16.TheVariants as U16
 use Rattle.wire.specs.declared.cursor.Tag.{Tag}
-use Rattle.wire.specs.declared.cursor.Tag.TheVariants as Tag
 use Rattle.packet.specs.declared.head.Entry.{Entry}
 use Rattle.packet.specs.declared.head.Head.{Head}
-use Rattle.packet.specs.declared.head.Head.TheVariants as Head
 use Rattle.image.specs.Kind as kind
 
 -- a zero, and the version: 00, and 03 gives 7

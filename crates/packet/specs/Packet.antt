@@ -1,11 +1,11 @@
 -- The packet, as the Rust has it: which rows of bytes are a packet, with its values as AMF 0 has them, and the length that each entry declares.
-use Rattle.wire.specs.Kit.{ℕ, ◌^◌, ◌≤◌, ◌<◌, List, [], ◌∷◌, ◌++◌, Bool, true, false, length}
+use Rattle.std.specs.Prelude.{ℕ, ◌^◌, ◌≤◌, ◌<◌, List, [], ◌∷◌, ◌++◌, Bool, true, false, length}
 use Rattle.wire.specs.Number.{digits}
 use Rattle.amf0.specs.Standard.{Sort, Tree, UTF-8, Encodes}
 
 -- an entry's fields of its own
 pub data Label : Type 0 where
-  header : (name : List ℕ) (must-understand : Bool) → Label
+  header : (name : List ℕ) (must_understand : Bool) → Label
   message : (target response : List ℕ) → Label
 
 -- an entry: its label, the length that it declares, and its value

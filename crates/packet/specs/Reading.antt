@@ -1,5 +1,5 @@
 -- What reading a whole packet finds, and what it comes to in a room: the rule "Packet" (docs/DEMANDS.md).
-use Rattle.wire.specs.Kit.{ℕ, zero, suc, List, length, leb, eqb}
+use Rattle.std.specs.Prelude.{ℕ, zero, suc, List, length, leb, eqb}
 use Rattle.wire.specs.Choice.{pick}
 use Rattle.wire.specs.Limit as limit
 use Rattle.wire.specs.Field.{u16_at, got16, past_tag}
@@ -8,7 +8,7 @@ use Rattle.image.specs.declared.record.Record.TheVariants.{Packet, Header, Messa
 use Rattle.image.specs.Kind as kind
 use Rattle.image.specs.Due.{Due, end, stop, seen, due, ◌>>=◌}
 use Rattle.image.specs.Whole.{Whole, settled, refused, all}
-use Rattle.amf0.specs.Reading.{value, top_value}
+use Rattle.amf0.specs.Reading.{top_value}
 use Rattle.packet.specs.declared.head.Entry.{Entry}
 use Rattle.packet.specs.Head.{version_at, head_at, got_head}
 

@@ -1,5 +1,5 @@
 -- The entries of a packet as numbers.
-use Rattle.wire.specs.Kit.{ℕ, List, [], ◌∷◌, ◌++◌}
+use Rattle.std.specs.Prelude.{ℕ, List, [], ◌∷◌, ◌++◌}
 use Rattle.image.specs.Whole.{padded}
 use Rattle.packet.specs.declared.head.Entry.{Entry}
 

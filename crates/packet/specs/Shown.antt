@@ -1,5 +1,5 @@
 -- What the image of a whole packet shows: the packet told from left to right, its texts taken out of the input.
-use Rattle.wire.specs.Kit.{ℕ, ◌≤◌, ◌≡◌, List, [], ◌∷◌, ◌++◌, Bool, length}
+use Rattle.std.specs.Prelude.{ℕ, ◌≤◌, ◌≡◌, List, [], ◌∷◌, ◌++◌, Bool, length}
 use Rattle.wire.specs.Field.{bytes_at}
 use Rattle.image.specs.declared.record.Record.{Record}
 use Rattle.image.specs.declared.record.Record.TheVariants as R

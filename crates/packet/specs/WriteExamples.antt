@@ -1,5 +1,5 @@
 -- Two packets, read whole and written back in both settings, one table that the checker computes. The first is that of the rule "Examples" (docs/DEMANDS.md).
-use Rattle.wire.specs.Kit.{ℕ, ◌≡◌, refl, List, [], ◌∷◌, ◌++◌, map, Bool, true, false}
+use Rattle.std.specs.Prelude.{ℕ, ◌≡◌, refl, List, [], ◌∷◌, ◌++◌, map, Bool, true, false}
 use Rattle.wire.specs.Utf8.{ends}
 use Rattle.wire.specs.Field.{u8_at, u16_at, u24_at, u32_at, u64_at, str_at, text_at, tag_at}
 use Rattle.image.specs.Record.{bytes_of, size}

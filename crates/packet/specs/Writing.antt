@@ -1,12 +1,12 @@
 -- What writing a packet puts out: the rules "Packet", "Writing checks first" and "What is written" (docs/DEMANDS.md).
-use Rattle.wire.specs.Kit.{ℕ, zero, suc, List, Bool, length, leb, eqb}
+use Rattle.std.specs.Prelude.{ℕ, zero, suc, List, Bool, length, leb, eqb}
 use Rattle.wire.specs.Choice.{pick}
 use Rattle.wire.specs.Limit as limit
 use Rattle.image.specs.declared.record.Field.{Field}
 use Rattle.image.specs.declared.record.Layout.{Layout}
 use Rattle.image.specs.Kind as kind
 use Rattle.image.specs.Record.{◌bytes◌, none}
-use Rattle.image.specs.Out.{Out, end, ◌>>=◌, row_of, row, bytes as bytesOut, Written, unwritten, settled}
+use Rattle.image.specs.Out.{Out, end, ◌>>=◌, row_of, row, bytes as bytes_out, Written, unwritten, settled}
 use Rattle.amf0.specs.Writing.{texted, top_value, asked, whole}
 use Rattle.packet.specs.Head.{unknown}
 
@@ -36,7 +36,7 @@ declared exact n = pick exact n unknown
 unfoldable pub entry : ℕ → Bool → List ℕ → List ℕ → ℕ → Out
 entry kind exact image text at =
     label kind image text at >>= λ q.
-    numbered text (4 bytes (declared exact (length (bytesOut (top_value image text q))))) at (top_value image text q)
+    numbered text (4 bytes (declared exact (length (bytes_out (top_value image text q))))) at (top_value image text q)
 
 -- n entries of a kind
 unfoldable pub entries : ℕ → Bool → List ℕ → List ℕ → ℕ → ℕ → Out

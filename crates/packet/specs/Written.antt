@@ -1,5 +1,5 @@
 -- What the records of a packet's image mean, the bytes that a packet is written as, and the entries that those are cut into.
-use Rattle.wire.specs.Kit.{ℕ, ◌+◌, ◌≤◌, ◌≡◌, List, [], ◌∷◌, ◌++◌, map, Bool, length}
+use Rattle.std.specs.Prelude.{ℕ, ◌+◌, ◌≤◌, ◌≡◌, List, [], ◌∷◌, ◌++◌, map, Bool, length}
 use Rattle.wire.specs.Number.{digits}
 use Rattle.wire.specs.Field.{bytes_at}
 use Rattle.wire.specs.Limit as limit

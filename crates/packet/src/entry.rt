@@ -15,7 +15,7 @@ use wire::limit;
 use wire::text::inside;
 
 // What a cut returns: the answer, the bytes of the packet, or on a refusal the place, and the number of its entries.
-#[derive(Drop)]
+#[derive(Clone, Copy)]
 pub struct Cutting {
     pub answer: u8,
     pub used: usize,
@@ -23,7 +23,7 @@ pub struct Cutting {
 }
 
 // An entry that was looked for: found, or its number is past the entries, or the cut's refusal.
-#[derive(Drop)]
+#[derive(Clone, Copy)]
 pub enum Found {
     Is(Entry),
     Stop(u8, usize),

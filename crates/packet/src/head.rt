@@ -16,7 +16,7 @@ pub const UNKNOWN: usize = 0xFFFF_FFFF;
 
 // One entry: a header, with its name and flag, or a message, with its target and response; and the value that it holds, by the length that it
 // declares, or that was measured where it declares none.
-#[derive(Drop)]
+#[derive(Clone, Copy)]
 pub struct Entry {
     pub kind: u8,
     pub flag: u8,
@@ -30,7 +30,7 @@ pub struct Entry {
 }
 
 // An entry's fields before its value.
-#[derive(Drop)]
+#[derive(Clone, Copy)]
 pub enum Head {
     Got(Entry, Cursor),
     Stop(u8, usize),

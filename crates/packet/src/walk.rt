@@ -10,7 +10,7 @@ use wire::answer::{NOT_RIGHT, NOT_WHOLE};
 use wire::cursor::{Cursor, U16};
 
 // How far a walk has come: to an entry of a kind at a cursor, with so many more of that kind behind it; to the packet's end; or it is refused.
-#[derive(Drop)]
+#[derive(Clone, Copy)]
 pub enum Walk {
     At(u8, u16, Cursor),
     End(usize),
@@ -18,7 +18,7 @@ pub enum Walk {
 }
 
 // An entry, and the walk behind it.
-#[derive(Drop)]
+#[derive(Clone, Copy)]
 pub struct Passed {
     pub entry: Entry,
     pub walk: Walk,

@@ -1,6 +1,6 @@
 // Writing a packet.
 ghost use Rattle.std.specs.Prelude.{◌≡◌, ◌+◌, ◌*◌, ◌≤◌, length};
-ghost use Rattle.wire.specs.Limit.{bytes as most_bytes, «image» as most-image};
+ghost use Rattle.wire.specs.Limit.{bytes as most_bytes, «image» as most_image};
 ghost use Rattle.image.specs.Out.{pour, poured, onto};
 ghost use Rattle.amf0.specs.Code.{Ahead, longest, growth};
 ghost use Rattle.packet.specs.Carried.{Carried};
@@ -20,7 +20,7 @@ use wire::number::write_number;
 
 // An entry's fields up to its length: its name or target, and then a header's flag or a message's response.
 fn write_label(out: &mut [u8], image: &[u8], text: &[u8], kind: u8, c: Cursor, count: usize) -> Step
-    requires { (length text.now ≤ most_bytes) × (length image.now ≤ most-image) × (c.at ≤ length image.now) × (count ≤ longest + growth * c.at) }
+    requires { (length text.now ≤ most_bytes) × (length image.now ≤ most_image) × (c.at ≤ length image.now) × (count ≤ longest + growth * c.at) }
     ensures out_after { poured result out.new ≡ pour (label kind image.now text.now c.at) count out.old }
     ensures ahead { Ahead result (c.at + 1) (length image.now) (count + 2 * longest) }
 {
@@ -82,7 +82,7 @@ fn write_entry(
     c: Cursor,
     count: usize,
 ) -> Step
-    requires { (length text.now ≤ most_bytes) × (length image.now ≤ most-image) × (c.at ≤ length image.now) × (count ≤ longest + growth * c.at) }
+    requires { (length text.now ≤ most_bytes) × (length image.now ≤ most_image) × (c.at ≤ length image.now) × (count ≤ longest + growth * c.at) }
     ensures carried { Carried (entry kind exact image.now text.now c.at) count out.old result out.new }
     ensures ahead { Ahead result (c.at + 1) (length image.now) count }
 {
@@ -114,7 +114,7 @@ fn write_entries(
     done: usize,
     n: u64,
 ) -> Step
-    requires { (length text.now ≤ most_bytes) × (length image.now ≤ most-image) × (start.at ≤ length image.now) × (done ≤ longest + growth * start.at) }
+    requires { (length text.now ≤ most_bytes) × (length image.now ≤ most_image) × (start.at ≤ length image.now) × (done ≤ longest + growth * start.at) }
     ensures carried { Carried (entries kind exact image.now text.now n start.at) done out.old result out.new }
     ensures ahead { Ahead result start.at (length image.now) done }
 {
@@ -138,7 +138,7 @@ fn write_entries(
 
 // The packet. On an output without room it counts alone.
 fn write_packet(out: &mut [u8], image: &[u8], text: &[u8], exact: bool) -> Step
-    requires { (length text.now ≤ most_bytes) × (length image.now ≤ most-image) }
+    requires { (length text.now ≤ most_bytes) × (length image.now ≤ most_image) }
     ensures { Carried (packet exact image.now text.now) 0 out.old result out.new }
 {
     let c = Cursor { at: 0 };
