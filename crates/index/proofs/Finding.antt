@@ -1,5 +1,6 @@
 -- How the code looks at records and marks, and how it looks up.
-use Rattle.wire.proofs.Kit.{ℕ, zero, suc, ◌+◌, ◌-◌, ◌/◌, ◌≤◌, ◌<◌, ◌≡◌, refl, ◌∙◌, List, [], Bool, true, false, sub-one, arith, ltb, length, get_or, lt-ltb}
+use Rattle.std.specs.Prelude.{◌+◌, ◌-◌, ◌/◌, ◌≤◌, ◌<◌, ◌≡◌}
+use Rattle.wire.proofs.Kit.{ℕ, zero, suc, refl, ◌∙◌, List, [], Bool, true, false, sub-one, arith, ltb, length, get_or, lt-ltb}
 use Rattle.wire.proofs.Kit.{le-ltb, eq-eqb, ne_eqb}
 use Rattle.wire.specs.declared.cursor.Cursor.{Cursor}
 use Rattle.wire.specs.declared.cursor.U8.TheVariants as U8
@@ -18,9 +19,7 @@ use Rattle.amf0.proofs.Begun.{record_body, record_none}
 use Rattle.amf0.proofs.Putting.{known_bytes}
 use Rattle.index.specs.declared.mark.Mark.{Mark}
 use Rattle.index.specs.declared.order.Order.{Order}
-use Rattle.index.specs.declared.walk.Role.TheVariants as Role
 use Rattle.index.specs.declared.find.Way.{Way}
-use Rattle.index.specs.declared.find.Way.TheVariants as Way
 use Rattle.index.specs.Mark.{nothing}
 use Rattle.index.specs.Keys.{role_of, role_in, role_at}
 use Rattle.index.specs.Order.{text_by, order_of, key_of}
@@ -85,7 +84,7 @@ module _ (image text : List ℕ) (container : ℕ) (key : List ℕ) (m : Mark) w
 
     pub past_same : container ≡ m.container → (o : Order) (x : List ℕ) → x ≡ key_of image text m.key → o ≡ order_of key x → is_less o ≡ past_of image text container key m
     unfolding past_of
-    past_same same o x at_x at-o = rw (ne_eqb m.depth 0 some, eq-eqb container m.container same, at-o, at_x)
+    past_same same o x at_x at_o = rw (ne_eqb m.depth 0 some, eq-eqb container m.container same, at_o, at_x)
 
 -- ---- by halves
 
@@ -117,7 +116,7 @@ module _ (image text : List ℕ) (marks : List Mark) (container : ℕ) (key : Li
   pub last_some : (n ≡ 0 → ⊥) → (m : Mark) → m ≡ get_or marks (n - 1) nothing → (t : Bool) → t ≡ leads_of image text container key m
       → way_if t m ≡ last_of image text marks container key
   unfolding last_of
-  last_some z m at-m t at-t = rw (size, ← at_n, ne_eqb n 0 z, at-t, at-m)
+  last_some z m at_m t at_t = rw (size, ← at_n, ne_eqb n 0 z, at_t, at_m)
 
 -- ---- a path
 
@@ -134,13 +133,13 @@ module _ (image text : List ℕ) (marks : List Mark) (path : List ℕ) (i place 
     down_short (suc f) g a p e = rw (lt-ltb i (length path) h, e)
 
     module _ (n : ℕ) (d : Cursor) (e : u16_at path i ≡ U16.Got n d) where
-      pub down-over : (f : ℕ) → length path ≤ i + f → inside_of path d.at n ≡ false → down_of image text marks path f i place ≡ Way.Nothing
+      pub down_over : (f : ℕ) → length path ≤ i + f → inside_of path d.at n ≡ false → down_of image text marks path f i place ≡ Way.Nothing
       unfolding down_of
-      down-over zero g t = absurd (omega arith)
-      down-over (suc f) g t = rw (lt-ltb i (length path) h, e, t)
+      down_over zero g t = absurd (omega arith)
+      down_over (suc f) g t = rw (lt-ltb i (length path) h, e, t)
 
-      pub down-goes : inside_of path d.at n ≡ true → (f : ℕ) → length path ≤ i + f → (w : Way) → step_of image text marks place (part_of path d.at n) ≡ w
+      pub down_goes : inside_of path d.at n ≡ true → (f : ℕ) → length path ≤ i + f → (w : Way) → step_of image text marks place (part_of path d.at n) ≡ w
           → down_of image text marks path f i place ≡ thence image text marks w (down_of image text marks path (f - 1) (d.at + n))
       unfolding down_of
-      down-goes t zero g w s = absurd (omega arith)
-      down-goes t (suc f) g w s = rw (lt-ltb i (length path) h, e, s, t, sub-one (suc f))
+      down_goes t zero g w s = absurd (omega arith)
+      down_goes t (suc f) g w s = rw (lt-ltb i (length path) h, e, s, t, sub-one (suc f))

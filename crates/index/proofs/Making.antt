@@ -1,6 +1,7 @@
 -- How the code makes an index.
-use Rattle.wire.proofs.Kit.{ℕ, zero, suc, ◌+◌, ◌-◌, ◌*◌, ◌/◌, ◌≤◌, ◌<◌, ◌≡◌, refl, sym, ap, ◌∙◌, List, [], ◌∷◌, ◌++◌, zero-add, arith, length, get_or, take, drop}
-use Rattle.wire.proofs.Kit.{replicate, drop-cons, drop-drop, drop-append-le, take-append-le, length-take-le, length-drop, le-leb, lt-leb}
+use Rattle.std.specs.Prelude.{◌+◌, ◌-◌, ◌*◌, ◌/◌, ◌≤◌, ◌<◌, ◌≡◌, ◌∷◌, ◌++◌}
+use Rattle.wire.proofs.Kit.{ℕ, zero, suc, refl, sym, ap, ◌∙◌, List, [], zero-add, arith, length, get_or, take, drop}
+use Rattle.wire.proofs.Kit.{replicate, drop-cons, drop-drop, drop-append-le, take-append-le, take-append-drop, take_at, length-take-le, length-drop, le-leb, lt-leb}
 use lib.Seq.{take-add}
 use Rattle.wire.specs.Number.{digits, number, Bytes}
 use Rattle.wire.specs.Field.{bytes_at}
@@ -12,15 +13,14 @@ use Rattle.image.specs.declared.reading.Step.TheVariants.{Next, Stop}
 use Rattle.image.specs.declared.taking.Taken.{Taken}
 use Rattle.image.specs.declared.taking.Taken.TheVariants.{Found, Bad}
 use Rattle.image.specs.Taking.{record_at}
-use Rattle.image.specs.Out.{Out, end, stop, put, named_at, Poured, poured, pour, bytes as bytesOut}
+use Rattle.image.specs.Out.{Out, end, stop, put, named_at, Poured, poured, pour, bytes as bytes_out}
 use Rattle.image.specs.Whole.{padded}
 use Rattle.image.proofs.Pouring.{went}
 use Rattle.amf0.proofs.Putting.{past, known_bytes}
 use Rattle.index.specs.declared.walk.Rest.{Rest}
 use Rattle.index.specs.declared.walk.Role.{Role}
-use Rattle.index.specs.declared.walk.Role.TheVariants as Role
 use Rattle.index.specs.declared.walk.Begun.{Begun}
-use Rattle.index.specs.declared.walk.Begun.TheVariants as Begun
+use Rattle.index.specs.declared.mark.Mark.{Mark}
 use Rattle.index.specs.Mark.{mark_at, mark_bytes, flat, rows_at, rows}
 use Rattle.index.specs.Order.{before}
 use Rattle.index.specs.Sort.{Shuffled, Sorted}
@@ -129,18 +129,18 @@ module _ (image text : List ℕ) (room : ℕ) where
       stopped out e = rw (le-leb (length text) limit.bytes t, le-leb (length image) limit.image i) (unless_halt (keys_of image text) _ 0 out e)
 
       module _ (out : List ℕ) {c : Cursor} {n : ℕ} {o : List ℕ} (e : poured (Next c n) o ≡ pour (keys_of image text) 0 out) where
-        pub counted : n ≡ length (bytesOut (keys_of image text))
-        counted = (went (keys_of image text) 0 out e).size ∙ zero-add (length (bytesOut (keys_of image text)))
+        pub counted : n ≡ length (bytes_out (keys_of image text))
+        counted = (went (keys_of image text) 0 out e).size ∙ zero-add (length (bytes_out (keys_of image text)))
 
         pub full : room < n → index_of image text room ≡ unindexed 4
         full h =
             rw (le-leb (length text) limit.bytes t, le-leb (length image) limit.image i)
-            (unless_went (keys_of image text) _ 0 out e ∙ rw (lt-leb (length (bytesOut (keys_of image text))) room (omega (arith, counted))))
+            (unless_went (keys_of image text) _ 0 out e ∙ rw (lt-leb (length (bytes_out (keys_of image text))) room (omega (arith, counted))))
 
-        pub fitted : n ≤ room → index_of image text room ≡ keyed (bytesOut (keys_of image text))
+        pub fitted : n ≤ room → index_of image text room ≡ keyed (bytes_out (keys_of image text))
         fitted h =
             rw (le-leb (length text) limit.bytes t, le-leb (length image) limit.image i)
-            (unless_went (keys_of image text) _ 0 out e ∙ rw (le-leb (length (bytesOut (keys_of image text))) room (omega (arith, counted))))
+            (unless_went (keys_of image text) _ 0 out e ∙ rw (le-leb (length (bytes_out (keys_of image text))) room (omega (arith, counted))))
 
 -- ---- what the index holds
 
@@ -153,11 +153,18 @@ emptied image text index room n e =
     record { row = []; sorted = record { same = Shuffled.none; rising = λ k h. absurd (omega arith) }; bytes = e ∙ ap (λ (k : ℕ). padded [] k) (sym n) }
 
 -- what is sorted and then cleared behind
-pub made : (image text b r o s index : List ℕ) (k : ℕ) → k ≡ length b / 13 → o ≡ b ++ r → ((i : ℕ) → get_or s i 0 < 256) → 13 * k ≤ length s
+pub made : (image text b r o s index : List ℕ) (k : ℕ) → k ≡ length b / 13 → o ≡ b ++ r → ((i : ℕ) → get_or index i 0 < 256) → 13 * k ≤ length s
     → Sorted (before image text) (rows k o) (rows k s) → length index ≡ length s → index ≡ take (13 * k) s ++ replicate (length s - 13 * k) 0
     → Holds image text (rows (length b / 13) b) index
 made image text b r o s index k e f h g q l i =
     let m : rows k o ≡ rows (length b / 13) b = ap (λ (x : List ℕ). rows k x) f ∙ rows_at_front k 0 b r (omega arith) ∙ ap (λ (n : ℕ). rows n b) e in
-    let z : take (13 * k) s ≡ flat (rows k s) = flat_rows k 0 s (known_bytes s h) (omega arith) in
-    let n : length (flat (rows k s)) ≡ 13 * k = ap length (sym z) ∙ length-take-le (13 * k) s g in
+    let a : length (take (13 * k) s) ≡ 13 * k = length-take-le (13 * k) s g in
+    let u : rows k s ≡ rows k (take (13 * k) s) =
+    ap (λ (x : List ℕ). rows k x) (sym (take-append-drop (13 * k) s)) ∙ rows_at_front k 0 (take (13 * k) s) (drop (13 * k) s) (omega (arith, a)) in
+    let v : rows k index ≡ rows k (take (13 * k) s) =
+    ap (λ (x : List ℕ). rows k x) i ∙ rows_at_front k 0 (take (13 * k) s) (replicate (length s - 13 * k) 0) (omega (arith, a)) in
+    let y : take (13 * k) index ≡ take (13 * k) s = ap (λ (x : List ℕ). take (13 * k) x) i ∙ take_at (take (13 * k) s) (replicate (length s - 13 * k) 0) (13 * k) a in
+    let z : take (13 * k) s ≡ flat (rows k s) =
+    sym y ∙ flat_rows k 0 index (known_bytes index h) (omega (arith, l)) ∙ ap (λ (x : List Mark). flat x) (v ∙ sym u) in
+    let n : length (flat (rows k s)) ≡ 13 * k = ap length (sym z) ∙ a in
     record { row = rows k s; sorted = rw m at q; bytes = i ∙ rw (z, l, n) }

@@ -1,5 +1,6 @@
 -- The order of the marks is total.
-use Rattle.wire.proofs.Kit.{ℕ, suc, ◌+◌, ◌≤◌, ◌<◌, ◌≡◌, refl, sym, ap, ◌∙◌, List, [], ◌∷◌, ◌++◌, map, Bool, true, false, ◌⊎◌, inl, inr, ⊎_elim, add-one, arith}
+use Rattle.std.specs.Prelude.{◌+◌, ◌≤◌, ◌<◌, ◌≡◌, ◌∷◌, ◌++◌, ◌⊎◌}
+use Rattle.wire.proofs.Kit.{ℕ, suc, refl, sym, ap, ◌∙◌, List, [], map, Bool, true, false, inl, inr, ⊎_elim, add-one, arith}
 use Rattle.wire.proofs.Kit.{ltb, length, get_or, drop, drop_of_length-le, drop-cons, lt-ltb, le-ltb, ltb-true, ltb-false}
 use Rattle.wire.proofs.Laws.{false_true}
 use Rattle.index.specs.declared.mark.Mark.{Mark}
@@ -178,5 +179,5 @@ module _ (image text : List ℕ) (a b : Mark) where
       pub by_value : a.key ≡ b.key → (a.value ≡ b.value → ⊥) → ltb a.value b.value ≡ before image text a b
       by_value k n = lower_differs a.value b.value _ _ n ∙ sym (lower_eq a.key b.key _ _ k) ∙ (rw s at by_key)
 
-      pub by-depth : a.key ≡ b.key → a.value ≡ b.value → ltb a.depth b.depth ≡ before image text a b
-      by-depth k v = lower_last a.depth b.depth ∙ sym (lower_eq a.value b.value _ _ v) ∙ sym (lower_eq a.key b.key _ _ k) ∙ (rw s at by_key)
+      pub by_depth : a.key ≡ b.key → a.value ≡ b.value → ltb a.depth b.depth ≡ before image text a b
+      by_depth k v = lower_last a.depth b.depth ∙ sym (lower_eq a.value b.value _ _ v) ∙ sym (lower_eq a.key b.key _ _ k) ∙ (rw s at by_key)

@@ -1,5 +1,6 @@
 -- Marks in bytes: what stands there after a store.
-use Rattle.wire.proofs.Kit.{ℕ, zero, suc, ◌+◌, ◌-◌, ◌*◌, ◌/◌, ◌%◌, ◌≤◌, ◌<◌, ◌≡◌, refl, sym, ap, ◌∙◌, List, [], ◌∷◌, ◌++◌, append_assoc, ◌⊎◌, inl, inr, ⊎_elim}
+use Rattle.std.specs.Prelude.{◌+◌, ◌-◌, ◌*◌, ◌/◌, ◌%◌, ◌≤◌, ◌<◌, ◌≡◌, ◌∷◌, ◌++◌, ◌⊎◌}
+use Rattle.wire.proofs.Kit.{ℕ, zero, suc, refl, sym, ap, ◌∙◌, List, [], append_assoc, inl, inr, ⊎_elim}
 use Rattle.wire.proofs.Kit.{towards_suc, arith, Bool, true, false, eqb-true, eqb-false, ltb-true, ltb-false, eqb, ltb, length, get_or, take, drop, set}
 use Rattle.wire.proofs.Kit.{length-set, length-drop, take-append-drop, sets, sets-eq, drop-cons, drop-drop, drop-append-le, drop_at, take-append-le}
 use Rattle.wire.proofs.Kit.{length-take-le}

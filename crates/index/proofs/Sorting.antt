@@ -1,6 +1,7 @@
 -- Sorting by exchanges, and by putting marks back. A row of the same marks in order is one alone: it is what putting each into its place gives (`sort_of`), which is here
 -- only to be compared with.
-use Rattle.wire.proofs.Kit.{ℕ, zero, suc, ◌+◌, ◌-◌, ◌*◌, ◌≤◌, ◌<◌, ◌≡◌, refl, sym, ap, ◌∙◌, List, [], ◌∷◌, Bool, true, false, ⊎_elim, suc-add, arith, length}
+use Rattle.std.specs.Prelude.{◌+◌, ◌-◌, ◌*◌, ◌≤◌, ◌<◌, ◌≡◌, ◌∷◌}
+use Rattle.wire.proofs.Kit.{ℕ, zero, suc, refl, sym, ap, ◌∙◌, List, [], Bool, true, false, ⊎_elim, suc-add, arith, length}
 use Rattle.wire.proofs.Kit.{get_or, set, length-set, sets, length-sets, set-set}
 use lib.Seq.{get_or-set_same, get_or-set_other, set-get_or}
 use Rattle.wire.specs.Choice.{pick}
@@ -60,14 +61,14 @@ mixed_then a b = record { same = Shuffled.then a.same b.same; behind = b.behind 
 
 pub mixed_exchange : (n : ℕ) (s : List ℕ) (i j : ℕ) (a b : Mark) → i < j → j < n → 13 * n ≤ length s → a ≡ mark_at s (13 * i) → b ≡ mark_at s (13 * j) → Small a → Small b
     → Mixed n s (sets (sets s (13 * j) (mark_bytes a)) (13 * i) (mark_bytes b))
-mixed_exchange n s i j a b h g l at_a at_b small-a small_b =
+mixed_exchange n s i j a b h g l at_a at_b small_a small_b =
     let t : List ℕ = sets s (13 * j) (mark_bytes a) in
     let m : length t ≡ length s = length-sets s (13 * j) (mark_bytes a) in
     let x : a ≡ get_or (rows n s) i nothing = at_a ∙ sym (rows_get n s i (omega arith)) in
     let y : b ≡ get_or (rows n s) j nothing = at_b ∙ sym (rows_get n s j g) in
     record {
       same =
-          rw (rows_set n t i b (omega arith) (omega arith) small_b, rows_set n s j a g l small-a, x, y)
+          rw (rows_set n t i b (omega arith) (omega arith) small_b, rows_set n s j a g l small_a, x, y)
           (exchanged (rows n s) i j h (rw (length_rows_at n 0 s) g));
       behind =
           drop_past t (13 * i) (13 * n) (mark_bytes b) (omega arith) (omega arith) ∙ drop_past s (13 * j) (13 * n) (mark_bytes a) (omega arith) (omega arith);
@@ -134,8 +135,8 @@ module _ (before : Mark → Mark → Bool) (total : Total before) where
 
     module _ (j : ℕ) (held : Mark) (xs₀ xs : List Mark) (s : Sinking i j held xs₀ xs) (inside : j < length xs) where
       -- it goes further
-      pub sink-goes : 0 < j → before held (get_or xs (j - 1) nothing) ≡ true → Sinking i (j - 1) held xs₀ (set xs j (get_or xs (j - 1) nothing))
-      sink-goes g t =
+      pub sink_goes : 0 < j → before held (get_or xs (j - 1) nothing) ≡ true → Sinking i (j - 1) held xs₀ (set xs j (get_or xs (j - 1) nothing))
+      sink_goes g t =
           let p : ℕ = j - 1 in
           let x : Mark = get_or xs p nothing in
           let ys : List Mark = set (set xs j x) p held in
@@ -144,12 +145,12 @@ module _ (before : Mark → Mark → Bool) (total : Total before) where
           let lp : p < length (set xs j x) = rw (length-set xs j x) (omega arith) in
           let at_p : get_or ys p nothing ≡ held = get_or-set_same (set xs j x) p held nothing lp in
           let at_j : get_or ys j nothing ≡ x = get_or-set_other (set xs j x) p j held nothing nj ∙ get_or-set_same xs j x nothing inside in
-          let at-m : (m : ℕ) → (m ≡ p → ⊥) → (m ≡ j → ⊥) → get_or ys m nothing ≡ get_or (set xs j held) m nothing =
+          let at_m : (m : ℕ) → (m ≡ p → ⊥) → (m ≡ j → ⊥) → get_or ys m nothing ≡ get_or (set xs j held) m nothing =
           λ m a b. get_or-set_other (set xs j x) p m held nothing a ∙ get_or-set_other xs j m x nothing b ∙ sym (get_or-set_other xs j m held nothing b) in
-          let was-p : get_or (set xs j held) p nothing ≡ x = get_or-set_other xs j p held nothing np in
+          let was_p : get_or (set xs j held) p nothing ≡ x = get_or-set_other xs j p held nothing np in
           let lj : j < length (set xs j held) = rw (length-set xs j held) inside in
           record {
-            same = Shuffled.then s.same (rw (was-p, get_or-set_same xs j held nothing inside, set-set xs j held x) at (exchanged (set xs j held) p j (omega arith) lj));
+            same = Shuffled.then s.same (rw (was_p, get_or-set_same xs j held nothing inside, set-set xs j held x) at (exchanged (set xs j held) p j (omega arith) lj));
             low = omega (arith, s.low);
             rising = λ k l ne.
                 ⊎_elim
@@ -159,19 +160,19 @@ module _ (before : Mark → Mark → Bool) (total : Total before) where
                 (λ (e : k + 1 ≡ j → ⊥).
                 ⊎_elim
                 (λ (f : k ≡ j).
-                rw (f, at_j, at-m (j + 1) (λ q. omega arith) (λ q. omega arith), ← was-p) (s.over p (omega arith) (rw f at l)))
+                rw (f, at_j, at_m (j + 1) (λ q. omega arith) (λ q. omega arith), ← was_p) (s.over p (omega arith) (rw f at l)))
                 (λ (f : k ≡ j → ⊥).
-                rw (at-m (k + 1) ne e, at-m k (λ q. e (omega arith)) f) (s.rising k l e))
+                rw (at_m (k + 1) ne e, at_m k (λ q. e (omega arith)) f) (s.rising k l e))
                 (decide k j))
                 (decide (k + 1) j);
             over = λ k e l.
                 let f : p + 1 ≡ j = omega arith in
-                rw (f, at_j, at-m k (λ q. omega arith) (λ q. omega arith), ← was-p, ← e) (s.rising k (omega (arith, s.low)) (λ q. omega arith));
+                rw (f, at_j, at_m k (λ q. omega arith) (λ q. omega arith), ← was_p, ← e) (s.rising k (omega (arith, s.low)) (λ q. omega arith));
           }
 
       -- it stays
-      pub sink-stays : (0 < j → before held (get_or xs (j - 1) nothing) ≡ false) → Rising before (i + 1) (set xs j held)
-      sink-stays t k l =
+      pub sink_stays : (0 < j → before held (get_or xs (j - 1) nothing) ≡ false) → Rising before (i + 1) (set xs j held)
+      sink_stays t k l =
           ⊎_elim
           (λ (e : k + 1 ≡ j).
           let f : k ≡ j - 1 = omega arith in

@@ -1,5 +1,6 @@
 -- How the code goes over an image.
-use Rattle.wire.proofs.Kit.{ℕ, zero, suc, ◌+◌, ◌-◌, ◌*◌, ◌≤◌, ◌<◌, ◌≡◌, refl, ap, List, Bool, true, false, sub-one, arith, leb, eqb, length, get_or}
+use Rattle.std.specs.Prelude.{◌+◌, ◌-◌, ◌*◌, ◌≤◌, ◌<◌, ◌≡◌}
+use Rattle.wire.proofs.Kit.{ℕ, zero, suc, refl, ap, List, Bool, true, false, sub-one, arith, leb, eqb, length, get_or}
 use Rattle.wire.specs.Choice.{pick}
 use Rattle.wire.specs.Field.{to}
 use Rattle.wire.specs.Text.{inside_of, part_of}
@@ -18,11 +19,8 @@ use Rattle.amf0.proofs.Putting.{past, Past}
 use Rattle.index.specs.declared.walk.Rest.{Rest}
 use Rattle.index.specs.declared.walk.Rest.TheVariants.{Nothing, Pairs, Dense, Body, Values}
 use Rattle.index.specs.declared.walk.Role.{Role}
-use Rattle.index.specs.declared.walk.Role.TheVariants as Role
 use Rattle.index.specs.declared.walk.Begun.{Begun}
-use Rattle.index.specs.declared.walk.Begun.TheVariants as Begun
 use Rattle.index.specs.declared.walk.Coming.{Coming}
-use Rattle.index.specs.declared.walk.Coming.TheVariants as Coming
 use Rattle.index.specs.Mark.{mark, mark_bytes}
 use Rattle.index.specs.Keys.{role_of, own_by, own_in, key_by, key_in, own_of, pair_at, turn_of, rest, value}
 use Rattle.index.specs.Code.{Onward}

@@ -1,5 +1,5 @@
 -- What the functions inside the crate promise each other: how far a sort has come, and how far the walk.
-use Rattle.wire.specs.Kit.{ℕ, ◌+◌, ◌*◌, ◌≤◌, ◌≡◌, List, Bool, drop}
+use Rattle.std.specs.Prelude.{ℕ, ◌+◌, ◌*◌, ◌≤◌, ◌≡◌, List, Bool, drop}
 use Rattle.wire.specs.declared.cursor.Cursor.{Cursor}
 use Rattle.image.specs.declared.reading.Step.{Step}
 use Rattle.image.specs.declared.reading.Step.TheVariants.{Next}
@@ -7,7 +7,6 @@ use Rattle.image.specs.Out.{Out, end, stop, ◌>>=◌}
 use Rattle.index.specs.declared.mark.Mark.{Mark}
 use Rattle.index.specs.declared.walk.Rest.{Rest}
 use Rattle.index.specs.declared.walk.Ahead.{Ahead}
-use Rattle.index.specs.declared.walk.Ahead.TheVariants as Ahead
 use Rattle.index.specs.Mark.{rows}
 use Rattle.index.specs.Sort.{Shuffled, Rising}
 

@@ -1,6 +1,6 @@
 -- Looking up a key of a container among marks, by halves, and a path of keys. All of it is said of any marks; that it finds the ways of a tree is proved of those
 -- that an index holds.
-use Rattle.wire.specs.Kit.{ℕ, zero, suc, ◌+◌, ◌-◌, ◌/◌, List, Bool, true, false, ltb, eqb, length, get_or}
+use Rattle.std.specs.Prelude.{ℕ, zero, suc, ◌+◌, ◌-◌, ◌/◌, List, Bool, true, false, ltb, eqb, length, get_or}
 use Rattle.wire.specs.Choice.{pick}
 use Rattle.wire.specs.Field.{u16_at, got16}
 use Rattle.wire.specs.Text.{inside_of, part_of}
@@ -14,9 +14,7 @@ use Rattle.index.specs.declared.order.Order.TheVariants.{Less, Same, More}
 use Rattle.index.specs.declared.walk.Rest.{Rest}
 use Rattle.index.specs.declared.walk.Rest.TheVariants.{Nothing, Pairs, Dense, Body, Values}
 use Rattle.index.specs.declared.walk.Role.{Role}
-use Rattle.index.specs.declared.walk.Role.TheVariants as Role
 use Rattle.index.specs.declared.find.Way.{Way}
-use Rattle.index.specs.declared.find.Way.TheVariants as Way
 use Rattle.index.specs.Mark.{nothing}
 use Rattle.index.specs.Keys.{role_of, role_at}
 use Rattle.index.specs.Order.{order_of, key_of}

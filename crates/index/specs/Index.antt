@@ -1,5 +1,5 @@
 -- The index of an image, and what the public call comes to.
-use Rattle.wire.specs.Kit.{ℕ, suc, ◌/◌, ◌≡◌, List, [], leb, length}
+use Rattle.std.specs.Prelude.{ℕ, suc, ◌/◌, ◌≡◌, List, [], leb, length}
 use Rattle.wire.specs.Choice.{pick}
 use Rattle.wire.specs.Field.{to}
 use Rattle.wire.specs.Limit as limit
@@ -7,16 +7,14 @@ use Rattle.wire.specs.declared.cursor.Cursor.{Cursor}
 use Rattle.image.specs.declared.taking.Taken.{Taken}
 use Rattle.image.specs.declared.taking.Taken.TheVariants.{Found, Bad}
 use Rattle.image.specs.Taking.{record_at}
-use Rattle.image.specs.Out.{Out, end, stop, put, bytes as bytesOut, named_at}
+use Rattle.image.specs.Out.{Out, end, stop, put, bytes as bytes_out, named_at}
 use Rattle.image.specs.Whole.{padded}
 use Rattle.amf0.specs.Writing.{whole}
 use Rattle.index.specs.declared.make.Indexing.{Indexing}
 use Rattle.index.specs.declared.mark.Mark.{Mark}
 use Rattle.index.specs.declared.walk.Rest.TheVariants.{Body, Values}
 use Rattle.index.specs.declared.walk.Role.{Role}
-use Rattle.index.specs.declared.walk.Role.TheVariants as Role
 use Rattle.index.specs.declared.walk.Begun.{Begun}
-use Rattle.index.specs.declared.walk.Begun.TheVariants as Begun
 use Rattle.index.specs.Mark.{flat, rows}
 use Rattle.index.specs.Order.{before}
 use Rattle.index.specs.Sort.{Sorted}
@@ -65,7 +63,7 @@ unless (stop a p) x = unindexed a
 unless (put b d) x = unless d x
 
 abbrev pub indexed : Out → ℕ → Indexed
-indexed d room = unless d (pick (leb (length (bytesOut d)) room) (keyed (bytesOut d)) (unindexed 4))
+indexed d room = unless d (pick (leb (length (bytes_out d)) room) (keyed (bytes_out d)) (unindexed 4))
 
 -- what the public call comes to, in a room
 abbrev pub index_of : List ℕ → List ℕ → ℕ → Indexed

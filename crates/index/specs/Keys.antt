@@ -1,5 +1,5 @@
 -- The keys of an image, in the order of reading: each is put out as its mark, and the image's own refusals end the walk.
-use Rattle.wire.specs.Kit.{ℕ, zero, suc, ◌+◌, ◌-◌, List, Bool, true, false, leb, eqb, length}
+use Rattle.std.specs.Prelude.{ℕ, zero, suc, ◌+◌, ◌-◌, List, Bool, true, false, leb, eqb, length}
 use Rattle.wire.specs.Choice.{pick}
 use Rattle.wire.specs.Field.{to}
 use Rattle.wire.specs.Limit as limit
@@ -14,11 +14,8 @@ use Rattle.amf0.specs.Writing.{value_at}
 use Rattle.index.specs.declared.walk.Rest.{Rest}
 use Rattle.index.specs.declared.walk.Rest.TheVariants.{Nothing, Pairs, Dense, Body, Values}
 use Rattle.index.specs.declared.walk.Role.{Role}
-use Rattle.index.specs.declared.walk.Role.TheVariants as Role
 use Rattle.index.specs.declared.walk.Begun.{Begun}
-use Rattle.index.specs.declared.walk.Begun.TheVariants as Begun
 use Rattle.index.specs.declared.walk.Coming.{Coming}
-use Rattle.index.specs.declared.walk.Coming.TheVariants as Coming
 use Rattle.index.specs.Mark.{mark, mark_bytes}
 
 -- what each record is, with the text that it names and what follows it

@@ -1,5 +1,5 @@
 -- A mark of the index in thirteen bytes.
-use Rattle.wire.specs.Kit.{ℕ, zero, suc, ◌+◌, ◌^◌, ◌<◌, List, [], ◌∷◌, ◌++◌}
+use Rattle.std.specs.Prelude.{ℕ, zero, suc, ◌+◌, ◌^◌, ◌<◌, List, [], ◌∷◌, ◌++◌}
 use Rattle.wire.specs.Number.{digits, number}
 use Rattle.wire.specs.Field.{bytes_at}
 use Rattle.index.specs.declared.mark.Mark.{Mark}

@@ -1,12 +1,11 @@
 -- The order of the marks: by container, then by the key's bytes, a prefix first, then by the key's place.
-use Rattle.wire.specs.Kit.{ℕ, suc, List, [], ◌∷◌, ◌++◌, map, Bool, true, false, ltb}
+use Rattle.std.specs.Prelude.{ℕ, suc, List, [], ◌∷◌, ◌++◌, map, Bool, true, false, ltb}
 use Rattle.wire.specs.Choice.{pick}
 use Rattle.wire.specs.Text.{part_of}
 use Rattle.index.specs.declared.mark.Mark.{Mark}
 use Rattle.index.specs.declared.order.Order.{Order}
 use Rattle.index.specs.declared.order.Order.TheVariants.{Less, Same, More}
 use Rattle.index.specs.declared.walk.Role.{Role}
-use Rattle.index.specs.declared.walk.Role.TheVariants as Role
 use Rattle.index.specs.Keys.{role_at}
 
 -- two texts, a prefix first

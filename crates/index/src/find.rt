@@ -13,7 +13,7 @@ use wire::cursor::{Cursor, U16};
 use wire::text::{inside, part};
 
 // The image place of a value's record; or there is no such way.
-#[derive(Drop)]
+#[derive(Clone, Copy)]
 pub enum Way {
     At(usize),
     Nothing,

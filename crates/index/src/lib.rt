@@ -1,3 +1,5 @@
+#![tactic(auto)]
+
 pub mod find;
 pub mod make;
 pub mod mark;

@@ -1,6 +1,6 @@
 // Making the index of a value or a file.
 ghost use Rattle.std.specs.Prelude.{◌≡◌, [], ◌≤◌, length};
-ghost use Rattle.wire.specs.Limit.{«image» as most-image};
+ghost use Rattle.wire.specs.Limit.{«image» as most_image};
 ghost use Rattle.image.specs.Out.{pour, poured};
 ghost use Rattle.image.specs.Whole.{padded};
 ghost use Rattle.index.specs.Index.{root_of, keys_of, index_of, indexing, Holds};
@@ -14,7 +14,7 @@ use wire::answer::{ACCEPTED, NO_ROOM, NO_TREE, OVER_LIMIT};
 use wire::cursor::Cursor;
 use wire::limit;
 
-#[derive(Drop)]
+#[derive(Clone, Copy)]
 pub struct Indexing {
     pub answer: u8,
     pub count: usize,
@@ -37,7 +37,7 @@ fn root(image: &[u8], text: &[u8]) -> Begun
 
 // The marks of all keys, in the order of reading, where they have room.
 fn gather(image: &[u8], text: &[u8], index: &mut [u8]) -> Step
-    requires { length image.now ≤ most-image }
+    requires { length image.now ≤ most_image }
     ensures { poured result index.new ≡ pour (keys_of image.now text.now) 0 index.old }
 {
     match root(image, text) {

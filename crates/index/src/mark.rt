@@ -6,7 +6,7 @@ ghost use Rattle.wire.specs.Field.{bytes_at};
 ghost use Rattle.index.specs.Mark.{mark_at, mark_bytes, Small};
 
 // The depth of the key's value, and the image places of the container's record, of the key's record and of the value's.
-#[derive(Drop)]
+#[derive(Clone, Copy)]
 pub struct Mark {
     pub depth: u8,
     pub container: u32,

@@ -8,7 +8,7 @@ use image::taking::short_at;
 use wire::cursor::{Cursor, Text, U8};
 use wire::text::part;
 
-#[derive(Drop)]
+#[derive(Clone, Copy)]
 pub enum Order {
     Less,
     Same,

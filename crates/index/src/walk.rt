@@ -1,7 +1,7 @@
 // Going over an image: its keys, in the order of reading.
 ghost use Rattle.std.specs.Prelude.{◌≡◌, ℕ, suc, ◌+◌, ◌-◌, ◌*◌, ◌≤◌, ◌<◌, length};
 ghost use Rattle.wire.specs.Bytes.{laid};
-ghost use Rattle.wire.specs.Limit.{«image» as most-image};
+ghost use Rattle.wire.specs.Limit.{«image» as most_image};
 ghost use Rattle.image.specs.Out.{Out, named_at, pour, poured};
 ghost use Rattle.index.specs.Mark.{mark_bytes};
 ghost use Rattle.index.specs.Keys.{role_of, own_of, pair_at, turn_of, value, rest as rest_of};
@@ -19,7 +19,7 @@ use wire::text::{inside, part};
 use wire::utf8::is_utf8;
 
 // What follows a record: nothing, pairs up to the end, values without a key before such pairs, pairs up to the image's end, or so many values.
-#[derive(Drop)]
+#[derive(Clone, Copy)]
 pub enum Rest {
     Nothing,
     Pairs,
@@ -29,7 +29,7 @@ pub enum Rest {
 }
 
 // What a record is here, with the text that it names.
-#[derive(Drop)]
+#[derive(Clone, Copy)]
 pub enum Role {
     Value(usize, usize, Rest),
     Key(usize, usize),
@@ -75,7 +75,7 @@ pub(crate) fn named(text: &[u8], p: usize, n: usize) -> bool
 }
 
 // A value's record: the cursor behind it, and what follows.
-#[derive(Drop)]
+#[derive(Clone, Copy)]
 pub enum Begun {
     Next(Cursor, Rest),
     Stop,
@@ -95,7 +95,7 @@ fn own(image: &[u8], text: &[u8], c: Cursor) -> Begun
 }
 
 // What comes next: nothing any more; a value without a key; a key, whose value is at the cursor. Behind a value, this is due then.
-#[derive(Drop)]
+#[derive(Clone, Copy)]
 pub enum Coming {
     Done(Cursor),
     Value(Cursor, Rest),
@@ -164,7 +164,7 @@ fn emit(index: &mut [u8], count: usize, m: Mark)
 }
 
 // The next value, with its key's mark put behind so many bytes.
-#[derive(Drop)]
+#[derive(Clone, Copy)]
 pub enum Ahead {
     Done(Cursor),
     Value(Cursor, usize, Rest),
@@ -181,7 +181,7 @@ fn go_on(
     place: usize,
     due: Rest,
 ) -> Ahead
-    requires { (length image.now ≤ most-image) × (c.at ≤ length image.now) × (place ≤ length image.now) × (count ≤ 13 * c.at) × (left ≤ 32) }
+    requires { (length image.now ≤ most_image) × (c.at ≤ length image.now) × (place ≤ length image.now) × (count ≤ 13 * c.at) × (left ≤ 32) }
     ensures by_index { (inner : ℕ → Out) → (f : ℕ) → 0 < f → pour (rest_of inner image.now text.now place (33 - left) f due c.at) count index.old ≡ pour (on_of result c.at inner (rest_of inner image.now text.now place (33 - left) (f - 1))) (count_of result count) index.new }
     ensures ready { Ready result c.at (length image.now) count }
 {
@@ -218,7 +218,7 @@ pub(crate) fn follow(
     place: usize,
     rest: Rest,
 ) -> Step
-    requires { (length image.now ≤ most-image) × (start.at ≤ length image.now) × (place ≤ length image.now) × (done ≤ 13 * start.at) × (left ≤ 32) }
+    requires { (length image.now ≤ most_image) × (start.at ≤ length image.now) × (place ≤ length image.now) × (done ≤ 13 * start.at) × (left ≤ 32) }
     ensures index_after { poured result index.new ≡ pour (rest_of (value left image.now text.now) image.now text.now place (33 - left) (suc (length image.now)) rest start.at) done index.old }
     ensures onward { Onward result start.at (length image.now) done }
 {
