@@ -1,5 +1,6 @@
 -- What the standard calls a value is read as that value.
-use Rattle.wire.proofs.Kit.{ℕ, zero, suc, ◌+◌, ◌-◌, ◌^◌, ◌≤◌, ◌<◌, ◌≡◌, refl, sym, ap, ap₂, ◌∙◌, List, [], ◌∷◌, ◌++◌, true, arith, length, length-append, length-drop}
+use Rattle.std.specs.Prelude.{◌+◌, ◌-◌, ◌^◌, ◌≤◌, ◌<◌, ◌≡◌, ◌∷◌, ◌++◌}
+use Rattle.wire.proofs.Kit.{ℕ, zero, suc, refl, sym, ap, ap₂, ◌∙◌, List, [], true, arith, length, length-append, length-drop}
 use Rattle.wire.proofs.Kit.{eqb, lit<}
 use Prim.Native.Nat.{pred}
 use Rattle.wire.specs.Choice.{pick}
@@ -7,14 +8,13 @@ use Rattle.wire.specs.Number.{digits}
 use Rattle.wire.specs.Utf8.{utf8, ends}
 use Rattle.wire.specs.Field.{bytes_at, u8_at, got8}
 use Rattle.wire.specs.declared.cursor.U8.{U8}
-use Rattle.wire.specs.declared.cursor.U8.TheVariants as U8
 use Rattle.wire.proofs.Stands.{Here, cut, skip, inside, there, byte_at, text_at_lem}
 use Rattle.image.specs.declared.record.Record.{Record}
 use Rattle.image.specs.declared.record.Record.TheVariants.{Key, ObjectEnd}
 use Rattle.image.specs.Due.{Due, end, stop, seen, due, ◌>>=◌}
 use Rattle.image.specs.Due.Fact.{own, dropped}
 use Rattle.amf0.specs.declared.read.Follow.{Follow}
-use Rattle.amf0.specs.declared.read.Fields.TheVariants.{Got, Stop}
+use Rattle.amf0.specs.declared.read.Fields.TheVariants.{Stop}
 use Rattle.amf0.specs.Marker.{marker_of}
 use Rattle.amf0.specs.Fields.{gives, got_fields, behind}
 use Rattle.amf0.specs.Reading.{items, pair, pairs, follow, own_at, value}

@@ -1,11 +1,12 @@
 -- What stands where a record of a value's reading is due.
-use Rattle.wire.proofs.Kit.{ℕ, zero, suc, ◌+◌, refl, ap, List, ◌++◌, length, eqb, eqb-true}
+use Rattle.std.specs.Prelude.{◌+◌, ◌++◌}
+use Rattle.wire.proofs.Kit.{ℕ, zero, suc, refl, ap, List, length, eqb, eqb-true}
 use Rattle.wire.specs.Number.{digits, Bytes}
 use Rattle.wire.proofs.Laws.{picked}
 use Rattle.wire.proofs.Stands.{Here, skip, there, end8, end_text}
 use Rattle.image.specs.declared.record.Record.{Record}
 use Rattle.image.specs.declared.record.Record.TheVariants.{Key}
-use Rattle.image.specs.Due.{Due, Fact, end, stop, seen, due, Lacks}
+use Rattle.image.specs.Due.{Due, Fact, stop, seen, due, Lacks}
 use Rattle.image.proofs.Settle.{AllDue, due_bind, due_lacks}
 use Rattle.amf0.specs.declared.read.Follow.{Follow}
 use Rattle.amf0.specs.declared.read.Follow.TheVariants.{Nothing, Pairs, Values}

@@ -1,8 +1,8 @@
 -- What leads to a field: a value that is too deep leads to the marker of one too many, and bytes behind a field that is there change nothing.
-use Rattle.wire.proofs.Kit.{ℕ, zero, suc, ◌+◌, ◌≤◌, ◌<◌, ◌≡◌, refl, sym, ap, ◌∙◌, ◌≢◌, List, [], ◌∷◌, ◌++◌, append-nil, arith, length, drop, length-append}
+use Rattle.std.specs.Prelude.{◌+◌, ◌≤◌, ◌<◌, ◌≡◌, ◌≢◌, ◌∷◌, ◌++◌}
+use Rattle.wire.proofs.Kit.{ℕ, zero, suc, refl, sym, ap, ◌∙◌, List, [], append-nil, arith, length, drop, length-append}
 use Rattle.wire.proofs.Kit.{eqb-false}
 use Rattle.wire.proofs.Stands.{Here, cut, skip, byte_at}
-use Rattle.amf0.specs.Reading.{value}
 use Rattle.amf0.specs.Standard.{Sort, Tree, depth, Encodes}
 use Rattle.amf0_theorems.specs.Refusal.{Field, Bars, Refuses, Leads}
 use Rattle.amf0_theorems.proofs.Refused.{refuse, onward, reworded}

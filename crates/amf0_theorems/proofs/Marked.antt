@@ -1,5 +1,6 @@
 -- What is so of each row of the standard's, and of the record that is read of it.
-use Rattle.wire.proofs.Kit.{ℕ, zero, suc, ◌+◌, ◌^◌, ◌≤◌, ◌<◌, ◌≡◌, refl, ap, ◌∙◌, List, [], ◌∷◌, ◌++◌, true, false, le_refl, arith, length, length-append, leb, leb-false, lit<}
+use Rattle.std.specs.Prelude.{◌+◌, ◌^◌, ◌≤◌, ◌<◌, ◌≡◌, ◌∷◌, ◌++◌}
+use Rattle.wire.proofs.Kit.{ℕ, zero, suc, refl, ap, ◌∙◌, List, [], true, false, le_refl, arith, length, length-append, leb, leb-false, lit<}
 use Rattle.wire.specs.Number.{digits, Bytes}
 use Rattle.wire.specs.Utf8.{Range, utf8}
 use Rattle.wire.proofs.Rfc3629.{Match, Char, Utf8, utf8_sound}

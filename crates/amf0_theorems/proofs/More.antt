@@ -1,5 +1,6 @@
 -- More room changes nothing, and bytes left over change one answer: the laws for any call that settles a reading in a room.
-use Rattle.wire.proofs.Kit.{ℕ, ◌+◌, ◌≤◌, ◌≡◌, refl, sym, ap, ◌∙◌, subst, ◌≢◌, ◌↔◌, List, [], Bool, true, false, arith, length}
+use Rattle.std.specs.Prelude.{◌+◌, ◌≤◌, ◌≡◌, ◌≢◌, ◌↔◌}
+use Rattle.wire.proofs.Kit.{ℕ, refl, sym, ap, ◌∙◌, subst, List, [], Bool, true, false, arith, length}
 use Rattle.wire.specs.Choice.{pick}
 use Rattle.image.specs.Due.{Due, end, stop, seen, due, on_end}
 use Rattle.image.specs.Whole.{Whole, bytes, refused, in_room, all}

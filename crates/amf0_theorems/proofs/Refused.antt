@@ -1,5 +1,6 @@
 -- The laws of a refusal by a field, whatever fields lead to it.
-use Rattle.wire.proofs.Kit.{ℕ, ◌+◌, ◌^◌, ◌≤◌, ◌<◌, ◌≡◌, refl, sym, ap, ◌∙◌, ◌≢◌, List, [], ◌∷◌, ◌++◌, append_assoc, true, arith, length, take, drop}
+use Rattle.std.specs.Prelude.{◌+◌, ◌^◌, ◌≤◌, ◌<◌, ◌≡◌, ◌≢◌, ◌∷◌, ◌++◌}
+use Rattle.wire.proofs.Kit.{ℕ, refl, sym, ap, ◌∙◌, List, [], append_assoc, true, arith, length, take, drop}
 use Rattle.wire.proofs.Kit.{length-append, length-drop, take-append-le, drop-append-le, le-leb, lt-leb, eqb, ne_eqb}
 use lib.Seq.{take-nil}
 use Rattle.wire.specs.Number.{digits, number, Bytes}

@@ -1,5 +1,6 @@
 -- Where a field refuses the input, the reading of a value stops.
-use Rattle.wire.proofs.Kit.{ℕ, zero, suc, ◌+◌, ◌^◌, ◌≤◌, ◌<◌, ◌≡◌, refl, sym, ap, ◌∙◌, ◌≢◌, List, [], ◌∷◌, ◌++◌, true, arith, length, drop, get_or, length-append}
+use Rattle.std.specs.Prelude.{◌+◌, ◌^◌, ◌≤◌, ◌<◌, ◌≡◌, ◌≢◌, ◌∷◌, ◌++◌}
+use Rattle.wire.proofs.Kit.{ℕ, zero, suc, refl, sym, ap, ◌∙◌, List, [], true, arith, length, drop, get_or, length-append}
 use Rattle.wire.proofs.Kit.{eqb, le-leb, lt-leb, eqb-true, ne_eqb}
 use Prim.Native.Nat.{pred}
 use Rattle.wire.specs.Number.{digits, number}
@@ -47,8 +48,8 @@ value_bars (suc left) s at record_set e = rw e
 
 -- where no level is left, a marker that marks a value is refused with 5
 shut_deep : (m : ℕ) → (Bars m → ⊥) → shut (marker_of m) ≡ 5
-shut_deep m no-bars =
-    rw (shut_number m, ne_eqb m 4 (λ e. no-bars (rw e movie_clip)), ne_eqb m 9 (λ e. no-bars (rw e object_end)), ne_eqb m 14 (λ e. no-bars (rw e record_set)))
+shut_deep m no_bars =
+    rw (shut_number m, ne_eqb m 4 (λ e. no_bars (rw e movie_clip)), ne_eqb m 9 (λ e. no_bars (rw e object_end)), ne_eqb m 14 (λ e. no_bars (rw e record_set)))
 
 -- a marker that refuses the input
 marker_stops : {r : List ℕ} {left a : ℕ} (s : List ℕ) (at : ℕ) → Refuses (Field.marker left) r a → Here s at [] r → at ≤ length s → value left s at ≡ stop a at

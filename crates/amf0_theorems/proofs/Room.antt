@@ -1,5 +1,6 @@
 -- The round trip in every room that is not refused for room, and so in the room of the first reading: its image has as many bytes as the other.
-use Rattle.wire.proofs.Kit.{ℕ, ◌*◌, ◌≤◌, ◌≡◌, refl, sym, ap, ◌∙◌, ◌≢◌, List, [], ◌∷◌, map, le_refl, arith, length}
+use Rattle.std.specs.Prelude.{◌*◌, ◌≤◌, ◌≡◌, ◌≢◌, ◌∷◌}
+use Rattle.wire.proofs.Kit.{ℕ, refl, sym, ap, ◌∙◌, List, [], map, le_refl, arith, length}
 use Rattle.wire.specs.Number.{Bytes}
 use Rattle.image.specs.declared.record.Record.{Record}
 use Rattle.image.specs.Record.{unplaced}

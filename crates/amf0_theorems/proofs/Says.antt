@@ -1,5 +1,6 @@
 -- What a record says is what it is put out as, and that is a row of the standard's.
-use Rattle.wire.proofs.Kit.{ℕ, zero, suc, ◌+◌, ◌^◌, ◌<◌, ◌≡◌, refl, ap, ◌∙◌, List, [], ◌∷◌, ◌++◌, append-nil, Bool, true, false, arith, length, leb, le-leb}
+use Rattle.std.specs.Prelude.{◌+◌, ◌^◌, ◌<◌, ◌≡◌, ◌∷◌, ◌++◌}
+use Rattle.wire.proofs.Kit.{ℕ, zero, suc, refl, ap, ◌∙◌, List, [], append-nil, Bool, true, false, arith, length, leb, le-leb}
 use Rattle.wire.proofs.Kit.{leb-true, leb-false}
 use Rattle.wire.specs.Number.{digits}
 use Rattle.wire.specs.Utf8.{ends}

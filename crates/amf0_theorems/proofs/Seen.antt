@@ -1,5 +1,6 @@
 -- What stands at a place of an image, as a writing sees it: the record that is due there, or none.
-use Rattle.wire.proofs.Kit.{ℕ, ◌+◌, ◌≤◌, ◌≡◌, refl, sym, ap, ◌∙◌, List, [], ◌∷◌, Bool, true, false, arith, length, drop, length-drop, leb, eqb, leb-true}
+use Rattle.std.specs.Prelude.{◌+◌, ◌≤◌, ◌≡◌, ◌∷◌}
+use Rattle.wire.proofs.Kit.{ℕ, refl, sym, ap, ◌∙◌, List, [], Bool, true, false, arith, length, drop, length-drop, leb, eqb, leb-true}
 use Rattle.wire.proofs.Kit.{eq-eqb, eqb-true}
 use Rattle.wire.specs.Choice.{pick}
 use Rattle.wire.specs.Number.{Bytes}

@@ -1,5 +1,6 @@
 -- What a writing comes to, with no word of what it writes.
-use Rattle.wire.proofs.Kit.{ℕ, ◌≤◌, List, ◌≢◌, length}
+use Rattle.std.specs.Prelude.{◌≤◌, ◌≢◌}
+use Rattle.wire.proofs.Kit.{ℕ, List, length}
 use Rattle.image.specs.Out.{Written, written, unwritten}
 
 -- a refusal counts 0 and has no byte; an acceptance counts the bytes that it has, and they have room

@@ -1,5 +1,6 @@
 -- What a tree is written as encodes it, and no encoding of it is shorter.
-use Rattle.wire.proofs.Kit.{ℕ, zero, suc, ◌+◌, ◌/◌, ◌%◌, ◌^◌, ◌≤◌, ◌<◌, ◌≡◌, refl, List, [], ◌∷◌, ◌++◌, append_assoc, append-nil, true, le_refl, pow-suc, arith}
+use Rattle.std.specs.Prelude.{◌+◌, ◌/◌, ◌%◌, ◌^◌, ◌≤◌, ◌<◌, ◌≡◌, ◌∷◌, ◌++◌}
+use Rattle.wire.proofs.Kit.{ℕ, zero, suc, refl, List, [], append_assoc, append-nil, true, le_refl, pow-suc, arith}
 use Rattle.wire.proofs.Kit.{length, length-append, ltb, le-leb, ltb-true, ltb-false}
 use Rattle.wire.specs.Number.{digits}
 use Rattle.wire.specs.Bytes.{places, decimal}

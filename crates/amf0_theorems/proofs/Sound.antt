@@ -1,5 +1,6 @@
 -- What is read as a value is one, by the standard.
-use Rattle.wire.proofs.Kit.{ℕ, zero, suc, ◌+◌, ◌≤◌, ◌≡◌, refl, List, [], ◌∷◌, ◌++◌, arith, length, length-append, eqb, eqb-true}
+use Rattle.std.specs.Prelude.{◌+◌, ◌≤◌, ◌≡◌, ◌∷◌, ◌++◌}
+use Rattle.wire.proofs.Kit.{ℕ, zero, suc, refl, List, [], arith, length, length-append, eqb, eqb-true}
 use Rattle.wire.specs.Number.{digits, Bytes}
 use Rattle.wire.proofs.Laws.{picked}
 use Rattle.wire.proofs.Stands.{Here, join, end8, end_text}

@@ -1,6 +1,7 @@
 -- Demand 2 for a tree that was read in a span of an input: its image, over the input, is written, in no more bytes than the span, and reads back as the same
 -- tree.
-use Rattle.wire.proofs.Kit.{ℕ, ◌+◌, ◌*◌, ◌≤◌, ◌≡◌, sym, ap, ◌∙◌, ◌≢◌, List, le_refl, arith, length, drop}
+use Rattle.std.specs.Prelude.{◌+◌, ◌*◌, ◌≤◌, ◌≡◌, ◌≢◌}
+use Rattle.wire.proofs.Kit.{ℕ, sym, ap, ◌∙◌, List, le_refl, arith, length, drop}
 use Rattle.wire.specs.Field.{bytes_at}
 use Rattle.wire.specs.Limit as limit
 use Rattle.wire.specs.Number.{Bytes}

@@ -1,5 +1,6 @@
 -- Spans of an input, with no word of what holds them: what a span answers by any sober reader of its bytes, and what a change inside spans leaves as it was.
-use Rattle.wire.proofs.Kit.{ℕ, zero, suc, ◌+◌, ◌≤◌, ◌<◌, ◌≡◌, refl, sym, ap, ◌∙◌, ◌≢◌, ◌⊎◌, inl, inr, ⊎_elim, List, [], ◌∷◌, ◌++◌, append-nil, map}
+use Rattle.std.specs.Prelude.{◌+◌, ◌≤◌, ◌<◌, ◌≡◌, ◌≢◌, ◌⊎◌, ◌∷◌, ◌++◌}
+use Rattle.wire.proofs.Kit.{ℕ, zero, suc, refl, sym, ap, ◌∙◌, inl, inr, ⊎_elim, List, [], append-nil, map}
 use Rattle.wire.proofs.Kit.{arith, add-zero, le_refl, length, get_or, take, drop, length-append, length-take, length-drop, length-take-le}
 use Rattle.wire.proofs.Kit.{take-append-drop, drop-append_seam, leb, leb-true, leb-false, le-leb, lt-leb, ap₂, take-length, take-append_seam}
 use lib.Seq.{ext_get_or, get_or-take, get_or-drop}

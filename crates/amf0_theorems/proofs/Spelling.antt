@@ -1,11 +1,12 @@
 -- Records that tell a tree spell it, and those that a reading makes can stand in an image.
-use Rattle.wire.proofs.Kit.{ℕ, ◌+◌, ◌≤◌, ◌≡◌, refl, sym, ap, ◌∙◌, List, [], ◌∷◌, ◌++◌, append_assoc, append-nil, arith, length}
+use Rattle.std.specs.Prelude.{◌+◌, ◌≤◌, ◌≡◌, ◌∷◌, ◌++◌}
+use Rattle.wire.proofs.Kit.{ℕ, refl, sym, ap, ◌∙◌, List, [], append_assoc, append-nil, arith, length}
 use Rattle.wire.specs.Limit as limit
 use Rattle.wire.proofs.Stands.{Here}
 use Rattle.image.specs.declared.record.Record.{Record}
 use Rattle.image.specs.Due.{Due, end}
 use Rattle.image.specs.Whole.{bytes}
-use Rattle.amf0.specs.Reading.{value, top_value}
+use Rattle.amf0.specs.Reading.{top_value}
 use Rattle.amf0.specs.Standard.{Sort, Tree, depth, Encodes, Content, content, sort_of}
 use Rattle.amf0.specs.Standard.Tree.{node, none, property, nil, cons}
 use Rattle.amf0.specs.Shown.{Word, told, words, Right, Shows}

@@ -1,5 +1,6 @@
 -- Where the reading of a value stops, a field refuses the input.
-use Rattle.wire.proofs.Kit.{ℕ, zero, suc, ◌+◌, ◌≤◌, ◌<◌, ◌≡◌, refl, ap, ◌∙◌, ◌≢◌, List, [], ◌∷◌, ◌++◌, false, arith, length, drop, get_or, length-append}
+use Rattle.std.specs.Prelude.{◌+◌, ◌≤◌, ◌<◌, ◌≡◌, ◌≢◌, ◌∷◌, ◌++◌}
+use Rattle.wire.proofs.Kit.{ℕ, zero, suc, refl, ap, ◌∙◌, List, [], false, arith, length, drop, get_or, length-append}
 use Rattle.wire.proofs.Kit.{length-drop, leb, eqb, leb-true, leb-false, eqb-true, eqb-false}
 use Rattle.wire.specs.Number.{digits, number, Bytes}
 use Rattle.wire.specs.Field.{bytes_at, text_at, got_text}
@@ -88,10 +89,10 @@ module _ (left : ℕ) (s : List ℕ) (bs : Bytes s) (at : ℕ) (l : at < length 
       ▸ (λ r h. bar_told object_end h)
       ▸ (λ r h. go32 (ToldFields left s at) Stop s (at + 1) _
       (λ i. picked (ToldFields left s at) (leb (at + 1 + 4 + number (bytes_at 4 s (at + 1))) (length s)) _ _
-      (λ j. leb-true _ _ j) (λ j. few-told h i (leb-false _ _ j)))
+      (λ j. leb-true _ _ j) (λ j. few_told h i (leb-false _ _ j)))
       (λ i. refuse h refl (Leads.own Own.strict_array) (Refuses.short (omega (arith, left_over h (omega arith))))))
       ▸ (λ r h. go64 (ToldFields left s at) Stop s (at + 1) _
-      (λ i. go16 (ToldFields left s at) Stop s (at + 1 + 8) _ (λ j. omega arith) (λ j. zone-told h i j))
+      (λ i. go16 (ToldFields left s at) Stop s (at + 1 + 8) _ (λ j. omega arith) (λ j. zone_told h i j))
       (short_told Own.date h))
       ▸ (λ r h. text_told _ Nothing refl (omega arith) (λ x g. Own.long_string) h)
       ▸ (λ r h. omega arith)
@@ -101,15 +102,15 @@ module _ (left : ℕ) (s : List ℕ) (bs : Bytes s) (at : ℕ) (l : at < length 
       ▸ (λ r h. omega arith)
       ▸ tt
     where
-      few-told : {r : List ℕ} → Here s at (0x0A ∷ []) r → at + 1 + 4 ≤ length s → length s < at + 1 + 4 + number (bytes_at 4 s (at + 1))
+      few_told : {r : List ℕ} → Here s at (0x0A ∷ []) r → at + 1 + 4 ≤ length s → length s < at + 1 + 4 + number (bytes_at 4 s (at + 1))
           → RefusedValue (suc left) s at 2 (at + 1)
-      few-told {r} h i j =
+      few_told {r} h i j =
           let e : drop (at + 1) s ≡ r = after h refl in
           refuse h refl (Leads.own Own.strict_array)
           (Refuses.too_few (omega (arith, left_over h (omega arith))) (rw (← e) (omega (arith, length-drop (at + 1) s))))
 
-      zone-told : {r : List ℕ} → Here s at (0x0B ∷ []) r → at + 1 + 8 ≤ length s → length s < at + 1 + 8 + 2 → RefusedValue (suc left) s at 2 (at + 1 + 8)
-      zone-told h i j =
+      zone_told : {r : List ℕ} → Here s at (0x0B ∷ []) r → at + 1 + 8 ≤ length s → length s < at + 1 + 8 + 2 → RefusedValue (suc left) s at 2 (at + 1 + 8)
+      zone_told h i j =
           let d = number_stood s bs (at + 1) 8 i in
           refuse (join h refl d.here) (omega arith) (Leads.own (Own.time_zone d.bound)) (Refuses.short (omega (arith, length-drop (at + 1 + 8) s)))
 
@@ -122,14 +123,14 @@ item_told left s at bs l =
     (λ i. no_marker (suc left) s at l i)
 
 module _ (s : List ℕ) (bs : Bytes s) (left : ℕ) (inner : ℕ → Due) (good : (at n : ℕ) → Ends (inner at) n → Found Sort.value left s at n)
-    (inner-told : (at : ℕ) → at ≤ length s → Told (RefusedValue left s at) (inner at)) where
+    (inner_told : (at : ℕ) → at ≤ length s → Told (RefusedValue left s at) (inner at)) where
   -- values in a row
   items_told : (c at : ℕ) → at ≤ length s → Told (RefusedPart left (Sort.values c) s at) (items inner c at)
   unfolding items
   items_told zero at l = tt
   items_told (suc c) at l =
       told_bind (RefusedPart left (Sort.values (suc c)) s at) (inner at) (items inner c)
-      (told_map (inner at) (λ a p. reworded λ r x f. Leads.first) (inner-told at l))
+      (told_map (inner at) (λ a p. reworded λ r x f. Leads.first) (inner_told at l))
       (λ n e.
       let v = good at n e in
       told_map (items inner c n) (λ a p. onward v.here v.next λ r x f e d. Leads.next v.encodes v.deep d) (items_told c n (omega (arith, left_over v.here l))))
@@ -140,24 +141,24 @@ module _ (s : List ℕ) (bs : Bytes s) (left : ℕ) (inner : ℕ → Due) (good 
       → Here s at (digits 2 (length k) ++ k) r → UTF-8 k (digits 2 (length k) ++ k)
       → Told (RefusedPart left Sort.properties s at) (pair inner more s at (at + 2) (length k) (at + 2 + length k))
   unfolding pair
-  pair_told k r at more l more-told h key =
+  pair_told k r at more l more_told h key =
       let q : ℕ = at + 2 + length k in
       let P : Due → Type 0 = Told (RefusedPart left Sort.properties s at) in
       let i : q ≤ length s = omega (arith, left_over h l) in
       go8 P stop s q _
       (λ j. picked P (eqb (get_or s q 0) 9) _ _ (λ e. tt)
       (λ e. told_bind (RefusedPart left Sort.properties s at) (inner q) more
-      (told_map (inner q) (λ a p. in-value λ z d. eqb-false (get_or s q 0) 9 e (cc (byte_stood s q j).same)) (inner-told q i))
+      (told_map (inner q) (λ a p. in_value λ z d. eqb-false (get_or s q 0) 9 e (cc (byte_stood s q j).same)) (inner_told q i))
       (λ n d.
       let v = good q n d in
       told_map (more n)
       (λ a p u. onward {q = q} h (omega arith) (λ r x f e d. d) (onward v.here v.next (λ r x f e d. Leads.next_property key v.encodes v.deep d) u))
-      (more-told n (omega arith) (omega (arith, left_over v.here i))))))
-      (λ j. in-value (λ z d. omega (arith, ap length d, length-drop q s)) (no_marker left s q i j))
+      (more_told n (omega arith) (omega (arith, left_over v.here i))))))
+      (λ j. in_value (λ z d. omega (arith, ap length d, length-drop q s)) (no_marker left s q i j))
     where
-      in-value : {a p : ℕ} → ((z : List ℕ) → drop (at + 2 + length k) s ≢ 9 ∷ z) → RefusedValue left s (at + 2 + length k) a p
+      in_value : {a p : ℕ} → ((z : List ℕ) → drop (at + 2 + length k) s ≢ 9 ∷ z) → RefusedValue left s (at + 2 + length k) a p
           → RefusedPart left Sort.properties s at a p
-      in-value other t = onward h (omega arith) (λ r x f e d. Leads.property key (λ z g. other z (e ∙ g)) d) t
+      in_value other t = onward h (omega arith) (λ r x f e d. Leads.property key (λ z g. other z (e ∙ g)) d) t
 
   -- properties; the input's length bounds their number, so where the bound is reached nothing is left
   pairs_told : (fuel at : ℕ) → length s ≤ at + fuel → at ≤ length s → Told (RefusedPart left Sort.properties s at) (pairs inner s fuel at)
@@ -170,7 +171,7 @@ module _ (s : List ℕ) (bs : Bytes s) (left : ℕ) (inner : ℕ → Due) (good 
 
   -- what follows an item
   part_told : (k : Sort) (at : ℕ) → at ≤ length s → Told (RefusedPart left k s at) (part inner s (length s) k at)
-  part_told Sort.value at l = inner-told at l
+  part_told Sort.value at l = inner_told at l
   part_told Sort.properties at l = pairs_told (length s) at (omega arith) l
   part_told (Sort.values c) at l = items_told c at l
 

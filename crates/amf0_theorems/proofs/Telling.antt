@@ -1,5 +1,6 @@
 -- The records of a row of bytes tell the tree that it is, and no other.
-use Rattle.wire.proofs.Kit.{ℕ, zero, suc, ◌+◌, ◌≤◌, ◌≡◌, refl, ap, ap₂, ◌∙◌, List, [], ◌∷◌, ◌++◌, arith, length, map, length-append}
+use Rattle.std.specs.Prelude.{◌+◌, ◌≤◌, ◌≡◌, ◌∷◌, ◌++◌}
+use Rattle.wire.proofs.Kit.{ℕ, zero, suc, refl, ap, ap₂, ◌∙◌, List, [], arith, length, map, length-append}
 use Prim.Native.Nat.{pred}
 use Rattle.wire.specs.Number.{digits}
 use Rattle.wire.proofs.Stands.{Here, cut, skip, there, inside}

@@ -1,5 +1,6 @@
 -- The theorems on the reader of values, over what its public call comes to.
-use Rattle.wire.proofs.Kit.{ℕ, ◌+◌, ◌*◌, ◌≤◌, ◌<◌, max, ◌≡◌, refl, sym, ap, ap₂, ◌∙◌, ◌≢◌, ◌↔◌, List, [], ◌++◌, append-nil, arith, length, take, drop}
+use Rattle.std.specs.Prelude.{◌+◌, ◌*◌, ◌≤◌, ◌<◌, ◌≡◌, ◌≢◌, ◌↔◌, ◌++◌}
+use Rattle.wire.proofs.Kit.{ℕ, max, refl, sym, ap, ap₂, ◌∙◌, List, [], append-nil, arith, length, take, drop}
 use Rattle.wire.proofs.Kit.{length-append, take-append-drop, length-take-le, take-append_seam, leb}
 use Rattle.wire.specs.Number.{Bytes}
 use Rattle.wire.specs.Limit as limit

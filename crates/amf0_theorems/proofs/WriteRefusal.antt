@@ -1,5 +1,6 @@
 -- A writing that is refused is so by what stands at its place: the records before it begin a tree, and what is due behind them is not there.
-use Rattle.wire.proofs.Kit.{ℕ, zero, suc, ◌+◌, ◌≤◌, ◌<◌, ◌≡◌, refl, sym, ap, ◌∙◌, ◌⊎◌, inl, inr, List, [], ◌∷◌, ◌++◌, arith, length, drop, length-append, leb}
+use Rattle.std.specs.Prelude.{◌+◌, ◌≤◌, ◌<◌, ◌≡◌, ◌⊎◌, ◌∷◌, ◌++◌}
+use Rattle.wire.proofs.Kit.{ℕ, zero, suc, refl, sym, ap, ◌∙◌, inl, inr, List, [], arith, length, drop, length-append, leb}
 use Rattle.wire.proofs.Kit.{leb-false}
 use Rattle.wire.specs.Choice.{pick}
 use Rattle.wire.specs.Number.{Bytes}
@@ -163,7 +164,7 @@ module _ (s image : List ℕ) (bs : Bytes image) where
     pairs_halt zero at a p l e = halted (no_record e.1) Begins.pair (rw (e.0, beyond image at (omega arith)) (Refuses.pair (no_pair_past s)))
     pairs_halt (suc fuel) at a p l e = by (pairs v image s fuel) (pairs_halt fuel) (see_pair s image bs at (λ q. v q >>= pairs v image s fuel) end) e
       where
-        by : {d : Out} (more : ℕ → Out) → ((at a p : ℕ) → length image ≤ fuel + at → Stops (more at) a p → Halted keyed Sort.properties left at a p)
+        by : (more : ℕ → Out) {d : Out} → ((at a p : ℕ) → length image ≤ fuel + at → Stops (more at) a p → Halted keyed Sort.properties left at a p)
             → SeenPair s image bs at (λ q. v q >>= more) end d → Stops d a p → Halted keyed Sort.properties left at a p
         by more ih (SeenPair.key {q} t k) e =
             bind_stops (v q) more a p e

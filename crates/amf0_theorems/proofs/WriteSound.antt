@@ -1,5 +1,6 @@
 -- An image whose writing is not refused is that of a tree.
-use Rattle.wire.proofs.Kit.{ℕ, zero, suc, ◌+◌, ◌≤◌, ◌≡◌, refl, ap, ◌∙◌, List, [], ◌∷◌, ◌++◌, append-nil, true, arith, length, drop, length-append, leb}
+use Rattle.std.specs.Prelude.{◌+◌, ◌≤◌, ◌≡◌, ◌∷◌, ◌++◌}
+use Rattle.wire.proofs.Kit.{ℕ, zero, suc, refl, ap, ◌∙◌, List, [], append-nil, true, arith, length, drop, length-append, leb}
 use Rattle.wire.proofs.Kit.{leb-true}
 use Rattle.wire.specs.Choice.{pick}
 use Rattle.wire.specs.Number.{Bytes}
@@ -105,7 +106,7 @@ module _ (s image : List ℕ) (bs : Bytes image) where
     pairs_sound zero q n e = absurd e
     pairs_sound (suc fuel) at n e = by (pairs v image s fuel) (pairs_sound fuel) (see_pair s image bs at (λ q. v q >>= pairs v image s fuel) end) e
       where
-        by : {d : Out} (more : ℕ → Out) → ((q n : ℕ) → Ends (more q) n → Stood keyed Sort.properties left q n)
+        by : (more : ℕ → Out) {d : Out} → ((q n : ℕ) → Ends (more q) n → Stood keyed Sort.properties left q n)
             → SeenPair s image bs at (λ q. v q >>= more) end d → Ends d n → Stood keyed Sort.properties left at n
         by more ih (SeenPair.key {q} t k) e =
             bind_ends (v q) more n e λ m f g.

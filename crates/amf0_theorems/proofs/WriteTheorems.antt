@@ -1,5 +1,6 @@
 -- The theorems on the writer of values, over what its public call comes to.
-use Rattle.wire.proofs.Kit.{ℕ, ◌+◌, ◌*◌, ◌≤◌, ◌<◌, max, ◌≡◌, refl, sym, ap, ◌∙◌, ◌↔◌, ◌⊎◌, inl, inr, ⊎_elim, List, [], ◌∷◌, ◌++◌, append-nil, append_assoc}
+use Rattle.std.specs.Prelude.{◌+◌, ◌*◌, ◌≤◌, ◌<◌, ◌≡◌, ◌↔◌, ◌⊎◌, ◌∷◌, ◌++◌}
+use Rattle.wire.proofs.Kit.{ℕ, max, refl, sym, ap, ◌∙◌, inl, inr, ⊎_elim, List, [], append-nil, append_assoc}
 use Rattle.wire.proofs.Kit.{arith, length, take, take-append-drop, length-take-le, leb}
 use Rattle.wire.specs.Number.{Bytes}
 use Rattle.wire.specs.Limit as limit

@@ -1,5 +1,5 @@
 -- What stands where a record of a value is due, which is what a refusal for room names: with no word of a reader, by the standard's rows.
-use Rattle.wire.specs.Kit.{ℕ, ◌≡◌, List, ◌∷◌, ◌++◌, drop}
+use Rattle.std.specs.Prelude.{ℕ, ◌≡◌, List, ◌∷◌, ◌++◌, drop}
 use Rattle.image.specs.declared.record.Record.{Record}
 use Rattle.amf0.specs.Standard.{UTF-8, Row}
 use Rattle.amf0.specs.Standard as standard

@@ -1,6 +1,6 @@
 -- Why a reading of a value is refused, with no word of a reader: which fields stand before one that is not whole or not right, and what is wrong with that
 -- one: the rule "Fields" (docs/DEMANDS.md). The public call, last, adds the limit and the room.
-use Rattle.wire.specs.Kit.{ℕ, suc, ◌+◌, ◌^◌, ◌<◌, ◌≤◌, ◌≡◌, ◌≢◌, List, [], ◌∷◌, ◌++◌, false, length, take, drop}
+use Rattle.std.specs.Prelude.{ℕ, suc, ◌+◌, ◌^◌, ◌<◌, ◌≤◌, ◌≡◌, ◌≢◌, List, [], ◌∷◌, ◌++◌, false, length, take, drop}
 use Rattle.wire.specs.Number.{digits, number as number_of}
 use Rattle.wire.specs.Utf8.{utf8}
 use Rattle.wire.specs.Limit as limit

@@ -1,5 +1,5 @@
 -- What the value in a span of an input comes to, and when, with no word of what holds the span.
-use Rattle.wire.specs.Kit.{ℕ, ◌+◌, ◌≤◌, ◌≡◌, ◌⊎◌, List, ◌∷◌, ◌++◌, length}
+use Rattle.std.specs.Prelude.{ℕ, ◌+◌, ◌≤◌, ◌≡◌, ◌⊎◌, List, ◌∷◌, ◌++◌, length}
 use Rattle.wire.specs.Limit as limit
 use Rattle.image.specs.Due.{Lacks}
 use Rattle.image.specs.Whole.{Whole, bytes, accepted, refused}

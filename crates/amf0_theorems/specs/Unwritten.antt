@@ -1,6 +1,6 @@
 -- Why a write is refused, and by which record: the rule "Writing checks first" (docs/DEMANDS.md). Records begin a tree, something is due behind them, and what
 -- stands there is not it. `left` is how many levels are left.
-use Rattle.wire.specs.Kit.{ℕ, suc, ◌+◌, ◌≤◌, ◌<◌, ◌≡◌, List, [], ◌∷◌, ◌++◌, true, length}
+use Rattle.std.specs.Prelude.{ℕ, suc, ◌+◌, ◌≤◌, ◌<◌, ◌≡◌, List, [], ◌∷◌, ◌++◌, true, length}
 use Rattle.wire.specs.Limit as limit
 use Rattle.image.specs.declared.record.Record.{Record}
 use Rattle.image.specs.Record.{bytes_of}
