@@ -1,6 +1,7 @@
 -- Proper beginnings of a file: one that ends in the header is refused with 2, and any other is accepted by the incomplete reading with the elements that
 -- are whole in it.
-use Rattle.wire.proofs.Kit.{ℕ, ◌+◌, ◌*◌, ◌≤◌, ◌<◌, ◌≡◌, refl, sym, ap, ◌∙◌, ◌≢◌, ⊎_elim, List, [], ◌∷◌, ◌++◌, append_assoc, append-nil, arith, length}
+use Rattle.std.specs.Prelude.{◌+◌, ◌*◌, ◌≤◌, ◌<◌, ◌≡◌, ◌≢◌, ◌∷◌, ◌++◌}
+use Rattle.wire.proofs.Kit.{ℕ, refl, sym, ap, ◌∙◌, ⊎_elim, List, [], append_assoc, append-nil, arith, length}
 use Rattle.wire.proofs.Kit.{take, drop, length-append, take-append-drop, take-append-le, drop-append-le, take-append_seam, drop-append_seam, length-drop, lit<}
 use Rattle.wire.specs.Number.{digits, Bytes}
 use Rattle.wire.specs.Limit as limit

@@ -1,6 +1,7 @@
 -- What is a file is read as that file, up to where no further element can be read. Its elements' records can stand in an image, spell the elements, and are
 -- known but for places.
-use Rattle.wire.proofs.Kit.{ℕ, ◌+◌, ◌^◌, ◌≤◌, ◌<◌, ◌≡◌, refl, sym, ap, ap₂, ◌∙◌, List, [], ◌∷◌, ◌++◌, map, append_assoc, append-nil, true, arith, length}
+use Rattle.std.specs.Prelude.{◌+◌, ◌^◌, ◌≤◌, ◌<◌, ◌≡◌, ◌∷◌, ◌++◌}
+use Rattle.wire.proofs.Kit.{ℕ, refl, sym, ap, ap₂, ◌∙◌, List, [], map, append_assoc, append-nil, true, arith, length}
 use Rattle.wire.proofs.Kit.{length-append, lit<, map-append, zero, suc, replicate}
 use Rattle.wire.specs.Number.{digits}
 use Rattle.wire.specs.Utf8.{utf8}

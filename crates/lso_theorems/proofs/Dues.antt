@@ -1,10 +1,10 @@
 -- What stands where a record of a file's reading is due.
-use Rattle.wire.proofs.Kit.{ℕ, ◌+◌, refl, List, [], ◌∷◌, length}
+use Rattle.std.specs.Prelude.{◌+◌, ◌∷◌}
+use Rattle.wire.proofs.Kit.{ℕ, refl, List, [], length}
 use Rattle.wire.specs.Number.{Bytes}
 use Rattle.wire.specs.Limit as limit
 use Rattle.wire.specs.Field.{tag_at, past_tag}
 use Rattle.wire.specs.declared.cursor.Tag.{Tag}
-use Rattle.wire.specs.declared.cursor.Tag.TheVariants as Tag
 use Rattle.wire.proofs.Stands.{end_text}
 use Rattle.image.specs.declared.record.Record.{Record}
 use Rattle.image.specs.Due.{end, stop, Lacks}

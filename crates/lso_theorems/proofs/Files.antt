@@ -1,7 +1,8 @@
 -- The rows of bytes that are a file: each is of bytes, none is two files, and what a file is written as is that file, but for the length that it says, and
 -- none is shorter.
-use Rattle.wire.proofs.Kit.{ℕ, List, ◌∷◌, ◌++◌, length, lit<, ◌≡◌, refl, sym, ap, ◌∙◌, arith, take, drop, length-append, take-append_seam, drop-append_seam}
-use Rattle.wire.proofs.Kit.{take_at, drop_at, ◌+◌, ◌≤◌, ◌-◌, le_refl}
+use Rattle.std.specs.Prelude.{◌∷◌, ◌++◌, ◌≡◌, ◌+◌, ◌≤◌, ◌-◌}
+use Rattle.wire.proofs.Kit.{ℕ, List, length, lit<, refl, sym, ap, ◌∙◌, arith, take, drop, length-append, take-append_seam, drop-append_seam}
+use Rattle.wire.proofs.Kit.{take_at, drop_at, le_refl}
 use Rattle.wire.specs.Number.{digits, Bytes, number}
 use Rattle.amf0.specs.Standard.UTF-8.{short}
 use Rattle.amf0_theorems.proofs.Bytes.{◌also◌, both, number as numbers, text, encoding}

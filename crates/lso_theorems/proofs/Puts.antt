@@ -1,5 +1,6 @@
 -- The image of a file is put out as what the file is written as.
-use Rattle.wire.proofs.Kit.{ℕ, zero, suc, ◌+◌, ◌≤◌, ◌<◌, ◌≡◌, refl, sym, ap, ◌∙◌, List, [], ◌∷◌, ◌++◌, append_assoc, append-nil, arith, length, take, drop}
+use Rattle.std.specs.Prelude.{◌+◌, ◌≤◌, ◌<◌, ◌≡◌, ◌∷◌, ◌++◌}
+use Rattle.wire.proofs.Kit.{ℕ, zero, suc, refl, sym, ap, ◌∙◌, List, [], append_assoc, append-nil, arith, length, take, drop}
 use Rattle.wire.specs.Number.{digits, number}
 use Rattle.wire.specs.Field.{bytes_at}
 use Rattle.wire.specs.Limit as limit
@@ -8,7 +9,7 @@ use Rattle.wire.proofs.Stands.{Here, cut, skip, length_bytes}
 use Rattle.image.specs.declared.record.Record.{Record}
 use Rattle.image.specs.declared.record.Record.TheVariants as R
 use Rattle.image.specs.Record.{◌bytes◌, none, size}
-use Rattle.image.specs.Out.{Out, end, ◌>>=◌, row, bytes as putOut, sized}
+use Rattle.image.specs.Out.{Out, end, ◌>>=◌, row, bytes as put_out_lem, sized}
 use Rattle.image.proofs.Laws.{size_some}
 use Rattle.amf0.specs.Standard.{Sort, Tree, depth}
 use Rattle.amf0.specs.Shown.{laid, Right}
@@ -69,8 +70,8 @@ module _ (s : List ℕ) where
       abbrev behind : Out
       behind = body image s (length image) (0 + size lead)
 
-      behind-puts : {D : Type 0} → (limit.levels < deepest f.body → D) → Puts D behind (write_body f.body) (length image)
-      behind-puts d =
+      behind_puts : {D : Type 0} → (limit.levels < deepest f.body → D) → Puts D behind (write_body f.body) (length image)
+      behind_puts d =
           let h : Here image 0 (laid (lead ∷ m.records)) [] = record { same = m.lies ∙ sym (append-nil _) } in
           let l = laid_size lead m.records in
           let i = ap length m.lies in
@@ -79,7 +80,7 @@ module _ (s : List ℕ) where
       -- a header, and then the elements
       pub file_puts : {D : Type 0} → (limit.levels < deepest f.body → D)
           → Puts D (file length_of image s)
-          (version ++ (digits 4 (length_of (length f.name) (length (putOut behind))) ++ (signature ++ (short f.name ++ (padding ++ write_body f.body)))))
+          (version ++ (digits 4 (length_of (length f.name) (length (put_out_lem behind))) ++ (signature ++ (short f.name ++ (padding ++ write_body f.body)))))
           (length image)
       unfolding file
       file_puts d =
@@ -87,12 +88,12 @@ module _ (s : List ℕ) where
           let z : ℕ = length f.name in
           rw (first s image lead m.records [] h m.fits)
           (rw m.names at
-          (row_puts s 0 (2 bytes number version) (4 bytes length_of z (length (putOut behind))) none (empty s)
+          (row_puts s 0 (2 bytes number version) (4 bytes length_of z (length (put_out_lem behind))) none (empty s)
           (row_puts s 0 (4 bytes number (take 4 signature)) (6 bytes number (drop 4 signature)) (2 bytes z) m.stands
-          (row_puts s 0 (4 bytes number padding) none none (empty s) (behind-puts d)))))
+          (row_puts s 0 (4 bytes number padding) none none (empty s) (behind_puts d)))))
 
       pub write_puts : deepest f.body ≤ limit.levels → Puts ⊥ (file length_of image s) (write f) (length image)
-      write_puts d = rw (puts_bytes (behind-puts λ i. omega arith)) at (file_puts {D = ⊥} λ i. omega arith)
+      write_puts d = rw (puts_bytes (behind_puts λ i. omega arith)) at (file_puts {D = ⊥} λ i. omega arith)
 
 -- the call on it is not refused for what it holds
 pub file_written : {image s : List ℕ} {f : Lso} (room : ℕ) → Writable image s f → write_of image s room ≡ sized (write f) room

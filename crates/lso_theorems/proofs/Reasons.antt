@@ -1,10 +1,11 @@
 -- Why the two readings of a file are refused or accepted, by the grammar of refusals.
-use Rattle.wire.proofs.Kit.{ℕ, ◌≤◌, ◌<◌, ◌≡◌, refl, sym, ap, ◌∙◌, ◌↔◌, ◌⊎◌, inl, inr, ⊎_elim, List, arith, length, take}
+use Rattle.std.specs.Prelude.{◌≤◌, ◌<◌, ◌≡◌, ◌↔◌, ◌⊎◌}
+use Rattle.wire.proofs.Kit.{ℕ, refl, sym, ap, ◌∙◌, inl, inr, ⊎_elim, List, arith, length, take}
 use Rattle.wire.specs.Number.{Bytes}
 use Rattle.amf0_theorems.proofs.More.{all_refusal}
 use Rattle.wire.specs.Limit as limit
 use Rattle.image.specs.Due.{Ends, Stops}
-use Rattle.image.specs.Whole.{Whole, bytes, accepted, refused}
+use Rattle.image.specs.Whole.{bytes, accepted, refused}
 use Rattle.image.proofs.Settle.{all_cases, answer_of_lem, used_of}
 use Rattle.lso.specs.File.{Lso}
 use Rattle.lso.specs.Reading.{header_at, element_at, body_at, ever_due, incomplete_of, whole_of}
@@ -43,7 +44,7 @@ accepted_is s room =
 -- read.
 pub reasons_incomplete : (s : List ℕ) (room : ℕ) → Bytes s → Comes s room (incomplete_of s room)
 reasons_incomplete s room bs =
-    incomplete_cases s room (Comes s room) Comes.over_limit (λ i a q f n. Comes.no_Header i ((header_refused s a q bs).0 f))
+    incomplete_cases s room (Comes s room) Comes.over_limit (λ i a q f n. Comes.no_header i ((header_refused s a q bs).0 f))
     (λ i p f q j. Comes.no_room i (end_heads s bs p f) j)
     (λ i p f j q g. Comes.too_deep i (too_deep s room bs p f j q g))
     (λ i p f j a q x g.

@@ -1,9 +1,9 @@
 -- A field, a header and an element are refused exactly as the grammar of refusals says, and are else read.
-use Rattle.wire.proofs.Kit.{ℕ, zero, suc, ◌+◌, ◌≤◌, ◌<◌, ◌≡◌, refl, sym, ap, ◌∙◌, List, [], ◌∷◌, arith, length, drop, length-drop, length-append, replicate}
-use Rattle.wire.proofs.Kit.{leb, lt-leb, le-leb, leb-true, leb-false, ◌↔◌, inl, inr, ◌++◌, length-replicate}
+use Rattle.std.specs.Prelude.{◌+◌, ◌≤◌, ◌<◌, ◌≡◌, ◌∷◌, ◌↔◌, ◌++◌}
+use Rattle.wire.proofs.Kit.{ℕ, zero, suc, refl, sym, ap, ◌∙◌, List, [], arith, length, drop, length-drop, length-append, replicate}
+use Rattle.wire.proofs.Kit.{leb, lt-leb, le-leb, leb-true, leb-false, inl, inr, length-replicate}
 use Rattle.wire.specs.declared.cursor.U32.TheVariants as U32
 use Rattle.wire.specs.declared.cursor.Tag.{Tag}
-use Rattle.wire.specs.declared.cursor.Tag.TheVariants as Tag
 use Rattle.wire.specs.Number.{Bytes, digits}
 use Rattle.wire.specs.Field.{to, bytes_at, u32_at, equal, tag_at, got32, past_tag}
 use Rattle.wire.proofs.Laws.{picked, length_digits, equal_same, equal_means, false_true}

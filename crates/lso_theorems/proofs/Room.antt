@@ -1,5 +1,6 @@
 -- The round trip in every room that is not refused for room, and so in the room of the first reading: no record of a dropped element is due in the second.
-use Rattle.wire.proofs.Kit.{ℕ, ◌+◌, ◌*◌, ◌≤◌, ◌≡◌, refl, sym, ap, ◌∙◌, ◌≢◌, List, [], append-nil, le_refl, arith, length}
+use Rattle.std.specs.Prelude.{◌+◌, ◌*◌, ◌≤◌, ◌≡◌, ◌≢◌}
+use Rattle.wire.proofs.Kit.{ℕ, refl, sym, ap, ◌∙◌, List, [], append-nil, le_refl, arith, length}
 use Rattle.wire.specs.Number.{Bytes}
 use Rattle.image.specs.Out.{written}
 use Rattle.image.specs.Whole.{Whole, bytes}

@@ -1,10 +1,10 @@
 -- What is read as a file is one.
-use Rattle.wire.proofs.Kit.{ℕ, ◌+◌, ◌^◌, ◌≤◌, ◌<◌, ◌≡◌, refl, sym, ap, ◌∙◌, List, [], ◌∷◌, ◌++◌, append_assoc, arith, length, take, drop, length-append, take_at}
+use Rattle.std.specs.Prelude.{◌+◌, ◌^◌, ◌≤◌, ◌<◌, ◌≡◌, ◌∷◌, ◌++◌}
+use Rattle.wire.proofs.Kit.{ℕ, refl, sym, ap, ◌∙◌, List, [], append_assoc, arith, length, take, drop, length-append, take_at}
 use Rattle.wire.specs.Number.{digits, Bytes}
 use Rattle.wire.specs.Field.{tag_at, past_tag}
 use Rattle.wire.specs.Limit as limit
 use Rattle.wire.specs.declared.cursor.Tag.{Tag}
-use Rattle.wire.specs.declared.cursor.Tag.TheVariants as Tag
 use Rattle.wire.proofs.Laws.{tag_next, length_digits}
 use Rattle.wire.proofs.Stands.{Here, join, inside, tag_ends, end32, end_text}
 use Rattle.image.specs.Due.{Due, end, stop, Ends}

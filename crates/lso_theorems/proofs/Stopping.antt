@@ -1,5 +1,6 @@
 -- How the definition's readings end, said by the grammar: what the theorems on the readings are proved by.
-use Rattle.wire.proofs.Kit.{ℕ, ◌≤◌, ◌≡◌, refl, sym, ◌∙◌, List, ◌++◌, arith, length, take, drop, length-append, take-append-drop, length-take-le}
+use Rattle.std.specs.Prelude.{◌≤◌, ◌≡◌, ◌++◌}
+use Rattle.wire.proofs.Kit.{ℕ, refl, sym, ◌∙◌, List, arith, length, take, drop, length-append, take-append-drop, length-take-le}
 use Rattle.wire.specs.Number.{Bytes}
 use Rattle.wire.specs.Limit as limit
 use Rattle.wire.proofs.Laws.{pick_yes}

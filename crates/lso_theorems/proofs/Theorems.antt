@@ -1,5 +1,6 @@
 -- The theorems on the reader of files, over what its two public calls come to.
-use Rattle.wire.proofs.Kit.{ℕ, ◌*◌, ◌≤◌, ◌<◌, ◌≡◌, refl, sym, ap, ◌∙◌, ◌≢◌, ◌↔◌, inl, inr, ⊎_elim, List, ◌++◌, append-nil, arith, length, take, take_all, leb}
+use Rattle.std.specs.Prelude.{◌*◌, ◌≤◌, ◌<◌, ◌≡◌, ◌≢◌, ◌↔◌, ◌++◌}
+use Rattle.wire.proofs.Kit.{ℕ, refl, sym, ap, ◌∙◌, inl, inr, ⊎_elim, List, append-nil, arith, length, take, take_all, leb}
 use Rattle.wire.specs.Number.{Bytes}
 use Rattle.wire.specs.Limit as limit
 use Rattle.image.specs.Due.{Ends, Stops, Lacks}

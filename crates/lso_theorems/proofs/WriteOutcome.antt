@@ -1,5 +1,6 @@
 -- A reading that is accepted makes an image that can be written.
-use Rattle.wire.proofs.Kit.{ℕ, ◌+◌, ◌≤◌, ◌≡◌, refl, sym, ap, List, ◌++◌, map, append-nil, arith, length, take, length-append, take-append-drop, length-take-le}
+use Rattle.std.specs.Prelude.{◌+◌, ◌≤◌, ◌≡◌, ◌++◌}
+use Rattle.wire.proofs.Kit.{ℕ, refl, sym, ap, List, map, append-nil, arith, length, take, length-append, take-append-drop, length-take-le}
 use Rattle.wire.specs.Number.{Bytes}
 use Rattle.wire.specs.Limit as limit
 use Rattle.wire.proofs.Stands.{Here}

@@ -1,5 +1,6 @@
 -- What the public write comes to: a refusal is 5 or 6, or for a size or the room.
-use Rattle.wire.proofs.Kit.{ℕ, zero, suc, ◌<◌, ◌≡◌, List, length, leb}
+use Rattle.std.specs.Prelude.{◌<◌, ◌≡◌}
+use Rattle.wire.proofs.Kit.{ℕ, zero, suc, List, length, leb}
 use Rattle.wire.specs.Number.{Bytes}
 use Rattle.wire.specs.Limit as limit
 use Rattle.wire.proofs.Laws.{picked}

@@ -1,10 +1,11 @@
 -- A writing of a file that is refused is so by what stands at its place: the records before it begin a file, and what is due behind them is not there.
-use Rattle.wire.proofs.Kit.{ℕ, zero, suc, ◌+◌, ◌≤◌, ◌≡◌, refl, List, [], ◌∷◌, arith, length, drop, length-drop, leb, leb-false}
+use Rattle.std.specs.Prelude.{◌+◌, ◌≤◌, ◌≡◌, ◌∷◌}
+use Rattle.wire.proofs.Kit.{ℕ, zero, suc, refl, List, [], arith, length, drop, length-drop, leb, leb-false}
 use Rattle.wire.specs.Number.{Bytes}
 use Rattle.wire.specs.Limit as limit
 use Rattle.wire.proofs.Laws.{picked}
 use Rattle.image.specs.Record.{◌bytes◌, none}
-use Rattle.image.specs.Out.{Out, end, ◌>>=◌, row, bytes as putOut}
+use Rattle.image.specs.Out.{Out, end, ◌>>=◌, row, bytes as put_out_lem}
 use Rattle.amf0.specs.Writing.{top_value}
 use Rattle.amf0_theorems.proofs.Puts.{empty, named}
 use Rattle.amf0_theorems.specs.Unwritten.{Stops}
@@ -65,7 +66,7 @@ module _ (s image : List ℕ) (bs : Bytes image) where
   -- an image that is refused
   pub refused_by : (says : ℕ → ℕ → ℕ) (a p : ℕ) → Stops (file says image s) a p → Refused image s a p
   unfolding file past_record
-  refused_by says a p e = by (see_file s image bs (λ n q. says n (length (putOut (body image s (length image) q)))) (body image s (length image))) e
+  refused_by says a p e = by (see_file s image bs (λ n q. says n (length (put_out_lem (body image s (length image) q)))) (body image s (length image))) e
     where
       none : NoFile s image → a ≡ 6 → p ≡ 0 → Refused image s a p
       none n e f =

@@ -1,12 +1,13 @@
 -- What stands where something else is due refuses the writing of a file, at its place.
-use Rattle.wire.proofs.Kit.{ℕ, zero, suc, ◌+◌, ◌<◌, ◌≡◌, refl, ap, List, ◌∷◌, ◌++◌, arith, length, drop, length-drop}
+use Rattle.std.specs.Prelude.{◌+◌, ◌<◌, ◌≡◌, ◌∷◌, ◌++◌}
+use Rattle.wire.proofs.Kit.{ℕ, zero, suc, refl, ap, List, arith, length, drop, length-drop}
 use Rattle.wire.specs.Number.{Bytes}
 use Rattle.wire.proofs.Laws.{pick_no}
 use Rattle.wire.proofs.Stands.{Here, skip, inside}
 use Rattle.image.specs.declared.record.Record.{Record}
 use Rattle.image.specs.declared.record.Record.TheVariants as R
 use Rattle.image.specs.Record.{◌bytes◌, none, size}
-use Rattle.image.specs.Out.{Out, end, ◌>>=◌, row, bytes as putOut}
+use Rattle.image.specs.Out.{Out, end, ◌>>=◌, row, bytes as put_out_lem}
 use Rattle.image.proofs.Laws.{size_some}
 use Rattle.amf0.specs.Shown.{laid, Right}
 use Rattle.amf0.specs.Writing.{top_value}
@@ -33,7 +34,7 @@ module _ (s image : List ℕ) (bs : Bytes image) where
 
   file_slot : (says : ℕ → ℕ → ℕ) → NoFile s image → Stops (file says image s) 6 0
   unfolding file
-  file_slot says none = by (see_file s image bs (λ n q. says n (length (putOut (body image s (length image) q)))) (body image s (length image)))
+  file_slot says none = by (see_file s image bs (λ n q. says n (length (put_out_lem (body image s (length image) q)))) (body image s (length image)))
     where
       by : {d : Out} {k : ℕ → Out} → SeenFile s image bs k d → Stops d 6 0
       by (SeenFile.seen {stored} {p} {n} t h) = absurd (none.none stored p n (took_fronts s image bs 0 t (h, tt)))

@@ -1,5 +1,6 @@
 -- An image whose writing is not refused is that of a file.
-use Rattle.wire.proofs.Kit.{ℕ, zero, suc, ◌+◌, ◌≤◌, ◌≡◌, refl, ap, ◌∙◌, List, [], ◌∷◌, ◌++◌, append-nil, arith, length, drop, length-append, leb, leb-true}
+use Rattle.std.specs.Prelude.{◌+◌, ◌≤◌, ◌≡◌, ◌∷◌, ◌++◌}
+use Rattle.wire.proofs.Kit.{ℕ, zero, suc, refl, ap, ◌∙◌, List, [], append-nil, arith, length, drop, length-append, leb, leb-true}
 use Rattle.wire.specs.Number.{Bytes}
 use Rattle.wire.specs.Field.{bytes_at}
 use Rattle.wire.specs.Limit as limit
@@ -7,8 +8,7 @@ use Rattle.wire.proofs.Laws.{picked}
 use Rattle.wire.proofs.Stands.{Here, join, length_bytes}
 use Rattle.image.specs.declared.record.Record.{Record}
 use Rattle.image.specs.declared.record.Record.TheVariants as R
-use Rattle.image.specs.Record.{◌bytes◌, none}
-use Rattle.image.specs.Out.{Out, end, ◌>>=◌, row, bytes as putOut}
+use Rattle.image.specs.Out.{Out, end, ◌>>=◌, row, bytes as put_out_lem}
 use Rattle.image.proofs.Laws.{size_bytes, size_some}
 use Rattle.amf0.specs.Standard.{Sort}
 use Rattle.amf0.specs.Shown.{laid, Stands, Right}
@@ -118,7 +118,7 @@ module _ (s image : List ℕ) (bs : Bytes image) where
   -- an image of a file and no bytes past it
   pub image_of : (e : ℕ) → Ends (file length_of image s) e → (f : Lso) × Images s f image × (deepest f.body ≤ limit.levels)
   unfolding file
-  image_of e h = by (see_file s image bs (λ n q. length_of n (length (putOut (body image s (length image) q)))) (body image s (length image))) h
+  image_of e h = by (see_file s image bs (λ n q. length_of n (length (put_out_lem (body image s (length image) q)))) (body image s (length image))) h
     where
       by : {d : Out} → SeenFile s image bs (body image s (length image)) d → Ends d e → (f : Lso) × Images s f image × (deepest f.body ≤ limit.levels)
       by (SeenFile.seen {q} t h) f = file_of t h (body_sound (length image) q e (omega arith) f)

@@ -1,5 +1,5 @@
 -- What stands where a record of a file is due, which is what a refusal for room names.
-use Rattle.wire.specs.Kit.{ℕ, ◌≡◌, List}
+use Rattle.std.specs.Prelude.{ℕ, ◌≡◌, List}
 use Rattle.image.specs.declared.record.Record.{Record}
 use Rattle.image.specs.declared.record.Record.TheVariants.{Lso}
 use Rattle.amf0_theorems.specs.Due as value

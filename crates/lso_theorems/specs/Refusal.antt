@@ -1,6 +1,6 @@
 -- Why a reading of a file is refused, with no word of a reader: which fields of its header or of an element stand before one that is not whole or not
 -- right. What the readings come to in a room, and when.
-use Rattle.wire.specs.Kit.{ℕ, ◌^◌, ◌<◌, ◌≤◌, ◌≡◌, List, [], ◌∷◌, ◌++◌, length, take, replicate}
+use Rattle.std.specs.Prelude.{ℕ, ◌^◌, ◌<◌, ◌≤◌, ◌≡◌, List, [], ◌∷◌, ◌++◌, length, take, replicate}
 use Rattle.wire.specs.Number.{digits}
 use Rattle.wire.specs.Limit as limit
 use Rattle.image.specs.Due.{Lacks}

@@ -1,6 +1,6 @@
 -- Why the write of a file is refused, and by which record: the rule "Writing checks first" (docs/DEMANDS.md). Records begin a file, something is due behind
 -- them, and what stands there is not it.
-use Rattle.wire.specs.Kit.{ℕ, ◌≤◌, List, [], ◌∷◌, ◌++◌}
+use Rattle.std.specs.Prelude.{ℕ, ◌≤◌, List, [], ◌∷◌, ◌++◌}
 use Rattle.wire.specs.Limit as limit
 use Rattle.image.specs.declared.record.Record.{Record}
 use Rattle.image.specs.declared.record.Record.TheVariants as R
