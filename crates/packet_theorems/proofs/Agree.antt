@@ -1,5 +1,6 @@
 -- The whole reading of a packet whose lengths are those of its values, or not known, against its reading by entry.
-use Rattle.wire.proofs.Kit.{ℕ, zero, suc, ◌+◌, ◌*◌, ◌≤◌, ◌<◌, ◌≡◌, refl, sym, ap, ◌∙◌, List, [], ◌∷◌, ◌++◌, append_assoc, arith, le_refl, add-zero, zero-add, append-nil}
+use Rattle.std.specs.Prelude.{◌+◌, ◌*◌, ◌≤◌, ◌<◌, ◌≡◌, ◌∷◌, ◌++◌}
+use Rattle.wire.proofs.Kit.{ℕ, zero, suc, refl, sym, ap, ◌∙◌, List, [], append_assoc, arith, le_refl, add-zero, zero-add, append-nil}
 use Rattle.wire.proofs.Kit.{suc-add, length, get_or, length-append, le-leb, lt-ltb}
 use native.Mathlib.Nat.{add-suc}
 use Rattle.wire.specs.Number.{Bytes}
@@ -19,7 +20,6 @@ use Rattle.image.proofs.Kept.{ends_kept}
 use Rattle.amf0.proofs.Reasons.{Named, kept}
 use Rattle.packet.specs.declared.head.Entry.{Entry}
 use Rattle.packet.specs.declared.head.Head.{Head}
-use Rattle.packet.specs.declared.head.Head.TheVariants as Head
 use Rattle.packet.specs.Head.{version_at, front_of, head_at}
 use Rattle.packet.specs.Reading.{record_of, entries_at, count_after, packet_at, whole_of}
 use Rattle.packet.specs.Entry.{reached, measured, walk, found, cut_of, no_entry, span_of, read_entry, span}

@@ -1,5 +1,6 @@
 -- A proper beginning of a packet is refused with 2: a refusal with another answer stays where bytes are added behind.
-use Rattle.wire.proofs.Kit.{ℕ, ◌≤◌, ◌≡◌, refl, sym, ap, ◌∙◌, ◌≢◌, List, [], ◌∷◌, ◌++◌, append-nil, append_assoc, Bool, true, false, arith, length}
+use Rattle.std.specs.Prelude.{◌≤◌, ◌≡◌, ◌≢◌, ◌∷◌, ◌++◌}
+use Rattle.wire.proofs.Kit.{ℕ, refl, sym, ap, ◌∙◌, List, [], append-nil, append_assoc, Bool, true, false, arith, length}
 use Rattle.wire.proofs.Kit.{length-append, take-append-le, eqb, eqb-true, eqb-false}
 use Rattle.wire.specs.Number.{Bytes}
 use Rattle.wire.specs.Limit as limit

@@ -1,6 +1,7 @@
 -- The cut finds just the packets that their lengths cut exactly, whatever stands in their values of a known length; and a packet has exact lengths, or such that
 -- are not known, just where it encodes a packet each of whose entries declares the length of its value, or that it is not known.
-use Rattle.wire.proofs.Kit.{ℕ, suc, ◌+◌, ◌^◌, ◌≤◌, ◌<◌, ◌≡◌, refl, sym, ap, ap₂, ◌∙◌, ◌↔◌, List, [], ◌∷◌, ◌++◌, append-nil, arith, le_refl, length}
+use Rattle.std.specs.Prelude.{◌+◌, ◌^◌, ◌≤◌, ◌<◌, ◌≡◌, ◌↔◌, ◌∷◌, ◌++◌}
+use Rattle.wire.proofs.Kit.{ℕ, suc, refl, sym, ap, ap₂, ◌∙◌, List, [], append-nil, arith, le_refl, length}
 use Rattle.wire.proofs.Kit.{length-append, length-drop, le-leb}
 use Rattle.wire.specs.Number.{digits, Bytes}
 use Rattle.wire.specs.Limit as limit

@@ -1,11 +1,11 @@
 -- The theorems on the cut into a list, over what it comes to.
-use Rattle.wire.proofs.Kit.{ℕ, zero, suc, ◌≤◌, ◌<◌, ◌≡◌, refl, sym, ap, ◌≢◌, ◌↔◌, List, [], ◌∷◌, ◌++◌, arith, length, get_or, leb, leb-true, le-leb, lt-ltb}
+use Rattle.std.specs.Prelude.{◌≤◌, ◌<◌, ◌≡◌, ◌≢◌, ◌↔◌, ◌∷◌, ◌++◌}
+use Rattle.wire.proofs.Kit.{ℕ, zero, suc, refl, sym, ap, List, [], arith, length, get_or, leb, leb-true, le-leb, lt-ltb}
 use Rattle.wire.specs.Number.{Bytes}
 use Rattle.wire.proofs.Laws.{picked}
 use Rattle.amf0.specs.Span.{Changed}
 use Rattle.packet.specs.declared.head.Entry.{Entry}
 use Rattle.packet.specs.declared.entry.Found.{Found}
-use Rattle.packet.specs.declared.entry.Found.TheVariants as Found
 use Rattle.packet.specs.Entry.{Cut, found, stops, cut_of, no_entry, Listed, uncut, listed, list_of, filled, read_span, read_entry, found_in}
 use Rattle.packet.specs.Change.{known_spans}
 use Rattle.packet.proofs.Laws.{Splits, cut_told}

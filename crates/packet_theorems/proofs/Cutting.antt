@@ -1,5 +1,6 @@
 -- A packet that was written, in either setting, is cut into the entries that it was written of.
-use Rattle.wire.proofs.Kit.{ℕ, zero, suc, ◌≤◌, ◌<◌, ◌≡◌, refl, ap, ◌∙◌, List, [], ◌∷◌, ◌++◌, map, map-append, Bool, true, false, arith, length, get_or, length-map}
+use Rattle.std.specs.Prelude.{◌≤◌, ◌<◌, ◌≡◌, ◌∷◌, ◌++◌}
+use Rattle.wire.proofs.Kit.{ℕ, zero, suc, refl, ap, ◌∙◌, List, [], map, map-append, Bool, true, false, arith, length, get_or, length-map}
 use lib.ListN.{get_or-map}
 use Rattle.wire.specs.Limit as limit
 use Rattle.image.specs.declared.record.Record.{Record}

@@ -1,5 +1,6 @@
 -- Demand 3, sentence by sentence, over what the public calls come to.
-use Rattle.wire.proofs.Kit.{ℕ, ◌≤◌, ◌<◌, ◌≡◌, refl, sym, ◌∙◌, ◌≢◌, List, [], ◌∷◌, append-nil, true, false, arith, length, get_or, lt-ltb, le-ltb}
+use Rattle.std.specs.Prelude.{◌≤◌, ◌<◌, ◌≡◌, ◌≢◌, ◌∷◌}
+use Rattle.wire.proofs.Kit.{ℕ, refl, sym, ◌∙◌, List, [], append-nil, true, false, arith, length, get_or, lt-ltb, le-ltb}
 use Rattle.wire.proofs.Kit.{map, length-take, length-drop}
 use Rattle.wire.specs.Number.{Bytes}
 use Rattle.wire.specs.Field.{bytes_at}

@@ -3,7 +3,6 @@ use Rattle.wire.proofs.Kit.{ℕ, zero, suc, refl, List, eqb}
 use Rattle.wire.specs.Number.{Bytes}
 use Rattle.wire.specs.Limit as limit
 use Rattle.wire.specs.declared.cursor.Tag.{Tag}
-use Rattle.wire.specs.declared.cursor.Tag.TheVariants as Tag
 use Rattle.wire.specs.Field.{u16_at, got16, past_tag}
 use Rattle.wire.proofs.Laws.{picked}
 use Rattle.wire.proofs.Stands.{end8, end16, end32, end_text}
@@ -15,7 +14,6 @@ use Rattle.amf0.specs.Reading.{top_value}
 use Rattle.amf0.specs.Standard.UTF-8.{short}
 use Rattle.amf0_theorems.proofs.Dues.{value_due}
 use Rattle.packet.specs.declared.head.Head.{Head}
-use Rattle.packet.specs.declared.head.Head.TheVariants as Head
 use Rattle.packet.specs.Head.{version_at, header_at, message_at, head_at, got_head}
 use Rattle.packet.specs.Reading.{record_of, entries_at, body_at, packet_at}
 use Rattle.packet_theorems.specs.Due.{DueAt}

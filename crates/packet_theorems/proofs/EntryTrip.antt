@@ -1,5 +1,6 @@
 -- Demand 2 for a tree that was read by entry: its image, over the packet, is written, in no more bytes than its span, and reads back as the same tree.
-use Rattle.wire.proofs.Kit.{ℕ, ◌*◌, ◌≤◌, ◌≡◌, ap, ◌≢◌, List, arith, length}
+use Rattle.std.specs.Prelude.{◌*◌, ◌≤◌, ◌≡◌, ◌≢◌}
+use Rattle.wire.proofs.Kit.{ℕ, ap, List, arith, length}
 use Rattle.wire.specs.Number.{Bytes}
 use Rattle.image.specs.Out.{written}
 use Rattle.image.specs.Whole.{Whole}

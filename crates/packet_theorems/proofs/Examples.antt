@@ -1,5 +1,6 @@
 -- Demand 3 at the packet of the rule "Examples" (docs/DEMANDS.md), a message "a" with the value 05, and at that packet with its last byte bent to 04.
-use Rattle.wire.proofs.Kit.{ℕ, ◌<◌, ◌≤◌, ◌≡◌, refl, sym, ◌∙◌, ◌⊎◌, inl, inr, List, [], ◌∷◌, ◌++◌, arith, get_or, List·getD-eq-default}
+use Rattle.std.specs.Prelude.{◌<◌, ◌≤◌, ◌≡◌, ◌⊎◌, ◌∷◌, ◌++◌}
+use Rattle.wire.proofs.Kit.{ℕ, refl, sym, ◌∙◌, inl, inr, List, [], arith, get_or, List·getD-eq-default}
 use lib.ListN.{get_or-append}
 use Rattle.wire.specs.Number.{digits}
 use Rattle.wire.specs.Utf8.{ends}

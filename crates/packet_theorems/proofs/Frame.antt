@@ -1,5 +1,6 @@
 -- The cut of a packet reads only what stands beside the values of a known length: how its entries lie, and that the same bytes beside those are cut alike.
-use Rattle.wire.proofs.Kit.{ℕ, zero, suc, ◌+◌, ◌-◌, ◌≤◌, ◌<◌, ◌≡◌, refl, sym, ap, subst, ◌∙◌, inl, inr, List, [], ◌∷◌, ◌++◌, append-nil, map, Bool, true, false}
+use Rattle.std.specs.Prelude.{◌+◌, ◌-◌, ◌≤◌, ◌<◌, ◌≡◌, ◌∷◌, ◌++◌}
+use Rattle.wire.proofs.Kit.{ℕ, zero, suc, refl, sym, ap, subst, ◌∙◌, inl, inr, List, [], append-nil, map, Bool, true, false}
 use Rattle.wire.proofs.Kit.{arith, le_refl, length, get_or, leb, leb-true, le-leb, ap₂, drop, eqb, eqb-true}
 use Rattle.wire.specs.Choice.{pick}
 use Rattle.wire.specs.Limit as limit
@@ -8,7 +9,6 @@ use Rattle.wire.specs.Field.{to, bytes_at, u16_at, tag_at, past_tag}
 use Rattle.wire.specs.declared.cursor.Cursor.{Cursor}
 use Rattle.wire.specs.declared.cursor.U16.TheVariants as U16
 use Rattle.wire.specs.declared.cursor.Tag.{Tag}
-use Rattle.wire.specs.declared.cursor.Tag.TheVariants as Tag
 use Rattle.wire.proofs.Laws.{picked, u16_next, tag_next}
 use Rattle.wire.proofs.Stands.{Here, stood, length_bytes}
 use Rattle.amf0.specs.Span.{Span, Beside, Changed}

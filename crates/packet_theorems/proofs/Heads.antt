@@ -1,5 +1,6 @@
 -- The head of an entry against the bytes that stand in the packet: what stands there is read, and what was read stood there.
-use Rattle.wire.proofs.Kit.{ℕ, zero, suc, ◌+◌, ◌^◌, ◌≤◌, ◌<◌, ◌≡◌, refl, ap, ◌∙◌, List, [], ◌∷◌, ◌++◌, append_assoc, Bool, true, false, arith, length}
+use Rattle.std.specs.Prelude.{◌+◌, ◌^◌, ◌≤◌, ◌<◌, ◌≡◌, ◌∷◌, ◌++◌}
+use Rattle.wire.proofs.Kit.{ℕ, zero, suc, refl, ap, ◌∙◌, List, [], append_assoc, Bool, true, false, arith, length}
 use Rattle.wire.proofs.Kit.{length-append, drop, ltb, eqb, lit<, lt-ltb}
 use Rattle.wire.specs.Choice.{pick}
 use Rattle.wire.specs.Number.{digits, Bytes}
@@ -17,7 +18,6 @@ use Rattle.amf0.specs.Shown as Shown
 use Rattle.amf0_theorems.proofs.Sound.{ends_at}
 use Rattle.packet.specs.declared.head.Entry.{Entry}
 use Rattle.packet.specs.declared.head.Head.{Head}
-use Rattle.packet.specs.declared.head.Head.TheVariants as Head
 use Rattle.packet.specs.Head.{bit_of, entry, header_at, message_at, head_at}
 use Rattle.packet.specs.Packet as packet
 use Rattle.packet.specs.Packet.{Label, IsHeader, IsMessage}

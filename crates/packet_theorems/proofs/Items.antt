@@ -1,5 +1,6 @@
 -- Entries in a row against the standard's packet: what stands there is read and shown, what was read stood there, and it is no other.
-use Rattle.wire.proofs.Kit.{ℕ, zero, suc, ◌+◌, ◌^◌, ◌≤◌, ◌<◌, ◌≡◌, refl, sym, ap, ap₂, ◌∙◌, List, [], ◌∷◌, ◌++◌, append_assoc, arith, length, take, drop}
+use Rattle.std.specs.Prelude.{◌+◌, ◌^◌, ◌≤◌, ◌<◌, ◌≡◌, ◌∷◌, ◌++◌}
+use Rattle.wire.proofs.Kit.{ℕ, zero, suc, refl, sym, ap, ap₂, ◌∙◌, List, [], append_assoc, arith, length, take, drop}
 use Rattle.wire.proofs.Kit.{length-append, take-append_seam, drop-append_seam, map, map-append, true, false}
 use Rattle.wire.specs.Number.{digits, Bytes}
 use Rattle.wire.specs.Limit as limit
@@ -9,7 +10,7 @@ use Rattle.wire.proofs.Stands.{Here, cut, skip}
 use Rattle.image.specs.declared.record.Record.{Record}
 use Rattle.image.specs.Due.{stop, Ends}
 use Rattle.image.specs.Whole.{bytes}
-use Rattle.amf0.specs.Reading.{value, top_value}
+use Rattle.amf0.specs.Reading.{top_value}
 use Rattle.amf0.specs.Shown.{Shows, laid}
 use Rattle.amf0_theorems.proofs.Telling as telling
 use Rattle.amf0_theorems.proofs.Spelling.{shown, spelled}
@@ -107,8 +108,8 @@ module _ {kind : ℕ} {Kind : Label → Type 0} (k : Kinded kind Kind) where
         imaged = λ l. record { records = []; spells = Spells.none; alike = refl; lies = refl };
         exact = λ t. record { entries = []; count = refl; exactly = rw e Exactly.none };
       }
-  items_told (Items.more {l} {d} {v} {is} {x} {y} {z} is-kind h b e i) s r at g deep =
-      let f : First kind s at l x d y z r = first is-kind h b g in
+  items_told (Items.more {l} {d} {v} {is} {x} {y} {z} is_kind h b e i) s r at g deep =
+      let f : First kind s at l x d y z r = first is_kind h b g in
       let p = f.head.entry.place in
       go f (telling.reads limit.levels s (z ++ r) p e f.value deep.0) (shown s (z ++ r) p e f.value deep.0)
       (read s y (z ++ r) p e f.value deep.0) (items_told i s r (p + length y) f.behind deep.1)
@@ -116,7 +117,7 @@ module _ {kind : ℕ} {Kind : Label → Type 0} (k : Kinded kind Kind) where
       go : (f : First kind s at l x d y z r) → telling.Reads limit.levels s f.head.entry.place (f.head.entry.place + length y) v
           → (length s ≤ limit.bytes → Shows s v (bytes (top_value s f.head.entry.place))) → (length s ≤ limit.bytes → Of s f.head.entry.place v)
           → Told kind i s (f.head.entry.place + length y) (f.head.entry.place + length y + length z)
-          → Told kind (Items.more {l = l} {d = d} {v = v} {is = is} {x = x} {y = y} {z = z} is-kind h b e i) s at (at + length (x ++ (digits 4 d ++ (y ++ z))))
+          → Told kind (Items.more {l = l} {d = d} {v = v} {is = is} {x = x} {y = y} {z = z} is_kind h b e i) s at (at + length (x ++ (digits 4 d ++ (y ++ z))))
       go f a w o t =
           let p = f.head.entry.place in
           let u = top_value s p in
@@ -128,7 +129,7 @@ module _ {kind : ℕ} {Kind : Label → Type 0} (k : Kinded kind Kind) where
                 let m = t.imaged b in
                 record {
                   records = record_of f.head.entry ∷ (records_of u ++ m.records);
-                  spells = Spells.more is-kind (f.head.fits b) f.head.names (o b).right (spelled s v (records_of u) a.tells) m.spells;
+                  spells = Spells.more is_kind (f.head.fits b) f.head.names (o b).right (spelled s v (records_of u) a.tells) m.spells;
                   alike = rw (record_alike s l f.head.entry f.head.labelled, map-append unplaced (records_of u) m.records, (o b).same, m.alike);
                   lies = rw (f.head.read, same, laid_append (records_of u) m.records, m.lies, bytes_laid u);
                 };

@@ -1,15 +1,14 @@
 -- But where a length says that it is not known, the cut is what it was before one could say so.
-use Rattle.wire.proofs.Kit.{ℕ, zero, suc, ◌+◌, ◌≤◌, ◌≡◌, refl, sym, ◌∙◌, List, [], ◌∷◌, arith, length, eqb, lt-leb, eqb-true}
+use Rattle.std.specs.Prelude.{◌+◌, ◌≤◌, ◌≡◌, ◌∷◌}
+use Rattle.wire.proofs.Kit.{ℕ, zero, suc, refl, sym, ◌∙◌, List, [], arith, length, eqb, lt-leb, eqb-true}
 use Rattle.wire.specs.Choice.{pick}
 use Rattle.wire.specs.Limit as limit
 use Rattle.wire.specs.Number.{number}
 use Rattle.wire.specs.Field.{bytes_at, u16_at, got16}
 use Rattle.wire.specs.declared.cursor.U16.{U16}
-use Rattle.wire.specs.declared.cursor.U16.TheVariants as U16
 use Rattle.wire.proofs.Laws.{picked}
 use Rattle.packet.specs.declared.head.Entry.{Entry}
 use Rattle.packet.specs.declared.head.Head.{Head}
-use Rattle.packet.specs.declared.head.Head.TheVariants as Head
 use Rattle.packet.specs.Head.{unknown, front_of, head_at, got_head}
 use Rattle.packet.specs.Entry.{Ending, done, halt, reach, Trail, stopped, puts, ◌thence◌, measured_at, entry_at, walk, end_at, messages_from, stops, strict, cut_of}
 use Rattle.packet.proofs.Laws.{head_length, front_told, Fronted}

@@ -1,16 +1,15 @@
 -- The label of an entry, and its head, are gone over just as the grammar of refusals has them.
-use Rattle.wire.proofs.Kit.{ℕ, ◌+◌, ◌<◌, ◌≡◌, refl, sym, ap, ◌∙◌, List, [], ◌∷◌, ◌++◌, append-nil, arith, length, get_or, eqb, le-leb, lt-leb}
+use Rattle.std.specs.Prelude.{◌+◌, ◌<◌, ◌≡◌, ◌∷◌, ◌++◌}
+use Rattle.wire.proofs.Kit.{ℕ, refl, sym, ap, ◌∙◌, List, [], append-nil, arith, length, get_or, eqb, le-leb, lt-leb}
 use Rattle.wire.specs.Number.{digits, number, Bytes}
 use Rattle.wire.specs.Field.{to, bytes_at, u8_at, u32_at, text_at, got8, got32, got_text}
 use Rattle.wire.specs.declared.cursor.Text.{Text}
-use Rattle.wire.specs.declared.cursor.Text.TheVariants as Text
 use Rattle.wire.proofs.Stands.{Here, skip, go8, go32, bytes_here}
 use Rattle.amf0.specs.Standard.{UTF-8}
 use Rattle.amf0_theorems.specs.Refusal.{Field, InText}
 use Rattle.amf0_theorems.specs.Refusal.Field.{some}
 use Rattle.packet.specs.declared.head.Entry.{Entry}
 use Rattle.packet.specs.declared.head.Head.{Head}
-use Rattle.packet.specs.declared.head.Head.TheVariants as Head
 use Rattle.packet.specs.Head.{bit_of, entry, header_at, message_at, head_at, got_head}
 use Rattle.packet.specs.Packet as packet
 use Rattle.packet.specs.Packet.{Label, IsHeader, IsMessage}

@@ -1,5 +1,6 @@
 -- What the packet calls come to, from how their readings end.
-use Rattle.wire.proofs.Kit.{ℕ, ◌+◌, ◌≤◌, ◌<◌, ◌≡◌, refl, sym, List, arith, length, leb, leb-true, leb-false}
+use Rattle.std.specs.Prelude.{◌+◌, ◌≤◌, ◌<◌, ◌≡◌}
+use Rattle.wire.proofs.Kit.{ℕ, refl, sym, List, arith, length, leb, leb-true, leb-false}
 use Rattle.wire.specs.Limit as limit
 use Rattle.wire.proofs.Laws.{picked}
 use Rattle.image.specs.Whole.{Whole, refused}
@@ -7,7 +8,6 @@ use Rattle.amf0.specs.Span.{span_at, answer_of, one_value}
 use Rattle.amf0_theorems.proofs.Call.{Bounded}
 use Rattle.packet.specs.declared.head.Entry.{Entry}
 use Rattle.packet.specs.declared.entry.Found.{Found}
-use Rattle.packet.specs.declared.entry.Found.TheVariants as Found
 use Rattle.packet.specs.Reading.{packet_at}
 use Rattle.packet.specs.Entry.{Cut, found, stops, cut_of, Listed, uncut, listed, list_of, span, read_span, entry_in, read_entry, found_in}
 use Rattle.packet.proofs.Laws.{Tells, cut_told, entry_none, entry_chosen}

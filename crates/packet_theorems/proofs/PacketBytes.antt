@@ -1,5 +1,6 @@
 -- Every packet is a row of bytes.
-use Rattle.wire.proofs.Kit.{ℕ, List, [], ◌∷◌, ◌++◌, length, lit<}
+use Rattle.std.specs.Prelude.{◌∷◌, ◌++◌}
+use Rattle.wire.proofs.Kit.{ℕ, List, [], length, lit<}
 use Rattle.wire.specs.Number.{digits, Bytes}
 use Rattle.amf0.specs.Standard.UTF-8.{short}
 use Rattle.amf0_theorems.proofs.Bytes.{◌also◌, both, number, text, encoding}

@@ -1,12 +1,13 @@
 -- The theorems on the readers of packets, over what their public calls come to.
-use Rattle.wire.proofs.Kit.{ℕ, ◌+◌, ◌*◌, ◌≤◌, ◌<◌, ◌≡◌, refl, sym, ap, ap₂, ◌∙◌, ◌↔◌, List, [], ◌++◌, append-nil, arith, le_refl, length, get_or, take, drop}
+use Rattle.std.specs.Prelude.{◌+◌, ◌*◌, ◌≤◌, ◌<◌, ◌≡◌, ◌↔◌, ◌++◌}
+use Rattle.wire.proofs.Kit.{ℕ, refl, sym, ap, ap₂, ◌∙◌, List, [], append-nil, arith, le_refl, length, get_or, take, drop}
 use Rattle.wire.proofs.Kit.{take-append_seam, take-length, le-leb, lt-ltb}
 use Rattle.wire.specs.Number.{Bytes}
 use Rattle.wire.specs.Limit as limit
 use Rattle.wire.proofs.Stands.{stood, length_bytes}
 use Rattle.image.specs.Due.{Due}
 use Rattle.image.specs.Whole.{Whole, bytes, accepted}
-use Rattle.amf0.specs.Reading.{value, top_value}
+use Rattle.amf0.specs.Reading.{top_value}
 use Rattle.amf0.specs.Span.{one_value}
 use Rattle.amf0.specs.Standard.{Sort, Tree, depth, Encodes}
 use Rattle.amf0.specs.Shown.{Shows}

@@ -1,6 +1,7 @@
 -- A part of an input that is gone over just as a grammar has it: where it stands, where it ends, and which field refuses it; and the fields that a packet is
 -- made of.
-use Rattle.wire.proofs.Kit.{ℕ, ◌+◌, ◌^◌, ◌≤◌, ◌<◌, ◌≡◌, refl, sym, ap, ◌∙◌, List, [], ◌++◌, true, arith, add_assoc, add-zero, length, drop, length-append}
+use Rattle.std.specs.Prelude.{◌+◌, ◌^◌, ◌≤◌, ◌<◌, ◌≡◌, ◌++◌}
+use Rattle.wire.proofs.Kit.{ℕ, refl, sym, ap, ◌∙◌, List, [], true, arith, add_assoc, add-zero, length, drop, length-append}
 use Rattle.wire.proofs.Kit.{length-drop, leb, le-leb, lt-leb, leb-true, leb-false}
 use Rattle.wire.specs.Choice.{pick}
 use Rattle.wire.specs.Number.{digits, number, Bytes}
@@ -65,16 +66,16 @@ module _ {St Tt : ℕ → List ℕ → Type 0} {L M : List ℕ → List ℕ → 
   pub turned : {o : Part} → ((v : ℕ) (x r : List ℕ) → Here s at x r → St v x → Tt v x) → ((v : ℕ) (x r : List ℕ) → Here s at x r → Tt v x → St v x)
       → ((r x : List ℕ) (f : Field) → drop at s ≡ x ++ r → L r x f → M r x f) → ((r x : List ℕ) (f : Field) → drop at s ≡ x ++ r → M r x f → L r x f)
       → Follows St L s at o → Follows Tt M s at o
-  turned {o} to-t to-s to-m to-l a =
+  turned {o} to_t to_s to_m to_l a =
       record {
-        ends = λ v x r t h. a.ends v x r (to-s v x r h t) h;
-        stops = λ b p q. a.stops b p (onward {m = []} (record { same = refl }) (omega arith) to-l q);
+        ends = λ v x r t h. a.ends v x r (to_s v x r h t) h;
+        stops = λ b p q. a.stops b p (onward {m = []} (record { same = refl }) (omega arith) to_l q);
         told = go o a.told;
       }
     where
       go : (o : Part) → Tells St L s at o → Tells Tt M s at o
-      go (goes v n) d = record { row = d.row; rest = d.rest; stands = to-t v d.row d.rest d.here d.stands; here = d.here; next = d.next }
-      go (halts b p) q = onward {m = []} (record { same = refl }) (omega arith) to-m q
+      go (goes v n) d = record { row = d.row; rest = d.rest; stands = to_t v d.row d.rest d.here d.stands; here = d.here; next = d.next }
+      go (halts b p) q = onward {m = []} (record { same = refl }) (omega arith) to_m q
 
 -- bytes that give no number
 pub data Plain (P : List ℕ → Type 0) : ℕ → List ℕ → Type 0 where

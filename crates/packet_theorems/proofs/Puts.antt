@@ -1,5 +1,6 @@
 -- The image of a packet is put out as what the packet is written as.
-use Rattle.wire.proofs.Kit.{ℕ, ◌+◌, ◌<◌, ◌≡◌, refl, sym, ap, ◌∙◌, List, [], ◌∷◌, ◌++◌, append_assoc, append-nil, Bool, true, false, arith, length}
+use Rattle.std.specs.Prelude.{◌+◌, ◌<◌, ◌≡◌, ◌∷◌, ◌++◌}
+use Rattle.wire.proofs.Kit.{ℕ, refl, sym, ap, ◌∙◌, List, [], append_assoc, append-nil, Bool, true, false, arith, length}
 use Rattle.wire.specs.Number.{digits}
 use Rattle.wire.specs.Field.{bytes_at}
 use Rattle.wire.specs.Limit as limit
@@ -9,7 +10,7 @@ use Rattle.image.specs.declared.record.Record.{Record}
 use Rattle.image.specs.declared.record.Record.TheVariants as R
 use Rattle.image.specs.Record.{◌bytes◌, none, size}
 use Rattle.image.specs.Taking.{Fits}
-use Rattle.image.specs.Out.{Out, end, row_of, row, bytes as putOut, sized}
+use Rattle.image.specs.Out.{Out, end, row_of, row, bytes as put_out_lem, sized}
 use Rattle.amf0.specs.Standard.{depth}
 use Rattle.amf0.specs.Shown.{laid, Named, Right}
 use Rattle.amf0.specs.Written as amf0
@@ -83,7 +84,7 @@ module _ (s : List ℕ) where
         let e : ℕ = q + length (laid rs) in
         let j : Here image q (laid rs ++ laid qs) z = rw (laid_append rs qs) at (others s image r (rs ++ qs) z h) in
         let u : Out = top_value image s q in
-        let m : ℕ = declared exact (length (putOut u)) in
+        let m : ℕ = declared exact (length (put_out_lem u)) in
         let ends : at + length (laid (r ∷ (rs ++ qs))) ≡ e + length (laid qs) = omega (arith, laid_size r (rs ++ qs), laid_length rs qs) in
         let x : (E : Type 0) → (limit.levels < depth v → E) → Puts E u (amf0.write v) e =
         λ E i. puts s image c g (laid qs ++ z) q e limit.levels (length (laid rs)) (cut (laid rs) (laid qs) j) refl i (omega arith) in
@@ -95,7 +96,7 @@ module _ (s : List ℕ) where
           out = (write_label l ++ (digits 4 m ++ amf0.write v)) ++ o.out;
           puts = rw ends (then (entries kind exact image s (length is)) (then _ a b) o.puts);
           same = λ w.
-              let same : putOut u ≡ amf0.write v = puts_bytes (x ⊥ λ i. omega (arith, w.0)) in
+              let same : put_out_lem u ≡ amf0.write v = puts_bytes (x ⊥ λ i. omega (arith, w.0)) in
               rw (same, o.same w.1) (simp append_assoc);
         }
 

@@ -1,5 +1,6 @@
 -- Why each packet call is refused, and what it accepts, by the grammars.
-use Rattle.wire.proofs.Kit.{ℕ, suc, ◌≤◌, ◌≡◌, refl, sym, ap, ◌≢◌, ◌↔◌, List, [], ◌∷◌, arith, length, get_or, length-append, leb, ltb, leb-true, leb-false, le-leb}
+use Rattle.std.specs.Prelude.{◌≤◌, ◌≡◌, ◌≢◌, ◌↔◌, ◌∷◌}
+use Rattle.wire.proofs.Kit.{ℕ, suc, refl, sym, ap, List, [], arith, length, get_or, length-append, leb, ltb, leb-true, leb-false, le-leb}
 use Rattle.wire.proofs.Kit.{ltb-true, ltb-false, ne_eqb}
 use Rattle.wire.specs.Number.{Bytes}
 use Rattle.wire.specs.Limit as limit
@@ -10,7 +11,6 @@ use Rattle.amf0_theorems.proofs.Call.{call_either}
 use Rattle.amf0_theorems.specs.Refusal.{Field, Refuses}
 use Rattle.packet.specs.declared.head.Entry.{Entry}
 use Rattle.packet.specs.declared.entry.Found.{Found}
-use Rattle.packet.specs.declared.entry.Found.TheVariants as Found
 use Rattle.packet.specs.Packet.{Label, Item, Packet, Items, Encoded}
 use Rattle.packet.specs.Shown.{Shallow, Within}
 use Rattle.packet.specs.Reading.{packet_at, incomplete_of, whole_of}

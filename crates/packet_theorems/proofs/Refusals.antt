@@ -1,5 +1,6 @@
 -- The whole reading of a packet and the cut are refused exactly where, and as, the grammar of refusals says.
-use Rattle.wire.proofs.Kit.{ℕ, zero, suc, ◌+◌, ◌-◌, ◌^◌, ◌≤◌, ◌<◌, ◌≡◌, refl, sym, ap, subst, ◌∙◌, ◌≢◌, ◌↔◌, List, [], ◌∷◌, ◌++◌, Bool, true, false, arith, add-zero}
+use Rattle.std.specs.Prelude.{◌+◌, ◌-◌, ◌^◌, ◌≤◌, ◌<◌, ◌≡◌, ◌≢◌, ◌↔◌, ◌∷◌, ◌++◌}
+use Rattle.wire.proofs.Kit.{ℕ, zero, suc, refl, sym, ap, subst, ◌∙◌, List, [], Bool, true, false, arith, add-zero}
 use Rattle.wire.proofs.Kit.{length, take, drop, length-append, length-drop, leb, eqb, le-leb, lt-leb, eq-eqb, ne_eqb, leb-true, leb-false, eqb-true, eqb-false}
 use Rattle.wire.specs.Choice.{pick}
 use Rattle.wire.specs.Number.{digits, number, Bytes}
@@ -7,7 +8,6 @@ use Rattle.wire.specs.Limit as limit
 use Rattle.wire.specs.Field.{to, bytes_at, u16_at, got16, past_tag}
 use Rattle.wire.specs.declared.cursor.U16.TheVariants as U16
 use Rattle.wire.specs.declared.cursor.Tag.{Tag}
-use Rattle.wire.specs.declared.cursor.Tag.TheVariants as Tag
 use Rattle.wire.proofs.Laws.{picked, length_digits, number_digits}
 use Rattle.wire.proofs.Stands.{Here, Stood, there, inside, stood, number_stood, join, length_bytes, go16, cut as front}
 use Rattle.image.specs.Due.{Due, end, stop, seen, due, ◌>>=◌, Ends, Stops, on_end}
@@ -20,7 +20,6 @@ use Rattle.amf0_theorems.proofs.Telling as telling
 use Rattle.amf0_theorems.proofs.Sound as soundness
 use Rattle.packet.specs.declared.head.Entry.{Entry}
 use Rattle.packet.specs.declared.head.Head.{Head}
-use Rattle.packet.specs.declared.head.Head.TheVariants as Head
 use Rattle.packet.specs.Head.{unknown, version_at, front_of, head_at, got_head}
 use Rattle.packet.specs.Packet.{Label}
 use Rattle.packet.specs.Reading.{entries_at, packet_at}
@@ -155,14 +154,20 @@ pub value_goes : (s : List ℕ) → Bytes s → Goes whole s (value_by s)
 value_goes s bs = record { follows = follows }
   where
     to_body : (v : ℕ) (x : List ℕ) → Both (Number 4) (λ d. Plain Value) v x → Plain (Body whole) v x
-    to_body v x (Both.both (Number.is l) (Plain.plain y)) = plain (Body.body l y)
+    to_body v x (Both.both n (Plain.plain y)) = go n y
+      where
+        go : {d : ℕ} {b y : List ℕ} → Number 4 d b → Value y → Plain (Body whole) 0 (b ++ y)
+        go (Number.is l) y = plain (Body.body l y)
 
     from_body : (v : ℕ) (x : List ℕ) → Plain (Body whole) v x → Both (Number 4) (λ d. Plain Value) v x
     from_body v x (Plain.plain (Body.body l y)) = Both.both (Number.is l) (plain y)
 
     to_leads : (r x : List ℕ) (f : Field) → LeadsBoth (Number 4) (λ r. Only (some 4)) whole.Inside r x f → LeadsBody whole r x f
     to_leads r x f (LeadsBoth.one Only.only) = LeadsBody.size refl
-    to_leads r x f (LeadsBoth.two (Number.is l) i) = LeadsBody.inside l i
+    to_leads r x f (LeadsBoth.two n i) = go n i
+      where
+        go : {d : ℕ} {b y : List ℕ} {f : Field} → Number 4 d b → whole.Inside d r y f → LeadsBody whole r (b ++ y) f
+        go (Number.is l) i = LeadsBody.inside l i
 
     from_leads : (r x : List ℕ) (f : Field) → LeadsBody whole r x f → LeadsBoth (Number 4) (λ r. Only (some 4)) whole.Inside r x f
     from_leads r x f (LeadsBody.size z) = rw z (LeadsBoth.one Only.only)

@@ -1,5 +1,6 @@
 -- More room changes nothing, for every packet call. So the round trip goes in every room that is not refused for room, and in that of the first reading.
-use Rattle.wire.proofs.Kit.{ℕ, ◌*◌, ◌≤◌, ◌<◌, ◌≡◌, refl, ap, ◌≢◌, ◌↔◌, List, Bool, le_refl, arith, length, get_or, leb, ltb}
+use Rattle.std.specs.Prelude.{◌*◌, ◌≤◌, ◌<◌, ◌≡◌, ◌≢◌, ◌↔◌}
+use Rattle.wire.proofs.Kit.{ℕ, refl, ap, List, Bool, le_refl, arith, length, get_or, leb, ltb}
 use Rattle.wire.specs.Limit as limit
 use Rattle.wire.specs.Text.{inside_of}
 use Rattle.image.specs.Out.{written}

@@ -1,5 +1,6 @@
 -- An entry against what its length says of the bytes behind it: what stands there is found, and what was found stood there.
-use Rattle.wire.proofs.Kit.{ℕ, ◌+◌, ◌-◌, ◌^◌, ◌≤◌, ◌<◌, ◌≡◌, refl, sym, ap, subst, ◌∙◌, List, ◌++◌, arith, length, length-append, length-drop, lit<, le-leb, ne_eqb}
+use Rattle.std.specs.Prelude.{◌+◌, ◌-◌, ◌^◌, ◌≤◌, ◌<◌, ◌≡◌}
+use Rattle.wire.proofs.Kit.{ℕ, refl, ap, subst, ◌∙◌, List, arith, length, length-append, length-drop, lit<, le-leb, ne_eqb}
 use Rattle.wire.specs.Limit as limit
 use Rattle.wire.specs.Number.{Bytes}
 use Rattle.wire.specs.Field.{to}
@@ -12,7 +13,6 @@ use Rattle.amf0_theorems.proofs.Sound as soundness
 use Rattle.amf0_theorems.proofs.Telling as telling
 use Rattle.packet.specs.declared.head.Entry.{Entry}
 use Rattle.packet.specs.declared.head.Head.{Head}
-use Rattle.packet.specs.declared.head.Head.TheVariants as Head
 use Rattle.packet.specs.Head.{unknown, head_at}
 use Rattle.packet.specs.Entry.{measured, entry_at, span_of}
 use Rattle.packet.proofs.Laws.{head_begun, value_read, Entered, entry_told}

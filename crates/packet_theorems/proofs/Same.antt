@@ -1,25 +1,20 @@
 -- The fields round a packet's values, and what the bytes that they were read from settle: where the same bytes stand, the same is read.
-use Rattle.wire.proofs.Kit.{ℕ, ◌+◌, ◌≤◌, ◌<◌, ◌≡◌, refl, sym, ap, ◌∙◌, List, Bool, true, false, arith, length, get_or, eqb, le-leb}
+use Rattle.std.specs.Prelude.{◌+◌, ◌≤◌, ◌<◌, ◌≡◌}
+use Rattle.wire.proofs.Kit.{ℕ, refl, sym, ap, ◌∙◌, List, Bool, true, false, arith, length, get_or, eqb, le-leb}
 use Rattle.wire.specs.Choice.{pick}
 use Rattle.wire.specs.Number.{number}
 use Rattle.wire.specs.Utf8.{utf8}
 use Rattle.wire.specs.Field.{to, bytes_at, whole, equal, u8_at, u16_at, u32_at, str_at, text_at, tag_at, got8, got16, got32, got_text, past_tag}
 use Rattle.wire.specs.declared.cursor.Cursor.{Cursor}
 use Rattle.wire.specs.declared.cursor.U8.{U8}
-use Rattle.wire.specs.declared.cursor.U8.TheVariants as U8
 use Rattle.wire.specs.declared.cursor.U16.{U16}
-use Rattle.wire.specs.declared.cursor.U16.TheVariants as U16
 use Rattle.wire.specs.declared.cursor.U32.{U32}
-use Rattle.wire.specs.declared.cursor.U32.TheVariants as U32
 use Rattle.wire.specs.declared.cursor.Text.{Text}
-use Rattle.wire.specs.declared.cursor.Text.TheVariants as Text
 use Rattle.wire.specs.declared.cursor.Tag.{Tag}
-use Rattle.wire.specs.declared.cursor.Tag.TheVariants as Tag
 use Rattle.wire.proofs.Laws.{u8_next, u32_next, text_next}
 use Rattle.wire.proofs.Stands.{length_bytes}
 use Rattle.packet.specs.declared.head.Entry.{Entry}
 use Rattle.packet.specs.declared.head.Head.{Head}
-use Rattle.packet.specs.declared.head.Head.TheVariants as Head
 use Rattle.packet.specs.Head.{bit_of, entry, header_at, message_at, head_at, got_head}
 use Rattle.packet.specs.Entry.{Ending, done, halt, reach}
 use Rattle.amf0_theorems.proofs.Spans.{bytes_same}

@@ -1,5 +1,6 @@
 -- What stands at a place of a packet's image, as its writing sees it: the record that is due there, or none.
-use Rattle.wire.proofs.Kit.{ℕ, ◌≡◌, refl, sym, ◌∙◌, List, Bool, drop}
+use Rattle.std.specs.Prelude.{◌≡◌}
+use Rattle.wire.proofs.Kit.{ℕ, refl, sym, ◌∙◌, List, Bool, drop}
 use Rattle.amf0.specs.Shown.{Stands}
 use Rattle.wire.specs.Number.{Bytes}
 use Rattle.wire.specs.Field.{bytes_at}

@@ -1,5 +1,6 @@
 -- What a packet is written as is that packet, but for the lengths that it declares, and no row of bytes that is the packet is shorter.
-use Rattle.wire.proofs.Kit.{ℕ, ◌+◌, ◌^◌, ◌≤◌, ◌<◌, ◌≡◌, refl, ap, List, [], ◌∷◌, ◌++◌, map, Bool, true, false, le_refl, arith, length, length-append}
+use Rattle.std.specs.Prelude.{◌+◌, ◌^◌, ◌≤◌, ◌<◌, ◌≡◌, ◌∷◌, ◌++◌}
+use Rattle.wire.proofs.Kit.{ℕ, refl, ap, List, [], map, Bool, true, false, le_refl, arith, length, length-append}
 use Rattle.wire.proofs.Kit.{length-map, lit<}
 use Rattle.wire.specs.Number.{digits}
 use Rattle.wire.specs.Limit as limit

@@ -1,5 +1,6 @@
 -- The theorems on the reading of a part of a packet, over what it comes to.
-use Rattle.wire.proofs.Kit.{ℕ, ◌+◌, ◌≤◌, ◌≡◌, refl, ◌≢◌, ◌⊎◌, inl, inr, List, arith, length}
+use Rattle.std.specs.Prelude.{◌+◌, ◌≤◌, ◌≡◌, ◌≢◌, ◌⊎◌}
+use Rattle.wire.proofs.Kit.{ℕ, refl, inl, inr, List, arith, length}
 use Rattle.wire.specs.Limit as limit
 use Rattle.wire.specs.Field.{bytes_at}
 use Rattle.image.specs.Whole.{refused}

@@ -1,5 +1,6 @@
 -- What a reading accepts: a reading that ends inside the packet, within the limit and the room.
-use Rattle.wire.proofs.Kit.{ℕ, ◌≤◌, ◌≡◌, List, arith, length, subst}
+use Rattle.std.specs.Prelude.{◌≤◌, ◌≡◌}
+use Rattle.wire.proofs.Kit.{ℕ, List, arith, length, subst}
 use Rattle.wire.specs.Limit as limit
 use Rattle.image.specs.Whole.{bytes}
 use Rattle.amf0_theorems.proofs.Call.{Taken, call_roomy, call_takes}

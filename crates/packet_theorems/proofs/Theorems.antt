@@ -1,5 +1,6 @@
 -- The theorems on the packet calls, over what they come to.
-use Rattle.wire.proofs.Kit.{ℕ, ◌+◌, ◌*◌, ◌≤◌, ◌<◌, ◌≡◌, refl, sym, ap, ◌∙◌, ◌≢◌, ◌↔◌, ◌⊎◌, inl, inr, List, [], append-nil, false, arith, zero-add, length, get_or}
+use Rattle.std.specs.Prelude.{◌+◌, ◌*◌, ◌≤◌, ◌<◌, ◌≡◌, ◌≢◌, ◌↔◌, ◌⊎◌}
+use Rattle.wire.proofs.Kit.{ℕ, refl, sym, ap, ◌∙◌, inl, inr, List, [], append-nil, false, arith, zero-add, length, get_or}
 use Rattle.wire.proofs.Kit.{ltb, lt-leb, lt-ltb}
 use Rattle.wire.specs.Number.{Bytes}
 use Rattle.wire.specs.Limit as limit
@@ -8,7 +9,6 @@ use Rattle.image.specs.Due.{Due, Ends, Lacks}
 use Rattle.image.specs.Whole.{Whole, bytes, accepted, refused, all}
 use Rattle.packet.specs.declared.head.Entry.{Entry}
 use Rattle.packet.specs.declared.entry.Found.{Found}
-use Rattle.packet.specs.declared.entry.Found.TheVariants as Found
 use Rattle.packet.specs.Head.{front_of}
 use Rattle.packet.specs.Reading.{packet_at, incomplete_of, whole_of}
 use Rattle.packet.specs.Entry.{Cut, found, stops, cut_of, no_entry, read_span, read_entry, found_in, span, span_of}

@@ -1,5 +1,6 @@
 -- No image is that of two packets, but for the lengths that their entries declare, which it does not tell.
-use Rattle.wire.proofs.Kit.{ℕ, max, ◌+◌, ◌≤◌, ◌≡◌, refl, sym, ap, ◌∙◌, List, [], ◌∷◌, ◌++◌, map, append-nil, Bool, arith, length}
+use Rattle.std.specs.Prelude.{◌+◌, ◌≤◌, ◌≡◌, ◌∷◌, ◌++◌}
+use Rattle.wire.proofs.Kit.{ℕ, max, refl, sym, ap, ◌∙◌, List, [], map, append-nil, Bool, arith, length}
 use Rattle.wire.specs.Limit as limit
 use Rattle.wire.proofs.Stands.{Here, cut, skip}
 use Rattle.image.specs.declared.record.Record.{Record}

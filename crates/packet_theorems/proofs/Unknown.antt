@@ -1,5 +1,6 @@
 -- Where no length that the cut comes to is known, the whole reading answers as the cut does, at the same place, in a room for all its records.
-use Rattle.wire.proofs.Kit.{ℕ, suc, ◌*◌, ◌^◌, ◌≤◌, ◌<◌, ◌≡◌, refl, sym, ap, ◌∙◌, List, [], ◌∷◌, ◌++◌, append_assoc, Bool, true, false, arith, length, take}
+use Rattle.std.specs.Prelude.{◌*◌, ◌^◌, ◌≤◌, ◌<◌, ◌≡◌, ◌∷◌, ◌++◌}
+use Rattle.wire.proofs.Kit.{ℕ, suc, refl, sym, ap, ◌∙◌, List, [], append_assoc, Bool, true, false, arith, length, take}
 use Rattle.wire.proofs.Kit.{length-append, take_at, leb, lit<, lt-leb, leb-true, leb-false}
 use Rattle.wire.specs.Choice.{pick}
 use Rattle.wire.specs.Number.{digits, number, Bytes}

@@ -1,5 +1,6 @@
 -- A packet is gone over just as the grammar of its refusals has it, by the whole reading and by the cut: once over how the values are gone over.
-use Rattle.wire.proofs.Kit.{ℕ, zero, suc, ◌+◌, ◌^◌, ◌≤◌, ◌<◌, ◌≡◌, refl, sym, ap, subst, ◌∙◌, ◌≢◌, ◌⊎◌, inl, inr, List, [], ◌∷◌, ◌++◌, append-nil, Bool, true, false}
+use Rattle.std.specs.Prelude.{◌+◌, ◌^◌, ◌≤◌, ◌<◌, ◌≡◌, ◌≢◌, ◌⊎◌, ◌∷◌, ◌++◌}
+use Rattle.wire.proofs.Kit.{ℕ, zero, suc, refl, sym, ap, subst, ◌∙◌, inl, inr, List, [], append-nil, Bool, true, false}
 use Rattle.wire.proofs.Kit.{arith, add-zero, length, take, drop, get_or, length-drop, leb, eqb, le-leb, lt-leb, ne_eqb, leb-true, leb-false, eqb-true, eqb-false}
 use Rattle.wire.specs.Choice.{pick}
 use Rattle.wire.specs.Number.{digits, Bytes}
@@ -198,8 +199,12 @@ module _ (w : Way) where
       LeadsBoth (Number 2) (λ r. Only (some 2)) λ m r. LeadsEntries w IsMessage r m
 
   to_packet : (v : ℕ) (x : List ℕ) → Fields v x → Plain (IsPacket w) v x
-  to_packet v x (Both.both (Plain.plain Zero.nought) (Both.both (Plain.plain Zero.nought)
-      (Both.both (Number.is h) (Both.both (Plain.plain y) (Both.both (Number.is m) (Plain.plain z)))))) = plain (IsPacket.packet h y m z)
+  to_packet v x (Both.both (Plain.plain Zero.nought) (Both.both (Plain.plain Zero.nought) (Both.both h (Both.both (Plain.plain y) (Both.both m (Plain.plain z)))))) =
+      go h y m z
+    where
+      go : {h m : ℕ} {b e c z : List ℕ} → Number 2 h b → Entries w IsHeader h e → Number 2 m c → Entries w IsMessage m z
+          → Plain (IsPacket w) 0 (0 ∷ 0 ∷ b ++ (e ++ (c ++ z)))
+      go (Number.is h) y (Number.is m) z = plain (IsPacket.packet h y m z)
 
   -- behind the two zeros
   zeros : {u : ℕ} {y : List ℕ} → Both (Number 2) (λ h. Both (Plain (Entries w IsHeader h)) λ v. Both (Number 2) λ m. Plain (Entries w IsMessage m)) u y
@@ -208,6 +213,17 @@ module _ (w : Way) where
 
   from_packet : (v : ℕ) (x : List ℕ) → Plain (IsPacket w) v x → Fields v x
   from_packet v x (Plain.plain (IsPacket.packet h y m z)) = zeros (Both.both (Number.is h) (Both.both (plain y) (Both.both (Number.is m) (plain z))))
+
+  -- behind the two zeros and the count of headers
+  headers_lead : {h : ℕ} {r b y : List ℕ} {f : Field} → Number 2 h b → LeadsEntries w IsHeader r h y f → LeadsPacket w r (0 ∷ 0 ∷ b ++ y) f
+  headers_lead (Number.is h) y = LeadsPacket.headers h y
+
+  count_leads : {h : ℕ} {r b e : List ℕ} → Number 2 h b → Entries w IsHeader h e → LeadsPacket w r (0 ∷ 0 ∷ b ++ (e ++ [])) (some 2)
+  count_leads {e = y} (Number.is h) e = rw (append-nil y) (LeadsPacket.message_count h e)
+
+  messages_lead : {h m : ℕ} {r b e c y : List ℕ} {f : Field} → Number 2 h b → Entries w IsHeader h e → Number 2 m c → LeadsEntries w IsMessage r m y f
+      → LeadsPacket w r (0 ∷ 0 ∷ b ++ (e ++ (c ++ y))) f
+  messages_lead (Number.is h) e (Number.is m) y = LeadsPacket.messages h e m y
 
   to_field : (s : List ℕ) → (Seven s → ⊥) → (r x : List ℕ) (f : Field) → s ≡ x ++ r → LeadsFields r x f → LeadsPacket w r x f
   to_field s not r x f e (LeadsBoth.one Only.only) = LeadsPacket.zero
@@ -220,9 +236,9 @@ module _ (w : Way) where
           LeadsBoth (Number 2) (λ r. Only (some 2)) λ m r. LeadsEntries w IsMessage r m) r y f
           → LeadsPacket w r (0 ∷ 0 ∷ y) f
       go (LeadsBoth.one Only.only) = LeadsPacket.header_count
-      go (LeadsBoth.two (Number.is h) (LeadsBoth.one y)) = LeadsPacket.headers h y
-      go (LeadsBoth.two (Number.is h) (LeadsBoth.two {x = y} (Plain.plain e) (LeadsBoth.one Only.only))) = rw (append-nil y) (LeadsPacket.message_count h e)
-      go (LeadsBoth.two (Number.is h) (LeadsBoth.two (Plain.plain e) (LeadsBoth.two (Number.is m) y))) = LeadsPacket.messages h e m y
+      go (LeadsBoth.two h (LeadsBoth.one y)) = headers_lead h y
+      go (LeadsBoth.two h (LeadsBoth.two (Plain.plain e) (LeadsBoth.one Only.only))) = count_leads h e
+      go (LeadsBoth.two h (LeadsBoth.two (Plain.plain e) (LeadsBoth.two m y))) = messages_lead h e m y
 
   from_field : (r x : List ℕ) (f : Field) → LeadsPacket w r x f → LeadsFields r x f
   from_field r x f LeadsPacket.zero = LeadsBoth.one Only.only
@@ -298,7 +314,10 @@ seven_packet v (IsPacket.packet l y m z) h = seven_front v h.same
 -- an input is of version 3 or not
 seven_or : (s : List ℕ) → Seven s ⊎ (Seven s → ⊥)
 seven_or [] = inr (elim [ ])
-seven_or (b ∷ []) = inr (elim [ ])
+seven_or (b ∷ []) = inr λ v. long v refl
+  where
+    long : {s : List ℕ} → Seven s → s ≡ b ∷ [] → ⊥
+    long Seven.begins e = absurd (omega (arith, ap length e))
 seven_or (b ∷ c ∷ r) = go (eqb b 0) (eqb c 3) refl refl
   where
     both : {b c : ℕ} {r : List ℕ} → Seven (b ∷ c ∷ r) → (b ≡ 0) × (c ≡ 3)

@@ -1,5 +1,6 @@
 -- The whole packet against the standard's: what encodes a packet is read as it, and what was read encodes one.
-use Rattle.wire.proofs.Kit.{ℕ, ◌+◌, ◌^◌, ◌≤◌, ◌<◌, ◌≡◌, refl, sym, ap, ◌∙◌, List, [], ◌∷◌, ◌++◌, arith, length, drop, length-append, eqb, lit<, eqb-true, map}
+use Rattle.std.specs.Prelude.{◌+◌, ◌^◌, ◌≤◌, ◌<◌, ◌≡◌, ◌∷◌, ◌++◌}
+use Rattle.wire.proofs.Kit.{ℕ, refl, sym, ap, ◌∙◌, List, [], arith, length, drop, length-append, eqb, lit<, eqb-true, map}
 use Rattle.wire.proofs.Kit.{map-append}
 use Rattle.wire.specs.Number.{digits, Bytes}
 use Rattle.wire.specs.Limit as limit
@@ -7,7 +8,6 @@ use Rattle.wire.specs.Field.{to, u16_at, tag_at, got16}
 use Rattle.wire.specs.declared.cursor.Cursor.{Cursor}
 use Rattle.wire.specs.declared.cursor.U16.TheVariants as U16
 use Rattle.wire.specs.declared.cursor.Tag.{Tag}
-use Rattle.wire.specs.declared.cursor.Tag.TheVariants as Tag
 use Rattle.wire.proofs.Laws.{picked, u16_next, tag_next}
 use Rattle.wire.proofs.Stands.{Here, cut, skip, tag_at_lem, byte_at, u16_at_lem, tag_ends, end8, u16_ends}
 use Rattle.image.specs.Due.{Due, stop, Ends}

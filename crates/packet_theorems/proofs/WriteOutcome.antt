@@ -1,5 +1,6 @@
 -- A reading that is accepted makes an image that can be written.
-use Rattle.wire.proofs.Kit.{ℕ, suc, ◌+◌, ◌≤◌, ◌≡◌, refl, sym, ap, ap₂, ◌∙◌, List, [], ◌∷◌, ◌++◌, map, map-append, Bool, true, false, arith, length, take}
+use Rattle.std.specs.Prelude.{◌+◌, ◌≤◌, ◌≡◌, ◌∷◌, ◌++◌}
+use Rattle.wire.proofs.Kit.{ℕ, suc, refl, sym, ap, ap₂, ◌∙◌, List, [], map, map-append, Bool, true, false, arith, length, take}
 use Rattle.wire.proofs.Kit.{length-map, take-append-drop, lit<}
 use Rattle.wire.specs.Number.{digits, Bytes}
 use Rattle.wire.specs.Field.{to, u16_at, got16}
@@ -10,7 +11,7 @@ use Rattle.image.specs.declared.record.Record.TheVariants as R
 use Rattle.image.specs.Taking.{Fits}
 use Rattle.image.specs.Due.{Due, stop}
 use Rattle.image.specs.Whole.{Whole, bytes}
-use Rattle.amf0.specs.Reading.{value, top_value}
+use Rattle.amf0.specs.Reading.{top_value}
 use Rattle.amf0.specs.Shown.{laid}
 use Rattle.amf0.specs.Written.{Alike}
 use Rattle.amf0_theorems.proofs.Telling as telling

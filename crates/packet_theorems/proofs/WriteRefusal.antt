@@ -1,18 +1,19 @@
 -- A writing of a packet that is refused is so by what stands at its place: the records before it begin a packet, and what is due behind them is not there.
-use Rattle.wire.proofs.Kit.{ℕ, zero, suc, ◌≡◌, sym, List, Bool, arith, length, drop, ◌<◌, ◌∙◌}
+use Rattle.std.specs.Prelude.{◌≡◌, ◌<◌}
+use Rattle.wire.proofs.Kit.{ℕ, zero, suc, sym, List, Bool, arith, length, drop, ◌∙◌}
 use Rattle.wire.specs.Number.{Bytes}
 use Rattle.wire.specs.Limit as limit
 use Rattle.image.specs.declared.record.Record.TheVariants as R
 use Rattle.image.specs.declared.record.Field.{Field}
 use Rattle.image.specs.Record.{◌bytes◌, none}
-use Rattle.image.specs.Out.{Out, ◌>>=◌, row_of, row, bytes as putOut}
+use Rattle.image.specs.Out.{Out, ◌>>=◌, row_of, row, bytes as put_out_lem}
 use Rattle.amf0.specs.Writing.{top_value, whole}
 use Rattle.amf0_theorems.proofs.Puts.{empty, named}
 use Rattle.amf0_theorems.specs.Unwritten.{Stops}
 use Rattle.amf0_theorems.proofs.Seen.{Took}
 use Rattle.amf0_theorems.proofs.WriteReasons.{stops_once}
 use Rattle.amf0_theorems.proofs.WriteRefusal.{bind_stops, ends_not, Reached, no_record, past_record, past_records, past_tree, value_halt, whole_stops, left_behind, non_empty, refused_at}
-use Rattle.packet.specs.Packet.{Label, Packet, IsHeader, IsMessage}
+use Rattle.packet.specs.Packet.{Label, IsHeader, IsMessage}
 use Rattle.packet.specs.Writing.{label, declared, entry, entries, packet}
 use Rattle.packet_theorems.specs.Unwritten.{Slot, Entries, Opens, NoEntry, Refuses, Refused}
 use Rattle.packet_theorems.proofs.Puts.{names_named, spells_right}
@@ -46,7 +47,7 @@ module _ (s image : List ℕ) (bs : Bytes image) (exact : Bool) where
         (λ q f g.
         let l = label_at s image bs (see at) q f in
         let u : Out = top_value image s q in
-        let x = value_halt s image bs limit.levels q a p (numbers_go (4 bytes declared exact (length (putOut u))) none at a p u g) in
+        let x = value_halt s image bs limit.levels q a p (numbers_go (4 bytes declared exact (length (put_out_lem u))) none at a p u g) in
         halted (past_record s image bs l.took (names_named l.names) x.reached) (Entries.entry l.kind l.names x.begins) (Refuses.inside x.refuses))
       where
         by : {d : Out} → SeenLabel s image bs at Kind d → Stops d a p → Halted Kind own (suc c) at a p

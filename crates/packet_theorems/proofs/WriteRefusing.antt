@@ -1,5 +1,6 @@
 -- What stands where something else is due refuses the writing of a packet, at its place.
-use Rattle.wire.proofs.Kit.{ℕ, ◌+◌, ◌<◌, ◌≡◌, refl, ap, List, ◌∷◌, ◌++◌, Bool, arith, length, drop, length-append}
+use Rattle.std.specs.Prelude.{◌+◌, ◌<◌, ◌≡◌, ◌∷◌, ◌++◌}
+use Rattle.wire.proofs.Kit.{ℕ, refl, ap, List, Bool, arith, length, drop, length-append}
 use Rattle.wire.specs.Number.{Bytes}
 use Rattle.wire.specs.Limit as limit
 use Rattle.wire.proofs.Laws.{pick_no}
@@ -8,7 +9,7 @@ use Rattle.image.specs.declared.record.Record.{Record}
 use Rattle.image.specs.declared.record.Record.TheVariants as R
 use Rattle.image.specs.declared.record.Field.{Field}
 use Rattle.image.specs.Record.{◌bytes◌, none, size}
-use Rattle.image.specs.Out.{Out, end, stop, row_of, row, bytes as putOut}
+use Rattle.image.specs.Out.{Out, end, stop, row_of, row, bytes as put_out_lem}
 use Rattle.amf0.specs.Shown.{laid, Right}
 use Rattle.amf0.specs.Writing.{top_value, whole}
 use Rattle.amf0_theorems.specs.Unwritten.{Stops}
@@ -16,7 +17,7 @@ use Rattle.amf0_theorems.proofs.Puts.{Puts, then, first, others, puts, laid_appe
 use Rattle.amf0_theorems.proofs.Seen.{took_fronts}
 use Rattle.amf0_theorems.proofs.WriteRefusing.{stops_first, stops_then, value_stops}
 use Rattle.packet.specs.Shown.{counts}
-use Rattle.packet.specs.Packet.{Label, Packet}
+use Rattle.packet.specs.Packet.{Label}
 use Rattle.packet.specs.Writing.{label, declared, entry, entries, packet}
 use Rattle.packet_theorems.specs.Unwritten.{Slot, Entries, Opens, NoPacket, NoEntry, Refuses, Refused}
 use Rattle.packet_theorems.proofs.Puts.{kind_of, header_kind, message_kind, names_named, label_puts, items_puts, packet_here}
@@ -36,8 +37,8 @@ module _ (s image : List ℕ) (bs : Bytes image) (exact : Bool) where
       by (SeenPacket.unseen n) = (refl, refl)
 
   label_slot : {Kind : Label → Type 0} {at : ℕ} {d : Out} → SeenLabel s image bs at Kind d → NoEntry s Kind (drop at image) → Stops d 6 at
-  label_slot {at} (SeenLabel.seen {r} {l} t k n e) none = absurd (none.none r l (took_fronts s image bs at t (names_named n)) k n)
-  label_slot (SeenLabel.unseen n e) none = e
+  label_slot {at} (SeenLabel.seen {r} {l} t k n e) absent = absurd (absent.none r l (took_fronts s image bs at t (names_named n)) k n)
+  label_slot (SeenLabel.unseen n e) absent = e
 
   header_slot : {z : List ℕ} {a : ℕ} (at : ℕ) → drop at image ≡ z → Refuses s Slot.header z a → Stops (label 0x31 image s at) a at
   header_slot at h (Refuses.header n) = label_slot (see_header s image bs at) (rw h n)
@@ -54,7 +55,7 @@ module _ (s image : List ℕ) (bs : Bytes image) (exact : Bool) where
 
   -- the length of the value at a place
   abbrev long : ℕ → Field
-  long q = 4 bytes declared exact (length (putOut (top_value image s q)))
+  long q = 4 bytes declared exact (length (put_out_lem (top_value image s q)))
 
   module _ {Kind : Label → Type 0} (kind : ℕ) (own : Slot) (of : (l : Label) → Kind l → kind_of l ≡ kind)
       (slot : (z : List ℕ) (a at : ℕ) → drop at image ≡ z → Refuses s own z a → Stops (label kind image s at) a at) where

@@ -1,15 +1,16 @@
 -- An image whose writing is not refused is that of a packet.
-use Rattle.wire.proofs.Kit.{ℕ, zero, suc, ◌+◌, ◌≡◌, refl, ap, List, [], ◌∷◌, ◌++◌, Bool, arith, length, drop}
+use Rattle.std.specs.Prelude.{◌+◌, ◌≡◌, ◌∷◌, ◌++◌}
+use Rattle.wire.proofs.Kit.{ℕ, zero, suc, refl, ap, List, [], Bool, arith, length, drop}
 use Rattle.wire.specs.Number.{Bytes}
 use Rattle.wire.specs.Limit as limit
 use Rattle.wire.proofs.Stands.{Here}
 use Rattle.image.specs.declared.record.Record.{Record}
 use Rattle.image.specs.declared.record.Record.TheVariants as R
 use Rattle.image.specs.Record.{◌bytes◌, none}
-use Rattle.image.specs.Out.{Out, ◌>>=◌, row_of, row, bytes as putOut}
+use Rattle.image.specs.Out.{Out, ◌>>=◌, row_of, row, bytes as put_out_lem}
 use Rattle.amf0.specs.Standard.{Sort}
 use Rattle.amf0.specs.Shown.{laid}
-use Rattle.amf0.specs.Writing.{value, top_value, whole}
+use Rattle.amf0.specs.Writing.{top_value, whole}
 use Rattle.amf0.specs.Written.Lead.{keyed}
 use Rattle.amf0_theorems.proofs.WriteRefusal.{ends_once, ends_not}
 use Rattle.amf0_theorems.proofs.Seen.{Took}
@@ -58,7 +59,7 @@ module _ (s image : List ℕ) (bs : Bytes image) where
     entry_sound kind see at m e go =
         bind_ends (label kind image s at) _ m e λ q f g.
         let u : Out = top_value image s q in
-        let h = row_ends s image bs (row_of (4 bytes declared exact (length (putOut u))) none none 0 0) at m u g in
+        let h = row_ends s image bs (row_of (4 bytes declared exact (length (put_out_lem u))) none none 0 0) at m u g in
         go q (label_at (see at) q f) (sound s image bs limit.levels q m h.1)
 
     pub items_sound : {Kind : Label → Type 0} (kind : ℕ) → ((at : ℕ) → SeenLabel s image bs at Kind (label kind image s at)) → (c at n : ℕ)

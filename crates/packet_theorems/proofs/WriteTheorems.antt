@@ -1,5 +1,6 @@
 -- The theorems on the writer of packets, over what its public call comes to.
-use Rattle.wire.proofs.Kit.{ℕ, ◌*◌, ◌≤◌, ◌<◌, ◌≡◌, refl, sym, ap, subst, ◌∙◌, ◌↔◌, ◌⊎◌, inl, inr, ⊎_elim, List, append-nil, Bool, true, arith, length, take}
+use Rattle.std.specs.Prelude.{◌*◌, ◌≤◌, ◌<◌, ◌≡◌, ◌↔◌, ◌⊎◌}
+use Rattle.wire.proofs.Kit.{ℕ, refl, sym, ap, subst, ◌∙◌, inl, inr, ⊎_elim, List, append-nil, Bool, true, arith, length, take}
 use Rattle.wire.proofs.Kit.{get_or, length-take-le}
 use Rattle.wire.specs.Number.{Bytes}
 use Rattle.wire.specs.Limit as limit

@@ -1,12 +1,11 @@
 -- What the cut came to before a length could say that it is not known.
-use Rattle.wire.specs.Kit.{ℕ, zero, suc, ◌+◌, ◌-◌, ◌≡◌, List, [], ◌∷◌, length, leb}
+use Rattle.std.specs.Prelude.{ℕ, zero, suc, ◌+◌, ◌-◌, ◌≡◌, List, [], ◌∷◌, length, leb}
 use Rattle.wire.specs.Choice.{pick}
 use Rattle.wire.specs.Number.{number}
 use Rattle.wire.specs.Field.{to, bytes_at, u16_at, got16}
 use Rattle.image.specs.Kind as kind
 use Rattle.packet.specs.declared.head.Entry.{Entry}
 use Rattle.packet.specs.declared.head.Head.{Head}
-use Rattle.packet.specs.declared.head.Head.TheVariants as Head
 use Rattle.packet.specs.Head.{unknown, front_of, head_at, got_head}
 use Rattle.packet.specs.Entry.{Trail, reached, stopped, puts, ◌thence◌, end_at, Cut, stops, strict}
 

@@ -1,5 +1,5 @@
 -- Which rows of bytes a packet's lengths cut exactly, with no word of a walk: the grammar of a packet, whatever stands in its values of a known length.
-use Rattle.wire.specs.Kit.{ℕ, ◌+◌, ◌^◌, ◌≤◌, ◌<◌, ◌≡◌, List, [], ◌∷◌, ◌++◌, length}
+use Rattle.std.specs.Prelude.{ℕ, ◌+◌, ◌^◌, ◌≤◌, ◌<◌, ◌≡◌, List, [], ◌∷◌, ◌++◌, length}
 use Rattle.wire.specs.Number.{digits}
 use Rattle.wire.specs.Limit as limit
 use Rattle.image.specs.Record.{bit_of}

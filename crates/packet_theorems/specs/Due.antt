@@ -1,5 +1,5 @@
 -- What stands where a record of a packet is due, which is what a refusal for room names.
-use Rattle.wire.specs.Kit.{ℕ, ◌+◌, ◌≡◌, List, ◌++◌, Bool, length, drop}
+use Rattle.std.specs.Prelude.{ℕ, ◌+◌, ◌≡◌, List, ◌++◌, Bool, length, drop}
 use Rattle.image.specs.declared.record.Record.{Record}
 use Rattle.image.specs.declared.record.Record.TheVariants.{Packet, Header, Message}
 use Rattle.amf0.specs.Standard.{UTF-8}

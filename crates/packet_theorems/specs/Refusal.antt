@@ -1,6 +1,6 @@
 -- Why a whole reading of a packet and a cut by its lengths are refused, with no word of a reader: which fields stand before one that is not whole or
 -- not right. Both go over the same fields round the values, and differ in how they go over a value.
-use Rattle.wire.specs.Kit.{ℕ, suc, ◌^◌, ◌≤◌, ◌<◌, ◌≡◌, ◌≢◌, List, [], ◌∷◌, ◌++◌, true, length, take}
+use Rattle.std.specs.Prelude.{ℕ, suc, ◌^◌, ◌≤◌, ◌<◌, ◌≡◌, ◌≢◌, List, [], ◌∷◌, ◌++◌, true, length, take}
 use Rattle.wire.specs.Number.{digits, number}
 use Rattle.wire.specs.Limit as limit
 use Rattle.amf0.specs.Standard.{Sort, UTF-8}

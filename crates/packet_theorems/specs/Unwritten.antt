@@ -1,6 +1,6 @@
 -- Why the write of a packet is refused, and by which record: the rule "Writing checks first" (docs/DEMANDS.md). Records begin a packet, something is due behind
 -- them, and what stands there is not it.
-use Rattle.wire.specs.Kit.{ℕ, suc, ◌≤◌, List, [], ◌∷◌, ◌++◌, Bool, length}
+use Rattle.std.specs.Prelude.{ℕ, suc, ◌≤◌, List, [], ◌∷◌, ◌++◌, Bool, length}
 use Rattle.wire.specs.Limit as limit
 use Rattle.image.specs.declared.record.Record.{Record}
 use Rattle.image.specs.declared.record.Record.TheVariants as R
