@@ -1,5 +1,6 @@
 -- What the public call answers, whatever the image is.
-use Rattle.wire.proofs.Kit.{ℕ, ◌*◌, ◌/◌, ◌≤◌, ◌<◌, ◌≡◌, refl, sym, ap, ◌∙◌, List, [], Bool, true, false, ◌⊎◌, inl, inr, ⊎_elim, ◌≢◌, ◌↔◌, arith, leb, length, le-leb, leb-true}
+use Rattle.std.specs.Prelude.{◌*◌, ◌/◌, ◌≤◌, ◌<◌, ◌≡◌, ◌⊎◌, ◌≢◌, ◌↔◌}
+use Rattle.wire.proofs.Kit.{ℕ, refl, sym, ap, ◌∙◌, List, [], Bool, true, false, inl, inr, ⊎_elim, arith, leb, length, le-leb, leb-true}
 use Rattle.wire.proofs.Kit.{leb-false, eqb}
 use Rattle.wire.specs.Choice.{pick}
 use Rattle.wire.specs.Limit as limit
@@ -10,7 +11,7 @@ use Rattle.image.specs.declared.taking.Taken.TheVariants.{Found, Bad}
 use Rattle.image.specs.Kind as kind
 use Rattle.image.specs.Record.{layout_of}
 use Rattle.image.specs.Taking.{record_at}
-use Rattle.image.specs.Out.{Out, end, stop, put, bytes as bytesOut, Written, unwritten, ended, settled}
+use Rattle.image.specs.Out.{Out, end, stop, put, bytes as bytes_out, Written, unwritten, ended, settled}
 use Rattle.amf0.specs.Writing as amf0
 use Rattle.lso.specs.Writing as lso
 use Rattle.index.specs.declared.mark.Mark.{Mark}
@@ -40,13 +41,13 @@ unless_stopped (put b d) x ne = unless_stopped d x ne
 
 module _ (image text : List ℕ) where
   abbrev pub all_keys : List Mark
-  all_keys = rows (length (bytesOut (keys_of image text)) / 13) (bytesOut (keys_of image text))
+  all_keys = rows (length (bytes_out (keys_of image text)) / 13) (bytes_out (keys_of image text))
 
   -- their marks are all that the walk puts out
-  pub all_size : 13 * length all_keys ≡ length (bytesOut (keys_of image text))
+  pub all_size : 13 * length all_keys ≡ length (bytes_out (keys_of image text))
   all_size =
       let c = counted (keys_rowed image text) in
-      let l = length_rows_at (length (bytesOut (keys_of image text)) / 13) 0 (bytesOut (keys_of image text)) in
+      let l = length_rows_at (length (bytes_out (keys_of image text)) / 13) 0 (bytes_out (keys_of image text)) in
       omega (arith, c.size, l)
 
   pub keys_answers : (answer_of (keys_of image text) ≡ 0) ⊎ ((answer_of (keys_of image text) ≡ 5) ⊎ (answer_of (keys_of image text) ≡ 6))
@@ -73,10 +74,10 @@ module _ (image text : List ℕ) where
       go : length text ≤ limit.bytes → length image ≤ limit.image → (answer_of (keys_of image text) ≡ 0) ⊎ ((answer_of (keys_of image text) ≡ 5) ⊎ (answer_of (keys_of image text) ≡ 6))
           → Outcome room (answer_of (keys_of image text)) (indexed (keys_of image text) room)
       go t i (inl e) =
-          rw (unless_ended (pick (leb (length (bytesOut (keys_of image text))) room) (keyed (bytesOut (keys_of image text))) (unindexed 4)) (keys_rowed image text) e)
-          (picked (Outcome room (answer_of (keys_of image text))) (leb (length (bytesOut (keys_of image text))) room) _ _
-          (λ l. let b = leb-true (length (bytesOut (keys_of image text))) room l in Outcome.made t i e (omega (arith, all_size)))
-          (λ l. let b = leb-false (length (bytesOut (keys_of image text))) room l in Outcome.no_room t i e (omega (arith, all_size))))
+          rw (unless_ended (pick (leb (length (bytes_out (keys_of image text))) room) (keyed (bytes_out (keys_of image text))) (unindexed 4)) (keys_rowed image text) e)
+          (picked (Outcome room (answer_of (keys_of image text))) (leb (length (bytes_out (keys_of image text))) room) _ _
+          (λ l. let b = leb-true (length (bytes_out (keys_of image text))) room l in Outcome.made t i e (omega (arith, all_size)))
+          (λ l. let b = leb-false (length (bytes_out (keys_of image text))) room l in Outcome.no_room t i e (omega (arith, all_size))))
       go t i (inr e) = rw (unless_stopped (keys_of image text) _ (λ z. ⊎_elim (λ f. omega arith) (λ f. omega arith) e)) (Outcome.refused t i e)
 
 -- ---- the answers
@@ -162,7 +163,7 @@ unfolding settled
 writes_own image text out a o = (
   λ e. to (rw (writes_walk image text out) at e),
   λ s. rw (writes_walk image text out, le-leb (length text) limit.bytes s.text_size, le-leb (length image) limit.image s.image_size)
-      ((ended_own (writing_of image text) (bytesOut (writing_of image text)) out a o).1 s.same),
+      ((ended_own (writing_of image text) (bytes_out (writing_of image text)) out a o).1 s.same),
 )
   where
     not_one : (unwritten 1).writing.answer ≡ a → Stopped image text (answer_of (writing_of image text)) a
@@ -176,7 +177,7 @@ writes_own image text out a o = (
         (λ i e. record {
           text_size = leb-true _ _ t;
           image_size = leb-true _ _ i;
-          same = (ended_own (writing_of image text) (bytesOut (writing_of image text)) out a o).0 e;
+          same = (ended_own (writing_of image text) (bytes_out (writing_of image text)) out a o).0 e;
         })
         (λ i. not_one))
         (λ t. not_one)

@@ -1,5 +1,6 @@
 -- Looking up in an index from anywhere: whatever bytes it has, what a path finds stands in the image.
-use Rattle.wire.proofs.Kit.{ℕ, zero, suc, ◌+◌, ◌-◌, ◌/◌, ◌≤◌, ◌<◌, ◌≡◌, refl, sym, ap, ◌∙◌, List, [], ◌∷◌, Bool, true, false, ◌⊎◌, inl, inr, ⊎_elim, arith, ltb}
+use Rattle.std.specs.Prelude.{◌+◌, ◌-◌, ◌/◌, ◌≤◌, ◌<◌, ◌≡◌, ◌∷◌, ◌⊎◌}
+use Rattle.wire.proofs.Kit.{ℕ, zero, suc, refl, sym, ap, ◌∙◌, List, [], Bool, true, false, inl, inr, ⊎_elim, arith, ltb}
 use Rattle.wire.proofs.Kit.{eqb, length, get_or, replicate, eqb-true, lt-ltb, le-ltb, ltb-false, leb-true}
 use Rattle.wire.specs.Choice.{pick}
 use Rattle.wire.specs.Field.{to, bytes_at, u16_at, got16}
@@ -7,7 +8,6 @@ use Rattle.wire.specs.Number.{number}
 use Rattle.wire.specs.Text.{inside_of, part_of}
 use Rattle.wire.specs.declared.cursor.Cursor.{Cursor}
 use Rattle.wire.specs.declared.cursor.U16.{U16}
-use Rattle.wire.specs.declared.cursor.U16.TheVariants as U16
 use Rattle.wire.proofs.Laws.{picked, false_true, u16_next}
 use Rattle.image.specs.declared.record.Record.{Record}
 use Rattle.image.specs.declared.record.Record.TheVariants as R
@@ -18,7 +18,6 @@ use Rattle.index.specs.declared.mark.Mark.{Mark}
 use Rattle.index.specs.declared.order.Order.{Order}
 use Rattle.index.specs.declared.order.Order.TheVariants.{Less, Same, More}
 use Rattle.index.specs.declared.find.Way.{Way}
-use Rattle.index.specs.declared.find.Way.TheVariants as Way
 use Rattle.index.specs.Mark.{nothing, mark_at, rows_at, rows}
 use Rattle.index.specs.Keys.{role_of}
 use Rattle.index.proofs.Ordering.{three}

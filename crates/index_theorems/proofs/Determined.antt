@@ -1,5 +1,6 @@
 -- The bytes of an index: what holds the keys is one row of bytes alone, zeros where the making is refused, and zeros behind the marks.
-use Rattle.wire.proofs.Kit.{ℕ, ◌-◌, ◌*◌, ◌≤◌, ◌≡◌, refl, sym, ap, ◌∙◌, List, [], ◌∷◌, ◌≢◌, sub-zero, arith, length, drop, replicate, length-append, drop_at}
+use Rattle.std.specs.Prelude.{◌-◌, ◌*◌, ◌≤◌, ◌≡◌, ◌∷◌, ◌≢◌}
+use Rattle.wire.proofs.Kit.{ℕ, refl, sym, ap, ◌∙◌, List, [], sub-zero, arith, length, drop, replicate, length-append, drop_at}
 use Rattle.image.specs.Whole.{padded}
 use Rattle.index.specs.declared.mark.Mark.{Mark}
 use Rattle.index.specs.Mark.{mark_bytes, flat}

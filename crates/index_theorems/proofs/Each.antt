@@ -1,5 +1,6 @@
 -- Each key record of a tree has one mark: the key places of the marks are, in a row, the places of the key records.
-use Rattle.wire.proofs.Kit.{ℕ, zero, suc, ◌+◌, ◌≤◌, ◌<◌, ◌≡◌, refl, sym, ap, ◌∙◌, List, [], ◌∷◌, ◌++◌, true, false, add-zero, arith, length, get_or}
+use Rattle.std.specs.Prelude.{◌+◌, ◌≤◌, ◌<◌, ◌≡◌, ◌∷◌, ◌++◌}
+use Rattle.wire.proofs.Kit.{ℕ, zero, suc, refl, sym, ap, ◌∙◌, List, [], true, false, add-zero, arith, length, get_or}
 use Rattle.image.specs.declared.record.Record.{Record}
 use Rattle.image.specs.declared.record.Record.TheVariants as R
 use Rattle.image.specs.Record.{size}

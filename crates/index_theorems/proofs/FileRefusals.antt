@@ -1,5 +1,6 @@
 -- The index of a file's image is refused where, and with what, the writing of that file is.
-use Rattle.wire.proofs.Kit.{ℕ, zero, suc, ◌+◌, ◌≤◌, ◌<◌, ◌≡◌, refl, List, false, ◌≢◌, arith, leb, eqb, length, le-leb, leb-true}
+use Rattle.std.specs.Prelude.{◌+◌, ◌≤◌, ◌<◌, ◌≡◌, ◌≢◌}
+use Rattle.wire.proofs.Kit.{ℕ, zero, suc, refl, List, false, arith, leb, eqb, length, le-leb, leb-true}
 use Rattle.wire.specs.Choice.{pick}
 use Rattle.wire.specs.Limit as limit
 use Rattle.wire.specs.Number.{Bytes}
@@ -17,7 +18,6 @@ use Rattle.amf0.specs.Writing.{taken, value as written, whole}
 use Rattle.lso.specs.Writing.{keying, zero_byte, element, body, file, length_of}
 use Rattle.index.specs.declared.walk.Rest.TheVariants.{Body}
 use Rattle.index.specs.declared.walk.Role.{Role}
-use Rattle.index.specs.declared.walk.Role.TheVariants as Role
 use Rattle.index.specs.Mark.{mark, mark_bytes}
 use Rattle.index.specs.Index.{root_of, keys_of}
 use Rattle.index.specs.Keys.{role_of, key_by, key_in, pair_at, turn_of, turned, rest, value}

@@ -1,5 +1,6 @@
 -- The same for files: a file's elements are the pairs of its first record.
-use Rattle.wire.proofs.Kit.{ℕ, zero, suc, ◌+◌, ◌*◌, ◌/◌, ◌≤◌, ◌<◌, ◌≡◌, refl, sym, ap, ◌∙◌, List, [], ◌∷◌, ◌++◌, append-nil, true, false, ◌⊎◌, inl, inr, ⊎_elim}
+use Rattle.std.specs.Prelude.{◌+◌, ◌*◌, ◌/◌, ◌≤◌, ◌<◌, ◌≡◌, ◌∷◌, ◌++◌, ◌⊎◌}
+use Rattle.wire.proofs.Kit.{ℕ, zero, suc, refl, sym, ap, ◌∙◌, List, [], append-nil, true, false, inl, inr, ⊎_elim}
 use Rattle.wire.proofs.Kit.{arith, leb, length, le-leb, lt-leb, leb-true, leb-false, eq-eqb}
 use Rattle.wire.specs.Field.{to}
 use Rattle.wire.specs.Limit as limit
@@ -7,9 +8,8 @@ use Rattle.wire.proofs.Stands.{Here, cut, skip}
 use Rattle.image.specs.declared.record.Record.{Record}
 use Rattle.image.specs.declared.record.Record.TheVariants as R
 use Rattle.image.specs.Record.{size}
-use Rattle.image.specs.Out.{Out, ◌>>=◌, bytes as bytesOut}
+use Rattle.image.specs.Out.{Out, ◌>>=◌, bytes as bytes_out}
 use Rattle.image.proofs.Laws.{size_some}
-use Rattle.amf0.specs.Standard.{depth}
 use Rattle.amf0.specs.Shown.{Word, laid, Right}
 use Rattle.amf0_theorems.proofs.Puts.{Puts, then, laid_append, laid_length, laid_size, right_left, right_right, first, others}
 use Rattle.lso.specs.File.{Lso, deepest}
@@ -179,10 +179,10 @@ module _ (image s : List ℕ) {file : Lso} (w : Writable image s file) where
   begins = record { same = w.images.lies ∙ sym (append-nil (laid (head ∷ w.images.records))) }
 
   body_here : Here image (size head) (laid w.images.records) []
-  body_here = let z : 0 + size head ≡ size head = omega arith in rw z at (skip-head)
+  body_here = let z : 0 + size head ≡ size head = omega arith in rw z at (skip_head)
     where
-      skip-head : Here image (0 + size head) (laid w.images.records) []
-      skip-head = others s image head w.images.records [] begins
+      skip_head : Here image (0 + size head) (laid w.images.records) []
+      skip_head = others s image head w.images.records [] begins
 
   whole_size : size head + length (laid w.images.records) ≡ length image
   whole_size = sym (ap length w.images.lies ∙ laid_size head w.images.records)
@@ -226,7 +226,7 @@ module _ (image s : List ℕ) {file : Lso} (w : Writable image s file) where
   -- where there is room, the index is of the file's keys
   pub file_index_is : (room : ℕ) → 13 * length file_keys ≤ room → index_of image s room ≡ record { answer = 0; keys = file_keys }
   file_index_is room h =
-      let b : bytesOut (keys_of image s) ≡ flat file_keys = puts_bytes file_keys_are in
+      let b : bytes_out (keys_of image s) ≡ flat file_keys = puts_bytes file_keys_are in
       let n = flat_length file_keys in
       rw (le-leb (length s) limit.bytes w.text_size, le-leb (length image) limit.image w.image_size, b, le-leb (length (flat file_keys)) room (omega arith))
       (puts_unless _ file_keys_are ∙ rw (rows_flat file_keys small_of))
@@ -234,7 +234,7 @@ module _ (image s : List ℕ) {file : Lso} (w : Writable image s file) where
   -- where there is not, it is refused with 4
   pub file_index_not : (room : ℕ) → room < 13 * length file_keys → index_of image s room ≡ unindexed 4
   file_index_not room h =
-      let b : bytesOut (keys_of image s) ≡ flat file_keys = puts_bytes file_keys_are in
+      let b : bytes_out (keys_of image s) ≡ flat file_keys = puts_bytes file_keys_are in
       let n = flat_length file_keys in
       rw (le-leb (length s) limit.bytes w.text_size, le-leb (length image) limit.image w.image_size, b, lt-leb (length (flat file_keys)) room (omega arith))
       (puts_unless _ file_keys_are)

@@ -1,5 +1,6 @@
 -- The buffer that holds an index, as marks to look up in.
-use Rattle.wire.proofs.Kit.{ℕ, zero, suc, ◌+◌, ◌-◌, ◌*◌, ◌/◌, ◌≤◌, ◌<◌, ◌≡◌, refl, sym, ap, ◌∙◌, List, [], ◌∷◌, ◌++◌, append-nil, append_assoc, inl, inr, arith}
+use Rattle.std.specs.Prelude.{◌+◌, ◌-◌, ◌*◌, ◌/◌, ◌≤◌, ◌<◌, ◌≡◌, ◌∷◌, ◌++◌}
+use Rattle.wire.proofs.Kit.{ℕ, zero, suc, refl, sym, ap, ◌∙◌, List, [], append-nil, append_assoc, inl, inr, arith}
 use Rattle.wire.proofs.Kit.{length, get_or, take, drop, replicate, length-append, drop-drop}
 use Rattle.wire.specs.Number.{number}
 use Rattle.wire.proofs.Laws.{number_digits}

@@ -1,5 +1,6 @@
 -- A step finds the latest pair of a key in a container, and nothing only where there is none.
-use Rattle.wire.proofs.Kit.{ℕ, zero, suc, ◌+◌, ◌-◌, ◌≤◌, ◌<◌, ◌≡◌, refl, sym, ◌∙◌, List, [], ◌∷◌, ◌++◌, true, false, ◌⊎◌, inl, inr, ⊎_elim, add-zero, arith}
+use Rattle.std.specs.Prelude.{◌+◌, ◌-◌, ◌≤◌, ◌<◌, ◌≡◌, ◌∷◌, ◌++◌, ◌⊎◌}
+use Rattle.wire.proofs.Kit.{ℕ, zero, suc, refl, sym, ◌∙◌, List, [], true, false, inl, inr, ⊎_elim, add-zero, arith}
 use Rattle.wire.proofs.Kit.{length, get_or}
 use Rattle.index.specs.declared.mark.Mark.{Mark}
 use Rattle.index.specs.declared.order.Order.TheVariants.{Same}
@@ -98,7 +99,7 @@ module _ (image text : List ℕ) where
       pub among : In pair all
       pub value : pair.value ≡ v
       pub container : c ≡ pair.container
-      pub key-text : key ≡ key_of image text pair.key
+      pub key_text : key ≡ key_of image text pair.key
       pub latest : (x : Mark) → In x all → fits_of image text c key x ≡ true → x.key ≤ pair.key
 
     later : (e x : Mark) → fits_of image text c key e ≡ true → fits_of image text c key x ≡ true → before image text e x ≡ false → x.key ≤ e.key
@@ -123,7 +124,7 @@ module _ (image text : List ℕ) where
           among = back k.sorted.same e (in_at row r.number r.inside);
           value = r.value;
           container = m.0;
-          key-text = m.1;
+          key_text = m.1;
           latest = λ x i f.
               let p = at_in x row (into k.sorted.same x i) in
               later e x r.fits f (rw p.same at (o.sorted p.number r.number (r.last p.number p.inside (rw p.same f)) r.inside));

@@ -1,5 +1,6 @@
 -- Among marks in order, with nothing but zeros behind them, looking up a key of a container finds the last mark that fits, and nothing only where none fits.
-use Rattle.wire.proofs.Kit.{ℕ, zero, suc, ◌+◌, ◌-◌, ◌/◌, ◌≤◌, ◌<◌, ◌≡◌, refl, sym, ap, ◌∙◌, List, [], ◌∷◌, Bool, true, false, ⊎_elim, arith, ltb, eqb, length}
+use Rattle.std.specs.Prelude.{◌+◌, ◌-◌, ◌/◌, ◌≤◌, ◌<◌, ◌≡◌, ◌∷◌}
+use Rattle.wire.proofs.Kit.{ℕ, zero, suc, refl, sym, ap, ◌∙◌, List, [], Bool, true, false, ⊎_elim, arith, ltb, eqb, length}
 use Rattle.wire.proofs.Kit.{get_or, take, drop, le-ltb, ltb-true, ltb-false, le-leb, eqb-true, eqb-false, eq-eqb, ne_eqb}
 use Rattle.wire.specs.Choice.{pick}
 use Rattle.wire.specs.Text.{inside_of}
@@ -12,9 +13,7 @@ use Rattle.index.specs.declared.mark.Mark.{Mark}
 use Rattle.index.specs.declared.order.Order.{Order}
 use Rattle.index.specs.declared.order.Order.TheVariants.{Less, Same, More}
 use Rattle.index.specs.declared.walk.Role.{Role}
-use Rattle.index.specs.declared.walk.Role.TheVariants as Role
 use Rattle.index.specs.declared.find.Way.{Way}
-use Rattle.index.specs.declared.find.Way.TheVariants as Way
 use Rattle.index.specs.Mark.{nothing}
 use Rattle.index.specs.Keys.{role_of, role_in, role_at}
 use Rattle.index.specs.Order.{order_of, key_of, text_by, lower, rank, before}
@@ -235,19 +234,19 @@ module _ (image text : List ℕ) (c : ℕ) (key : List ℕ) (row es : List Mark)
   split : (f lo hi : ℕ) → hi ≤ lo + f → lo ≤ hi → ((i : ℕ) → i < lo → past (at i) ≡ false) → ((i : ℕ) → hi ≤ i → past (at i) ≡ true)
       → Split (upper_of past es f lo hi)
   unfolding upper_of
-  split zero lo hi g l below-lo from-hi = record { low = below-lo; high = λ i a. from-hi i (omega arith) }
-  split (suc f) lo hi g l below-lo from-hi =
+  split zero lo hi g l below_lo from_hi = record { low = below_lo; high = λ i a. from_hi i (omega arith) }
+  split (suc f) lo hi g l below_lo from_hi =
       cases (ltb lo hi)
       (λ t.
       let lt = ltb-true lo hi t in
       let m : ℕ = (lo + hi) / 2 in
       let q : get_or es m nothing ≡ at m = o.same m in
       cases (past (at m))
-      (λ p. rw (t, q, p) (split f lo m (omega arith) (omega arith) below-lo (λ i a. past_after m i a p)))
+      (λ p. rw (t, q, p) (split f lo m (omega arith) (omega arith) below_lo (λ i a. past_after m i a p)))
       (λ p. rw (t, q, p) (split f (m + 1) hi (omega arith) (omega arith)
       (λ i a. cases (past (at i)) (λ z. absurd (false_true (sym p ∙ past_after i m (omega arith) z))) (λ z. z))
-      from-hi)))
-      (λ t. rw t (record { low = below-lo; high = λ i a. from-hi i (omega (arith, ltb-false lo hi t)) }))
+      from_hi)))
+      (λ t. rw t (record { low = below_lo; high = λ i a. from_hi i (omega (arith, ltb-false lo hi t)) }))
 
   abbrev top : ℕ
   top = upper_of past es (length es) 0 (length es)

@@ -1,5 +1,6 @@
 -- The keys of an image are those of the tree that its records spell, each with its depth and the places of its container and its value.
-use Rattle.wire.proofs.Kit.{ℕ, zero, suc, ◌+◌, ◌-◌, ◌≤◌, ◌<◌, ◌≡◌, refl, sym, List, [], ◌∷◌, ◌++◌, append_assoc, true, false, sub-one, arith, length, le-leb}
+use Rattle.std.specs.Prelude.{◌+◌, ◌-◌, ◌≤◌, ◌<◌, ◌≡◌, ◌∷◌, ◌++◌}
+use Rattle.wire.proofs.Kit.{ℕ, zero, suc, refl, sym, List, [], append_assoc, true, false, sub-one, arith, length, le-leb}
 use Rattle.wire.proofs.Kit.{ne_eqb}
 use Rattle.wire.specs.Field.{to, bytes_at}
 use Rattle.wire.proofs.Stands.{Here, cut, skip}
@@ -21,7 +22,6 @@ use Rattle.index.specs.declared.mark.Mark.{Mark}
 use Rattle.index.specs.declared.walk.Rest.{Rest}
 use Rattle.index.specs.declared.walk.Rest.TheVariants.{Nothing, Pairs, Dense, Values}
 use Rattle.index.specs.declared.walk.Role.{Role}
-use Rattle.index.specs.declared.walk.Role.TheVariants as Role
 use Rattle.index.specs.declared.walk.Coming.TheVariants as Coming
 use Rattle.index.specs.Mark.{mark, mark_bytes, flat}
 use Rattle.index.specs.Keys.{role_of, own_of, pair_at, turn_of, rest, value}

@@ -1,5 +1,6 @@
 -- A path is looked up key by key, and only one that is keys behind their lengths, in a row, is found.
-use Rattle.wire.proofs.Kit.{ℕ, zero, suc, ◌+◌, ◌-◌, ◌*◌, ◌/◌, ◌≤◌, ◌≡◌, refl, sym, ap, ◌∙◌, List, [], ◌∷◌, ◌++◌, append-nil, true, arith, ltb, leb, length}
+use Rattle.std.specs.Prelude.{◌+◌, ◌-◌, ◌*◌, ◌/◌, ◌≤◌, ◌≡◌, ◌∷◌, ◌++◌}
+use Rattle.wire.proofs.Kit.{ℕ, zero, suc, refl, sym, ap, ◌∙◌, List, [], append-nil, true, arith, ltb, leb, length}
 use Rattle.wire.proofs.Kit.{drop, length-append, length-drop, drop_of_length-le, take_at, drop_at, drop-drop, le-leb, leb-true, leb-false, ltb-false}
 use Rattle.wire.specs.Number.{digits, Bytes}
 use Rattle.wire.specs.Field.{to, bytes_at, u16_at}
@@ -10,13 +11,12 @@ use Rattle.amf0.specs.Standard.{Sort, Tree}
 use Rattle.amf0.specs.Written.{Writable}
 use Rattle.index.specs.declared.mark.Mark.{Mark}
 use Rattle.index.specs.declared.find.Way.{Way}
-use Rattle.index.specs.declared.find.Way.TheVariants as Way
 use Rattle.index.specs.Mark.{rows}
 use Rattle.index.specs.Find.{starts_at, step_of, thence, down_of, find_of}
 use Rattle.index.specs.Index.{Indexed, index_of, Holds}
 use Rattle.index_theorems.specs.Way.{shorts, Short, Keys, way, place_of}
 use Rattle.index.proofs.Rows.{cases}
-use Rattle.index.proofs.Finding.{down_done, down-goes}
+use Rattle.index.proofs.Finding.{down_done, down_goes}
 use Rattle.index_theorems.proofs.Stand.{starts_there}
 use Rattle.index_theorems.proofs.Ways.{looked, path_leads}
 use Rattle.index_theorems.proofs.Whole.{keys, fill, index_is, index_not, index_kept}
@@ -42,7 +42,7 @@ module _ (s image : List ℕ) (es : List Mark) (path : List ℕ) where
       let t : inside_of path (i + 2) n ≡ true = le-leb (i + 2 + n) (length path) room in
       let part : part_of path (i + 2) n ≡ k = rw (t, behind) (take_at k (shorts ks) n refl) in
       let more : drop (i + 2 + n) path ≡ shorts ks = sym (drop-drop n (i + 2) path) ∙ ap (λ (x : List ℕ). drop n x) behind ∙ drop_at k (shorts ks) n refl in
-      down-goes image s es path i place (omega arith) n (to (i + 2)) e t fuel (omega arith) (step_of image s es place k)
+      down_goes image s es path i place (omega arith) n (to (i + 2)) e t fuel (omega arith) (step_of image s es place k)
       (ap (λ (x : List ℕ). step_of image s es place x) part)
       ∙ thence_same (step_of image s es place k) (down_of image s es path (fuel - 1) (i + 2 + n)) (λ p. looked s image es p ks)
       (λ p. down_looked ks b.1 (i + 2 + n) (fuel - 1) p more room (omega arith))

@@ -1,5 +1,6 @@
 -- What was read has an index: its image is refused for the room alone.
-use Rattle.wire.proofs.Kit.{ℕ, ◌≡◌, List, ◌∷◌, length}
+use Rattle.std.specs.Prelude.{◌≡◌, ◌∷◌}
+use Rattle.wire.proofs.Kit.{ℕ, List, length}
 use Rattle.wire.specs.Number.{Bytes}
 use Rattle.image.specs.declared.record.Record.TheVariants as R
 use Rattle.amf0.specs.Standard.{Sort, Tree}
@@ -14,7 +15,7 @@ use Rattle.lso_theorems.proofs.WriteOutcome.{read_incomplete, read_whole}
 use Rattle.index_theorems.proofs.Reasons.{of_records, Meant, Indexes, meant_indexes}
 
 tree_indexes : {image s : List ℕ} {t : Tree Sort.value} (room : ℕ) → amf0.Writable image s t → Indexes image s room
-tree_indexes {image} {s} room w = meant_indexes image s room (rw w.images.lies (of_records w.images.records)) (Meant.of_Tree w)
+tree_indexes {image} {s} room w = meant_indexes image s room (rw w.images.lies (of_records w.images.records)) (Meant.of_tree w)
 
 file_indexes : {image s : List ℕ} {f : Lso} (room : ℕ) → lso.Writable image s f → Indexes image s room
 file_indexes {image} {s} {f} room w =

@@ -1,5 +1,6 @@
 -- Why an index is refused, in terms of the trees and the files whose image is given: it has an index exactly where it is the image of one that is not too deep.
-use Rattle.wire.proofs.Kit.{ℕ, zero, suc, ◌*◌, ◌≤◌, ◌<◌, ◌≡◌, refl, ap, ◌∙◌, List, [], ◌∷◌, ◌++◌, Bool, true, false, ◌⊎◌, inl, inr, ⊎_elim, ◌≢◌, ◌↔◌, arith, length}
+use Rattle.std.specs.Prelude.{◌*◌, ◌≤◌, ◌<◌, ◌≡◌, ◌∷◌, ◌++◌, ◌⊎◌, ◌≢◌, ◌↔◌}
+use Rattle.wire.proofs.Kit.{ℕ, zero, suc, refl, ap, ◌∙◌, List, [], Bool, true, false, inl, inr, ⊎_elim, arith, length}
 use Rattle.wire.proofs.Kit.{eqb}
 use Rattle.wire.specs.Choice.{pick}
 use Rattle.wire.specs.Number.{Bytes, digits}
@@ -16,18 +17,18 @@ use Rattle.image.specs.Out.{Out, Written}
 use Rattle.image.proofs.Laws.{small}
 use Rattle.amf0.specs.Standard.{Sort, Tree, depth}
 use Rattle.amf0.specs.Shown.{laid}
-use Rattle.amf0.specs.Writing as amf0-writes
+use Rattle.amf0.specs.Writing as amf0_writes
 use Rattle.amf0.specs.Written as amf0
 use Rattle.amf0_theorems.specs.Unwritten.{OutcomeOf}
 use Rattle.amf0_theorems.proofs.Puts.{Puts}
 use Rattle.amf0_theorems.proofs.WriteOutcome.{image_puts}
-use Rattle.amf0_theorems.proofs.WriteReasons as amf0-reasons
+use Rattle.amf0_theorems.proofs.WriteReasons as amf0_reasons
 use Rattle.lso.specs.File.{Lso, deepest}
-use Rattle.lso.specs.Writing as lso-writes
+use Rattle.lso.specs.Writing as lso_writes
 use Rattle.lso.specs.Writing.{length_of}
 use Rattle.lso.specs.Written as lso
 use Rattle.lso_theorems.proofs.Puts.{file_puts}
-use Rattle.lso_theorems.proofs.WriteReasons as lso-reasons
+use Rattle.lso_theorems.proofs.WriteReasons as lso_reasons
 use Rattle.index.specs.Index.{Indexed, unindexed, index_of, keys_of}
 use Rattle.index_theorems.proofs.Refusals.{answer_of, refused_as_value}
 use Rattle.index_theorems.proofs.FileRefusals.{refused_as_written, refused_as_file}
@@ -123,12 +124,12 @@ meant {image} {text} known x = go (record_at image 0) (none 5 (inl refl)) (none 
     held f w (OutcomeOf.no_room {x = y} m h i) a b = f y m
     held f w (OutcomeOf.put_out {x = y} m h i) a b = f y m
 
-    tree : (amf0-writes.write_of image text 0).writing.answer ≢ 5 → (amf0-writes.write_of image text 0).writing.answer ≢ 6 → Meant image text
-    tree = held (λ t m. Meant.of_tree m) (amf0-writes.write_of image text 0) (amf0-reasons.reasons image text 0 known)
+    tree : (amf0_writes.write_of image text 0).writing.answer ≢ 5 → (amf0_writes.write_of image text 0).writing.answer ≢ 6 → Meant image text
+    tree = held (λ t m. Meant.of_tree m) (amf0_writes.write_of image text 0) (amf0_reasons.reasons image text 0 known)
 
-    by : (t : Bool) → (pick t (lso-writes.write_of image text 0) (amf0-writes.write_of image text 0)).writing.answer ≢ 5
-        → (pick t (lso-writes.write_of image text 0) (amf0-writes.write_of image text 0)).writing.answer ≢ 6 → Meant image text
-    by true = held (λ f m. Meant.of_file m) (lso-writes.write_of image text 0) (lso-reasons.reasons image text 0 known)
+    by : (t : Bool) → (pick t (lso_writes.write_of image text 0) (amf0_writes.write_of image text 0)).writing.answer ≢ 5
+        → (pick t (lso_writes.write_of image text 0) (amf0_writes.write_of image text 0)).writing.answer ≢ 6 → Meant image text
+    by true = held (λ f m. Meant.of_file m) (lso_writes.write_of image text 0) (lso_reasons.reasons image text 0 known)
     by false = tree
 
     go : (t : Taken) → (writes_in image text 0 t).writing.answer ≢ 5 → (writes_in image text 0 t).writing.answer ≢ 6 → Meant image text

@@ -1,5 +1,6 @@
 -- The index of an image is refused where, and with what, the writing of that image is: whatever the image is.
-use Rattle.wire.proofs.Kit.{ℕ, zero, suc, ◌+◌, ◌-◌, ◌≤◌, ◌<◌, ◌≡◌, refl, ap, List, ◌≢◌, Bool, true, false, sub-one, arith, leb, length, lt-leb, ne_eqb}
+use Rattle.std.specs.Prelude.{◌+◌, ◌-◌, ◌≤◌, ◌<◌, ◌≡◌, ◌≢◌}
+use Rattle.wire.proofs.Kit.{ℕ, zero, suc, refl, ap, List, Bool, true, false, sub-one, arith, leb, length, lt-leb, ne_eqb}
 use Rattle.wire.specs.Choice.{pick}
 use Rattle.wire.specs.Field.{u8_at}
 use Rattle.wire.specs.Limit as limit
@@ -26,7 +27,6 @@ use Rattle.amf0.specs.Writing.{shape_of, value_at, taken, valued, paired}
 use Rattle.index.specs.declared.walk.Rest.{Rest}
 use Rattle.index.specs.declared.walk.Rest.TheVariants.{Nothing, Pairs, Dense, Values}
 use Rattle.index.specs.declared.walk.Role.{Role}
-use Rattle.index.specs.declared.walk.Role.TheVariants as Role
 use Rattle.index.specs.Mark.{mark, mark_bytes}
 use Rattle.index.specs.Index.{alone, root_of, keys_of}
 use Rattle.index.specs.Keys.{role_of, own_by, own_in, key_by, key_in, own_of, pair_at, turn_of, turned, owned, rest, value}
@@ -141,15 +141,15 @@ module _ (image s : List ℕ) (known : Bytes image) where
             (turned at (key_by s Pairs true y c) (λ q t. v q >>= rest v image s place d f t)
             (λ q t. put (mark_bytes (mark d place at q)) (v q >>= rest v image s place d f t)))
             (paired at x (λ r. row s r at (w c.at >>= pairs w image s g)) (λ r. row s r at (end c.at)))
-        by (S.Value r a) (Role.Value p n due) c b e (Kin.k_value q u) more = Alike.stops
-        by (S.Key r) (Role.Key p n) c b e (Kin.k_key q) more =
+        by x y c b e (Kin.k_value q u) more = Alike.stops
+        by x y c b e (Kin.k_key {p} {n} q) more =
             cases (named_at s p n)
             (λ t. rw (q, t)
             (Alike.fore (Alike.aft (both (rest v image s place d f Pairs) (pairs w image s g) (inner c.at e) (λ m u. more m (omega arith, u.1))))))
             (λ t. rw (q, t) Alike.stops)
-        by (S.End r) Role.End c b e (Kin.k_last q) more = rw q (Alike.aft (Alike.ends {n = c.at} (omega arith, e)))
-        by S.Other (Role.File p n) c b e Kin.k_file more = Alike.stops
-        by S.Other Role.Other c b e Kin.k_other more = Alike.stops
+        by x y c b e (Kin.k_last q) more = rw q (Alike.aft (Alike.ends {n = c.at} (omega arith, e)))
+        by x y c b e Kin.k_file more = Alike.stops
+        by x y c b e Kin.k_other more = Alike.stops
 
         go : (t : Taken) → record_at image at ≡ t → ((n : ℕ) → (at + 1 ≤ n) × (n ≤ length image) → Alike (From at) (rest v image s place d f Pairs n) (pairs w image s g n))
             → Alike (From at)
@@ -188,14 +188,14 @@ module _ (image s : List ℕ) (known : Bytes image) where
           → ((n : ℕ) → n ≤ length image → Alike (Ahead n) (value left image s n) (written left image s n))
           → Alike (Ahead at) (owned at (own_by s y c) λ q due. rest (value left image s) image s at (33 - left) (suc (length image)) due q)
           (valued at x λ r a. row s r at (following (written left image s) image s a c.at))
-      by (S.Value r a) (Role.Value p n due) c b e (Kin.k_value q u) more =
+      by x y c b e (Kin.k_value {f = a} {p} {n} {due} q u) more =
           cases (named_at s p n)
           (λ t. rw (q, t) (Alike.aft (wider (λ k o. (omega arith, o.1)) (alike_rest (value left image s) (written left image s) more at (33 - left) a due u c.at e))))
           (λ t. rw (q, t) Alike.stops)
-      by (S.Key r) (Role.Key p n) c b e (Kin.k_key q) more = Alike.stops
-      by (S.End r) Role.End c b e (Kin.k_last q) more = Alike.stops
-      by S.Other (Role.File p n) c b e Kin.k_file more = Alike.stops
-      by S.Other Role.Other c b e Kin.k_other more = Alike.stops
+      by x y c b e (Kin.k_key q) more = Alike.stops
+      by x y c b e (Kin.k_last q) more = Alike.stops
+      by x y c b e Kin.k_file more = Alike.stops
+      by x y c b e Kin.k_other more = Alike.stops
 
       go : (t : Taken) → record_at image at ≡ t → ((n : ℕ) → n ≤ length image → Alike (Ahead n) (value left image s n) (written left image s n))
           → Alike (Ahead at) (owned at (own_in s t) λ q due. rest (value left image s) image s at (33 - left) (suc (length image)) due q)

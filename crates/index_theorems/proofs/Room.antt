@@ -1,6 +1,7 @@
 -- How much a walk over an image puts out: marks alone, and for each of them it passes seven bytes of the image. So a buffer twice as long as the image is always
 -- room enough for its index. And it is refused with 5 or 6 alone. All of it holds of any image.
-use Rattle.wire.proofs.Kit.{ℕ, zero, suc, ◌+◌, ◌-◌, ◌*◌, ◌≤◌, ◌≡◌, refl, List, Bool, true, false, ◌⊎◌, inl, inr, arith, leb, eqb, length, length-append}
+use Rattle.std.specs.Prelude.{◌+◌, ◌-◌, ◌*◌, ◌≤◌, ◌≡◌, ◌⊎◌}
+use Rattle.wire.proofs.Kit.{ℕ, zero, suc, refl, List, Bool, true, false, inl, inr, arith, leb, eqb, length, length-append}
 use Rattle.wire.specs.Choice.{pick}
 use Rattle.wire.specs.Field.{to}
 use Rattle.wire.specs.Limit as limit
@@ -13,17 +14,14 @@ use Rattle.image.specs.declared.taking.Taken.{Taken}
 use Rattle.image.specs.declared.taking.Taken.TheVariants.{Found, Bad}
 use Rattle.image.specs.Record.{size}
 use Rattle.image.specs.Taking.{record_at}
-use Rattle.image.specs.Out.{Out, end, stop, put, ◌>>=◌, named_at, bytes as bytesOut}
+use Rattle.image.specs.Out.{Out, end, stop, put, ◌>>=◌, named_at, bytes as bytes_out}
 use Rattle.image.proofs.Found.{found_stood}
 use Rattle.amf0.specs.Writing.{value_at}
 use Rattle.index.specs.declared.walk.Rest.{Rest}
 use Rattle.index.specs.declared.walk.Rest.TheVariants.{Nothing, Pairs, Dense, Body, Values}
 use Rattle.index.specs.declared.walk.Role.{Role}
-use Rattle.index.specs.declared.walk.Role.TheVariants as Role
 use Rattle.index.specs.declared.walk.Begun.{Begun}
-use Rattle.index.specs.declared.walk.Begun.TheVariants as Begun
 use Rattle.index.specs.declared.walk.Coming.{Coming}
-use Rattle.index.specs.declared.walk.Coming.TheVariants as Coming
 use Rattle.index.specs.Mark.{mark, mark_bytes}
 use Rattle.index.specs.Keys.{role_of, own_by, own_in, key_by, key_in, own_of, pair_at, turn_of, turned, owned, rest, value}
 use Rattle.index.specs.Index.{root_by, root_in, root_of, keys_of}
@@ -197,13 +195,13 @@ module _ (image s : List ℕ) where
 -- so many marks, and P of their number where it is not refused
 pub record Counted (P : ℕ → ℕ → Type 0) (k : ℕ) (d : Out) : Type 0 where
   pub count : ℕ
-  pub size : length (bytesOut d) ≡ 13 * count
+  pub size : length (bytes_out d) ≡ 13 * count
   pub refusal : (answer_of d ≡ 0) ⊎ ((answer_of d ≡ 5) ⊎ (answer_of d ≡ 6))
   pub place : ℕ
   pub ended : answer_of d ≡ 0 → P (k + count) place
 
 pub counted : {P : ℕ → ℕ → Type 0} {k : ℕ} {d : Out} → Rowed P k d → Counted P k d
-unfolding answer_of bytesOut
+unfolding answer_of bytes_out
 counted {P} (Rowed.ends {k} {n} p) =
     let e : k + 0 ≡ k = omega arith in
     record { count = 0; size = refl; refusal = inl refl; place = n; ended = λ _. rw e p }
@@ -214,7 +212,7 @@ counted {P} {k} (Rowed.one {b} {d} e r) =
     let f : suc k + c.count ≡ k + suc c.count = omega arith in
     record {
       count = suc c.count;
-      size = omega (arith, length-append b (bytesOut d), e, c.size);
+      size = omega (arith, length-append b (bytes_out d), e, c.size);
       refusal = c.refusal;
       place = c.place;
       ended = λ z. rw f at (c.ended z);

@@ -1,5 +1,6 @@
 -- What stands at the places that a tree's marks name: each mark is of a whole key record, right behind which its value's record stands.
-use Rattle.wire.proofs.Kit.{ℕ, ◌+◌, ◌≡◌, refl, sym, ap, ◌∙◌, List, ◌∷◌, ◌++◌, true, false, ⊎_elim, length, le-leb}
+use Rattle.std.specs.Prelude.{◌+◌, ◌≡◌, ◌∷◌, ◌++◌}
+use Rattle.wire.proofs.Kit.{ℕ, refl, sym, ap, ◌∙◌, List, true, false, ⊎_elim, length, le-leb}
 use Rattle.wire.specs.Field.{to}
 use Rattle.wire.proofs.Laws.{false_true}
 use Rattle.wire.proofs.Stands.{Here, cut, skip}

@@ -1,5 +1,6 @@
 -- A path of keys leads down the tree exactly where looking it up in the index does.
-use Rattle.wire.proofs.Kit.{ℕ, ◌+◌, ◌≤◌, ◌<◌, ◌≡◌, refl, sym, ap, ◌∙◌, List, [], ◌∷◌, ◌++◌, append-nil, true, false, ◌⊎◌, inl, inr, ⊎_elim, arith, length}
+use Rattle.std.specs.Prelude.{◌+◌, ◌≤◌, ◌<◌, ◌≡◌, ◌∷◌, ◌++◌, ◌⊎◌}
+use Rattle.wire.proofs.Kit.{ℕ, refl, sym, ap, ◌∙◌, List, [], append-nil, true, false, inl, inr, ⊎_elim, arith, length}
 use Rattle.wire.specs.Choice.{pick}
 use Rattle.wire.specs.Field.{equal}
 use Rattle.wire.proofs.Laws.{equal_same, equal_means, false_true, picked}
@@ -14,7 +15,6 @@ use Rattle.amf0.specs.Written.Lead.{keyed}
 use Rattle.amf0_theorems.proofs.Puts.{laid_append, laid_length, laid_size, right_left, right_right, others}
 use Rattle.index.specs.declared.mark.Mark.{Mark}
 use Rattle.index.specs.declared.find.Way.{Way}
-use Rattle.index.specs.declared.find.Way.TheVariants as Way
 use Rattle.index.specs.Mark.{mark}
 use Rattle.index.specs.Order.{key_of}
 use Rattle.index.specs.Find.{has_pairs, opens_at, step_of, thence}
@@ -268,7 +268,7 @@ module _ (s image : List ℕ) (all es : List Mark) (kept : Kept image s all es) 
         (λ v f.
         let l = step_finds image s at key all es kept v f in
         let c = l.container in
-        absurd (none l.pair (owns l.pair l.among (omega arith) (omega arith)) (sym c) (sym l.key-text)))
+        absurd (none l.pair (owns l.pair l.among (omega arith) (omega arith)) (sym c) (sym l.key_text)))
     finish opens low q (found y) o =
         let b = o.0 in
         let t = o.1 in
@@ -282,7 +282,7 @@ module _ (s image : List ℕ) (all es : List Mark) (kept : Kept image s all es) 
         let i = owns l.pair l.among (omega arith) (omega arith) in
         let w : l.pair.value ≡ y.at =
         ⊎_elim (λ u. ap (λ (g : Mark). g.value) u ∙ b.value) (λ u. absurd (omega (arith, l.latest b.best (gives b.best b.among) fit)))
-        (b.latest l.pair i (sym d) (sym l.key-text)) in
+        (b.latest l.pair i (sym d) (sym l.key_text)) in
         record {
           is = f ∙ ap Way.At (sym l.value ∙ w);
           owned = record {

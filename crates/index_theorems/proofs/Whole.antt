@@ -1,10 +1,11 @@
 -- The index of an image that is that of a tree: its marks are those of the tree's keys.
-use Rattle.wire.proofs.Kit.{ℕ, zero, suc, ◌+◌, ◌*◌, ◌/◌, ◌≤◌, ◌<◌, ◌≡◌, refl, sym, ap, ◌∙◌, List, [], ◌++◌, append-nil, ⊎_elim, arith, length, le-leb, lt-leb}
+use Rattle.std.specs.Prelude.{◌+◌, ◌*◌, ◌/◌, ◌≤◌, ◌<◌, ◌≡◌, ◌++◌}
+use Rattle.wire.proofs.Kit.{ℕ, zero, suc, refl, sym, ap, ◌∙◌, List, [], append-nil, ⊎_elim, arith, length, le-leb, lt-leb}
 use Rattle.wire.specs.Limit as limit
 use Rattle.wire.proofs.Stands.{Here}
 use Rattle.image.specs.declared.record.Record.{Record}
 use Rattle.image.specs.Record.{size}
-use Rattle.image.specs.Out.{Out, bytes as bytesOut}
+use Rattle.image.specs.Out.{Out, bytes as bytes_out}
 use Rattle.amf0.specs.Standard.{Sort, Tree, depth}
 use Rattle.amf0.specs.Shown.{laid, Right}
 use Rattle.amf0.specs.Written.{Lead, Spells, Writable}
@@ -24,8 +25,8 @@ use Rattle.index_theorems.proofs.Held.{flat_length, rows_flat, held}
 
 -- ---- what is put out
 
-pub puts_bytes : {d : Out} {x : List ℕ} {n : ℕ} → Puts ⊥ d x n → bytesOut d ≡ x
-unfolding bytesOut
+pub puts_bytes : {d : Out} {x : List ℕ} {n : ℕ} → Puts ⊥ d x n → bytes_out d ≡ x
+unfolding bytes_out
 puts_bytes Puts.done = refl
 puts_bytes (Puts.more {b} p) = ap (λ (l : List ℕ). b ++ l) (puts_bytes p)
 puts_bytes (Puts.shut d) = absurd d
@@ -140,7 +141,7 @@ module _ (image s : List ℕ) {t : Tree Sort.value} (w : Writable image s t) whe
   pub index_is : (room : ℕ) → 13 * length keys ≤ room → index_of image s room ≡ record { answer = 0; keys = keys }
   index_is room h =
       let p = keys_are s image w.images.spells w.images.right w.images.lies w.deep in
-      let b : bytesOut (keys_of image s) ≡ flat keys = puts_bytes p in
+      let b : bytes_out (keys_of image s) ≡ flat keys = puts_bytes p in
       let n = flat_length keys in
       rw (le-leb (length s) limit.bytes w.text_size, le-leb (length image) limit.image w.image_size, b, le-leb (length (flat keys)) room (omega arith))
       (puts_unless _ p ∙ rw (rows_flat keys small))
@@ -149,7 +150,7 @@ module _ (image s : List ℕ) {t : Tree Sort.value} (w : Writable image s t) whe
   pub index_not : (room : ℕ) → room < 13 * length keys → index_of image s room ≡ unindexed 4
   index_not room h =
       let p = keys_are s image w.images.spells w.images.right w.images.lies w.deep in
-      let b : bytesOut (keys_of image s) ≡ flat keys = puts_bytes p in
+      let b : bytes_out (keys_of image s) ≡ flat keys = puts_bytes p in
       let n = flat_length keys in
       rw (le-leb (length s) limit.bytes w.text_size, le-leb (length image) limit.image w.image_size, b, lt-leb (length (flat keys)) room (omega arith))
       (puts_unless _ p)

@@ -1,5 +1,5 @@
 -- Indexes of small images, and paths looked up in one: two tables that the checker computes.
-use Rattle.wire.specs.Kit.{ℕ, ◌≡◌, refl, List, [], ◌∷◌, map}
+use Rattle.std.specs.Prelude.{ℕ, ◌≡◌, refl, List, [], ◌∷◌, map}
 use Rattle.wire.specs.Utf8.{ends}
 use Rattle.wire.specs.Field.{u8_at, u16_at, u24_at, u32_at, u64_at}
 use Rattle.image.specs.Taking.{flag_at, short_at, long_at, u16, u32, u64, flag, short, long, zoned, body_at, record_at}

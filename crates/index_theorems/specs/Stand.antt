@@ -1,5 +1,5 @@
 -- What stands at the places that a mark names.
-use Rattle.wire.specs.Kit.{ℕ, ◌≡◌, List, [], ◌∷◌, ◌⊎◌, true}
+use Rattle.std.specs.Prelude.{ℕ, ◌≡◌, List, [], ◌∷◌, ◌⊎◌, true}
 use Rattle.wire.specs.Field.{to}
 use Rattle.image.specs.declared.record.Record.TheVariants as R
 use Rattle.image.specs.declared.taking.Taken.TheVariants.{Found}

@@ -1,6 +1,6 @@
 -- The words of the theorems of the index: the keys of a tree, and the way down a tree that a path of keys tells. Trees and files are told by the records of their
 -- images, as the writers have it (`Spells`); a place is one of the image.
-use Rattle.wire.specs.Kit.{ℕ, ◌+◌, ◌^◌, ◌<◌, ◌≡◌, List, [], ◌∷◌, ◌++◌, map, Bool, true, false, length}
+use Rattle.std.specs.Prelude.{ℕ, ◌+◌, ◌^◌, ◌<◌, ◌≡◌, List, [], ◌∷◌, ◌++◌, map, Bool, true, false, length}
 use Rattle.wire.specs.Choice.{pick}
 use Rattle.wire.specs.Number.{digits}
 use Rattle.wire.specs.Field.{equal}
@@ -15,9 +15,7 @@ use Rattle.lso.specs.File.{Body}
 use Rattle.lso.specs.Written as file
 use Rattle.index.specs.declared.mark.Mark.{Mark}
 use Rattle.index.specs.declared.find.Way.{Way}
-use Rattle.index.specs.declared.find.Way.TheVariants as Way
 use Rattle.index.specs.declared.walk.Role.{Role}
-use Rattle.index.specs.declared.walk.Role.TheVariants as Role
 use Rattle.index.specs.Mark.{mark}
 use Rattle.index.specs.Keys.{role_of}
 
