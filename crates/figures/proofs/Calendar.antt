@@ -1,5 +1,6 @@
 -- The days of the first so many years, in closed form, and the year of a day.
-use Rattle.wire.proofs.Kit.{ℕ, zero, suc, ◌+◌, ◌-◌, ◌*◌, ◌/◌, ◌%◌, ◌^◌, ◌≤◌, ◌<◌, ◌≡◌, refl, sym, ⊎_elim, arith, eqb, eqb-true, eqb-false}
+use Rattle.std.specs.Prelude.{◌+◌, ◌-◌, ◌*◌, ◌/◌, ◌%◌, ◌^◌, ◌≤◌, ◌<◌, ◌≡◌}
+use Rattle.wire.proofs.Kit.{ℕ, zero, suc, refl, sym, ⊎_elim, arith, eqb, eqb-true, eqb-false}
 use native.Mathlib.Nat.{eq-or-lt_of_le, div-add-mod}
 use Rattle.wire.proofs.Laws.{picked}
 use Rattle.figures.specs.Calendar.{leap_day, years_days, InYear}
@@ -56,11 +57,11 @@ leap_step y =
     (λ g. rw (four, one_more_100 y hundred, one_more_400 y (eqb-true (suc y % 400) 0 g)) (both (y / 4) (y / 400) (y / 100)))
     (λ g. rw (four, one_more_100 y hundred, no_more_400 y (eqb-false (suc y % 400) 0 g)) (century_only (y / 4) (y / 400) (y / 100))))
     (λ h.
-    let not-hundred = eqb-false (suc y % 100) 0 h in
-    let not-400 : suc y % 400 ≡ 0 → ⊥ = λ g. not-hundred (hundreds_400 (suc y) g) in
+    let not_hundred = eqb-false (suc y % 100) 0 h in
+    let not_400 : suc y % 400 ≡ 0 → ⊥ = λ g. not_hundred (hundreds_400 (suc y) g) in
     picked Goal (eqb (suc y % 4) 0) _ _
-    (λ g. rw (one_more_4 y (eqb-true (suc y % 4) 0 g), no_more_100 y not-hundred, no_more_400 y not-400) (four_only (y / 4) (y / 400) (y / 100)))
-    (λ g. rw (no_more_4 y (eqb-false (suc y % 4) 0 g), no_more_100 y not-hundred, no_more_400 y not-400) (neither (y / 4) (y / 400) (y / 100))))
+    (λ g. rw (one_more_4 y (eqb-true (suc y % 4) 0 g), no_more_100 y not_hundred, no_more_400 y not_400) (four_only (y / 4) (y / 400) (y / 100)))
+    (λ g. rw (no_more_4 y (eqb-false (suc y % 4) 0 g), no_more_100 y not_hundred, no_more_400 y not_400) (neither (y / 4) (y / 400) (y / 100))))
 
 closed_step : (d y l a b c a' b' c' : ℕ) → d + c ≡ 365 * y + a + b → l + (a + b + c') ≡ a' + b' + c → d + (365 + l) + c' ≡ 365 * suc y + a' + b'
 closed_step d y l a b c a' b' c' e f = omega arith

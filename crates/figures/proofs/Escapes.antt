@@ -1,6 +1,7 @@
 -- What the steps through the ranges say, and what goes out as it stands: no character that is hidden, no quote and no backslash.
-use Rattle.wire.proofs.Kit.{ℕ, ◌+◌, ◌≤◌, ◌<◌, ◌≡◌, refl, arith, List, [], ◌∷◌, Bool, true, false, length, drop, get_or, eqb, ltb, leb, drop-cons, add-one}
-use Rattle.wire.proofs.Kit.{lt-ltb, le-ltb, le-leb, lt-leb, eqb-false, ltb-true, ltb-false, leb-true, leb-false}
+use Rattle.std.specs.Prelude.{◌+◌, ◌≤◌, ◌<◌, ◌≡◌, ◌∷◌}
+use Rattle.wire.proofs.Kit.{ℕ, refl, arith, List, [], Bool, true, false, length, drop, get_or, eqb, ltb, leb, drop-cons, add-one}
+use Rattle.wire.proofs.Kit.{lt-ltb, le-ltb, le-leb, lt-leb, eqb-false, ltb-true, leb-true, leb-false}
 use Rattle.wire.proofs.Laws.{picked, false_true}
 use Rattle.wire.specs.Choice.{pick}
 use Rattle.figures.specs.Escape.{hidden, within, letter_of, point_of}

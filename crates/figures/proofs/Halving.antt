@@ -1,5 +1,6 @@
 -- Laws of the words and of halving.
-use Rattle.wire.proofs.Kit.{ℕ, zero, suc, ◌+◌, ◌-◌, ◌*◌, ◌/◌, ◌%◌, ◌^◌, ◌≤◌, ◌<◌, ◌≡◌, pow-suc, sub-one, arith, eqb, eq-eqb, ne_eqb, eqb-false}
+use Rattle.std.specs.Prelude.{◌+◌, ◌-◌, ◌*◌, ◌/◌, ◌%◌, ◌^◌, ◌≤◌, ◌<◌, ◌≡◌}
+use Rattle.wire.proofs.Kit.{ℕ, zero, suc, pow-suc, sub-one, arith, eqb, eq-eqb, ne_eqb, eqb-false}
 use native.Mathlib.Nat.{mul-le-mul, mul_assoc}
 use Rattle.wire.specs.Choice.{pick}
 use Rattle.wire.proofs.Laws.{picked}

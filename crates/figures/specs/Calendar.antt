@@ -1,5 +1,5 @@
 -- The Gregorian calendar from the year 1 on. Days and months count from 0, years from 1.
-use Rattle.wire.specs.Kit.{ℕ, zero, suc, ◌+◌, ◌-◌, ◌%◌, ◌<◌, ◌≡◌, eqb}
+use Rattle.std.specs.Prelude.{ℕ, zero, suc, ◌+◌, ◌-◌, ◌%◌, ◌<◌, ◌≡◌, eqb}
 use Rattle.wire.specs.Choice.{pick}
 
 -- every fourth year has a day more, of the centuries only every fourth

@@ -1,5 +1,5 @@
 -- The bits of an IEEE 754 double.
-use Rattle.wire.specs.Kit.{ℕ, zero, suc, ◌+◌, ◌-◌, ◌*◌, ◌/◌, ◌%◌, ◌^◌, ◌≤◌, ◌<◌, ◌≡◌, eqb, leb}
+use Rattle.std.specs.Prelude.{ℕ, zero, suc, ◌+◌, ◌-◌, ◌*◌, ◌/◌, ◌%◌, ◌^◌, ◌≤◌, ◌<◌, ◌≡◌, eqb, leb}
 use Rattle.wire.specs.Choice.{pick}
 use Rattle.figures.specs.declared.double.Whole.{Whole}
 use Rattle.figures.specs.declared.double.Whole.TheVariants.{Is, Not}

@@ -1,5 +1,5 @@
 -- The escapes of JSON, and which characters have one.
-use Rattle.wire.specs.Kit.{ℕ, ◌+◌, ◌*◌, ◌%◌, List, [], ◌∷◌, Bool, true, false, length, get_or, eqb, leb, ltb}
+use Rattle.std.specs.Prelude.{ℕ, ◌+◌, ◌*◌, ◌%◌, List, [], ◌∷◌, Bool, true, false, length, get_or, eqb, leb, ltb}
 use Rattle.wire.specs.Choice.{pick}
 
 -- the characters from a to b

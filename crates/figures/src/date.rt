@@ -3,7 +3,9 @@ ghost use Rattle.std.specs.Prelude.{◌≡◌, ◌+◌, ◌-◌, ◌≤◌, ◌<
 ghost use Rattle.figures.specs.Calendar.{leap_day, month_length, InYear, InMonth};
 
 use crate::double::{Whole, double_of, is_finite, number, whole_of};
-use crate::page::{Page, byte, decimal, digit, two_digits, word};
+use crate::page::{byte, decimal, digit, two_digits, word};
+use std::io;
+use std::io::Write;
 
 // From the first day of the year 1 to that of 1970, and to that of the year 10000.
 const TO_1970: u64 = 62_135_596_800_000;
@@ -12,14 +14,14 @@ const TO_10000: u64 = 315_537_897_600_000;
 
 const DAY: u64 = 86_400_000;
 
-#[derive(Drop)]
+#[derive(Clone, Copy)]
 struct Year {
     year: u64,
     // The day of the year, from 0.
     day: u64,
 }
 
-#[derive(Drop)]
+#[derive(Clone, Copy)]
 struct Month {
     // From 0.
     month: u64,
@@ -119,41 +121,42 @@ fn month_of(year: u64, day: u64) -> Month
     }
 }
 
-fn calendar(page: &mut Page, used: &mut usize, days: u64) {
+fn calendar(page: &mut impl Write, days: u64) -> io::Result<()> {
     let y = year_of(days);
     let m = month_of(y.year, y.day);
-    two_digits(page, used, y.year / 100);
-    two_digits(page, used, y.year % 100);
-    byte(page, used, b'-');
-    two_digits(page, used, m.month + 1);
-    byte(page, used, b'-');
-    two_digits(page, used, m.day + 1);
+    two_digits(page, y.year / 100)?;
+    two_digits(page, y.year % 100)?;
+    byte(page, b'-')?;
+    two_digits(page, m.month + 1)?;
+    byte(page, b'-')?;
+    two_digits(page, m.day + 1)
 }
 
-fn clock(page: &mut Page, used: &mut usize, milliseconds: u64) {
+fn clock(page: &mut impl Write, milliseconds: u64) -> io::Result<()> {
     let seconds = milliseconds / 1000;
-    two_digits(page, used, seconds / 3600);
-    byte(page, used, b':');
-    two_digits(page, used, seconds / 60 % 60);
-    byte(page, used, b':');
-    two_digits(page, used, seconds % 60);
+    two_digits(page, seconds / 3600)?;
+    byte(page, b':')?;
+    two_digits(page, seconds / 60 % 60)?;
+    byte(page, b':')?;
+    two_digits(page, seconds % 60)?;
     if milliseconds % 1000 != 0 {
-        byte(page, used, b'.');
-        byte(page, used, digit(milliseconds / 100));
-        two_digits(page, used, milliseconds % 100);
+        byte(page, b'.')?;
+        byte(page, digit(milliseconds / 100))?;
+        two_digits(page, milliseconds % 100)?;
     }
+    Ok(())
 }
 
 // Minutes, with a sign.
-fn zone_minutes(page: &mut Page, used: &mut usize, zone: u16) {
-    word(page, used, b", zone ");
+fn zone_minutes(page: &mut impl Write, zone: u16) -> io::Result<()> {
+    word(page, b", zone ")?;
     if zone < 0x8000 {
-        decimal(page, used, zone as u64);
+        decimal(page, zone as u64)?;
     } else {
-        byte(page, used, b'-');
-        decimal(page, used, 0x1_0000 - zone as u64);
+        byte(page, b'-')?;
+        decimal(page, 0x1_0000 - zone as u64)?;
     }
-    word(page, used, b" min");
+    word(page, b" min")
 }
 
 // Whether a date is a moment of the years 1 to 9999, to the millisecond.
@@ -165,30 +168,32 @@ pub fn is_of_calendar(bits: u64) -> bool {
 }
 
 // Such a moment as ISO 8601 has it.
-pub fn iso(page: &mut Page, used: &mut usize, bits: u64) {
+pub fn iso(page: &mut impl Write, bits: u64) -> io::Result<()> {
     if let Whole::Is(n) = since_year_1(bits) {
-        calendar(page, used, n / DAY);
-        byte(page, used, b'T');
-        clock(page, used, n % DAY);
-        byte(page, used, b'Z');
+        calendar(page, n / DAY)?;
+        byte(page, b'T')?;
+        clock(page, n % DAY)?;
+        byte(page, b'Z')?;
     }
+    Ok(())
 }
 
 // The moment, and the zone where it is not 0.
-pub fn date(page: &mut Page, used: &mut usize, bits: u64, zone: u16) {
+pub fn date(page: &mut impl Write, bits: u64, zone: u16) -> io::Result<()> {
     match since_year_1(bits) {
         Whole::Is(n) => {
-            calendar(page, used, n / DAY);
-            byte(page, used, b' ');
-            clock(page, used, n % DAY);
-            word(page, used, b" UTC");
+            calendar(page, n / DAY)?;
+            byte(page, b' ')?;
+            clock(page, n % DAY)?;
+            word(page, b" UTC")?;
         }
         Whole::Not => {
-            number(page, used, bits);
-            word(page, used, b" ms since 1970");
+            number(page, bits)?;
+            word(page, b" ms since 1970")?;
         }
     }
     if zone != 0 {
-        zone_minutes(page, used, zone);
+        zone_minutes(page, zone)?;
     }
+    Ok(())
 }

@@ -4,34 +4,36 @@ ghost use Rattle.std.specs.Prelude.{◌≡◌, ◌≤◌};
 ghost use Rattle.figures.specs.Double.{Parts, halved_of, whole_of};
 
 use crate::big::{Big, double, put, reaches, subtract, times};
-use crate::page::{Page, byte, decimal, digit, word};
+use crate::page::{byte, decimal, digit, word};
+use std::io;
+use std::io::Write;
 use wire::text::part;
 
 const HIDDEN: u64 = 0x10_0000_0000_0000;
 
 // A finite number's magnitude is fraction * 2 ^ (exponent - 1075).
-#[derive(Drop)]
+#[derive(Clone, Copy)]
 pub(crate) struct Double {
     pub(crate) negative: bool,
     pub(crate) exponent: u64,
     pub(crate) fraction: u64,
 }
 
-#[derive(Drop)]
+#[derive(Clone, Copy)]
 pub(crate) enum Whole {
     Is(u64),
     Not,
 }
 
 // A digit, and whether it is the last.
-#[derive(Drop)]
+#[derive(Clone, Copy)]
 struct Turn {
     digit: u8,
     last: bool,
 }
 
 // How many digits there are, and the power of ten by which they are multiplied where a point stands before them, 400 added to it.
-#[derive(Drop)]
+#[derive(Clone, Copy)]
 struct Scale {
     count: usize,
     power: u64,
@@ -202,58 +204,60 @@ fn spell(
     }
 }
 
-fn zeros(page: &mut Page, used: &mut usize, n: u64) {
+fn zeros(page: &mut impl Write, n: u64) -> io::Result<()> {
     let mut i: u64 = 0;
     while i < n {
-        byte(page, used, b'0');
+        byte(page, b'0')?;
         i += 1;
     }
+    Ok(())
 }
 
 // Digits with a point behind the first so many of them, if any follow.
-fn pointed(page: &mut Page, used: &mut usize, row: &[u8], whole: usize) {
-    word(page, used, part(row, 0, whole));
+fn pointed(page: &mut impl Write, row: &[u8], whole: usize) -> io::Result<()> {
+    word(page, part(row, 0, whole))?;
     if whole < row.len() {
-        byte(page, used, b'.');
-        word(page, used, part(row, whole, row.len() - whole));
+        byte(page, b'.')?;
+        word(page, part(row, whole, row.len() - whole))?;
     }
+    Ok(())
 }
 
-fn scientific(page: &mut Page, used: &mut usize, row: &[u8], power: u64) {
-    pointed(page, used, row, 1);
+fn scientific(page: &mut impl Write, row: &[u8], power: u64) -> io::Result<()> {
+    pointed(page, row, 1)?;
     if 400 < power {
-        word(page, used, b"e+");
-        decimal(page, used, power - 401);
+        word(page, b"e+")?;
+        decimal(page, power - 401)
     } else {
-        word(page, used, b"e-");
-        decimal(page, used, 401 - power);
+        word(page, b"e-")?;
+        decimal(page, 401 - power)
     }
 }
 
 // Zeros before or behind the digits, up to the point.
-fn lay_out(page: &mut Page, used: &mut usize, row: &[u8], power: u64) {
+fn lay_out(page: &mut impl Write, row: &[u8], power: u64) -> io::Result<()> {
     if power <= 394 || 421 < power {
-        scientific(page, used, row, power);
+        scientific(page, row, power)
     } else if power <= 400 {
-        word(page, used, b"0.");
-        zeros(page, used, 400 - power);
-        word(page, used, row);
+        word(page, b"0.")?;
+        zeros(page, 400 - power)?;
+        word(page, row)
     } else {
         let whole = (power - 400) as usize;
         if whole < row.len() {
-            pointed(page, used, row, whole);
+            pointed(page, row, whole)
         } else {
-            word(page, used, row);
-            zeros(page, used, (whole - row.len()) as u64);
+            word(page, row)?;
+            zeros(page, (whole - row.len()) as u64)
         }
     }
 }
 
-fn lay_out_row(page: &mut Page, used: &mut usize, row: &[u8; 20], count: usize, power: u64) {
-    lay_out(page, used, part(row, 0, count), power);
+fn lay_out_row(page: &mut impl Write, row: &[u8; 20], count: usize, power: u64) -> io::Result<()> {
+    lay_out(page, part(row, 0, count), power)
 }
 
-fn shortest(page: &mut Page, used: &mut usize, d: Double) {
+fn shortest(page: &mut impl Write, d: Double) -> io::Result<()> {
     let mut over = [0u32; 36];
     let mut under = [0u32; 36];
     let mut down = [0u32; 36];
@@ -263,33 +267,33 @@ fn shortest(page: &mut Page, used: &mut usize, d: Double) {
     set_up(d, &mut over, &mut under, &mut down, &mut up);
     let tens = bring_down(&over, &mut under, &up, even);
     let scale = spell(&mut over, &under, &mut down, &mut up, even, &mut row);
-    lay_out_row(page, used, &row, scale.count, scale.power + tens);
+    lay_out_row(page, &row, scale.count, scale.power + tens)
 }
 
-fn finite(page: &mut Page, used: &mut usize, d: Double) {
+fn finite(page: &mut impl Write, d: Double) -> io::Result<()> {
     if d.negative {
-        byte(page, used, b'-');
+        byte(page, b'-')?;
     }
     match whole_of(d) {
-        Whole::Is(n) => decimal(page, used, n),
-        Whole::Not => shortest(page, used, d),
+        Whole::Is(n) => decimal(page, n),
+        Whole::Not => shortest(page, d),
     }
 }
 
-fn not_finite(page: &mut Page, used: &mut usize, bits: u64) {
+fn not_finite(page: &mut impl Write, bits: u64) -> io::Result<()> {
     if bits % HIDDEN != 0 {
-        word(page, used, b"NaN");
+        word(page, b"NaN")
     } else if bits / 0x8000_0000_0000_0000 == 1 {
-        word(page, used, b"-Infinity");
+        word(page, b"-Infinity")
     } else {
-        word(page, used, b"Infinity");
+        word(page, b"Infinity")
     }
 }
 
-pub fn number(page: &mut Page, used: &mut usize, bits: u64) {
+pub fn number(page: &mut impl Write, bits: u64) -> io::Result<()> {
     if is_finite(bits) {
-        finite(page, used, double_of(bits));
+        finite(page, double_of(bits))
     } else {
-        not_finite(page, used, bits);
+        not_finite(page, bits)
     }
 }

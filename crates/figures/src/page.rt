@@ -1,64 +1,104 @@
-// What is printed goes onto a page, which is written out where it is full, and at the end.
-ghost use Rattle.std.specs.Prelude.{◌≡◌, ◌+◌, ◌%◌};
+// What is printed goes onto a page, which is written out where it is full, and at the end; any other writer does, too.
+ghost use Rattle.std.specs.Prelude.{◌≡◌, ◌+◌, ◌%◌, ◌≤◌};
 
 use crate::escape::{high_half, letter, low_half, point, width};
-use libc::STDOUT_FILENO;
+use std::io;
+use std::io::Write;
 use wire::text::part;
 
-pub type Page = [u8; 4096];
+const SIZE: usize = 4096;
 
-pub(crate) fn byte(page: &mut Page, used: &mut usize, b: u8) {
-    let at = *used;
-    if at < 4096 {
-        page[at] = b;
-        *used = at + 1;
-        return;
+// The bytes that are still to be written out, and where they go then.
+#[derive(Drop)]
+pub struct Page<W> {
+    bytes: [u8; SIZE],
+    used: usize,
+    to: W,
+    ghost within: { used ≤ 4096 },
+}
+
+impl<W> Page<W> {
+    pub fn onto(to: W) -> Page<W> {
+        Page {
+            bytes: [0; SIZE],
+            used: 0,
+            to: to,
+        }
     }
-    io::write_all(STDOUT_FILENO, page);
-    page[0] = b;
-    *used = 1;
+
+    // Where the page is written out to.
+    pub fn beneath(&mut self) -> &mut W {
+        &mut self.to
+    }
+}
+
+impl<W: Drop> Page<W> {
+    // What is still to be written out, and how many bytes it has.
+    pub fn held(self) -> ([u8; SIZE], usize) {
+        (self.bytes, self.used)
+    }
+}
+
+impl<W: Write> Write for Page<W> {
+    fn write(&mut self, buf: &[u8]) -> io::Result<usize> {
+        if self.used == SIZE {
+            self.to.write_all(&self.bytes)?;
+            self.used = 0;
+        }
+        let left = SIZE - self.used;
+        let n = if buf.len() < left { buf.len() } else { left };
+        self.bytes[self.used..self.used + n].copy_from_slice(&buf[..n]);
+        self.used += n;
+        Ok(n)
+    }
+
+    fn flush(&mut self) -> io::Result<()> {
+        self.to.write_all(&self.bytes[..self.used])?;
+        self.used = 0;
+        self.to.flush()
+    }
+}
+
+pub(crate) fn byte(page: &mut impl Write, b: u8) -> io::Result<()> {
+    page.write_all(&[b])
 }
 
 // Writes out what is still on the page.
-pub fn end(page: &[u8], used: usize) {
-    io::write_all(STDOUT_FILENO, part(page, 0, used));
+pub fn end(page: &mut impl Write) -> io::Result<()> {
+    page.flush()
 }
 
-pub fn word(page: &mut Page, used: &mut usize, text: &[u8]) {
-    let mut i: usize = 0;
-    while i < text.len() {
-        byte(page, used, text[i]);
-        i += 1;
-    }
+pub fn word(page: &mut impl Write, text: &[u8]) -> io::Result<()> {
+    page.write_all(text)
 }
 
-pub fn decimal(page: &mut Page, used: &mut usize, n: u64) {
-    let mut digits = [0u8; 20];
-    let k = io::decimal(n, &mut digits);
-    word(page, used, &digits[..k]);
+pub fn decimal(page: &mut impl Write, n: u64) -> io::Result<()> {
+    write!(page, "{n}")
 }
 
 // So many of a thing: `1 byte`, `12 bytes`.
-pub fn amount(page: &mut Page, used: &mut usize, n: u64, thing: &[u8]) {
-    decimal(page, used, n);
-    word(page, used, thing);
+pub fn amount(page: &mut impl Write, n: u64, thing: &[u8]) -> io::Result<()> {
+    decimal(page, n)?;
+    word(page, thing)?;
     if n != 1 {
-        word(page, used, b"s");
+        word(page, b"s")?;
     }
+    Ok(())
 }
 
-pub fn spaces(page: &mut Page, used: &mut usize, n: usize) {
+pub fn spaces(page: &mut impl Write, n: usize) -> io::Result<()> {
     let mut i: usize = 0;
     while i < n {
-        byte(page, used, b' ');
+        byte(page, b' ')?;
         i += 1;
     }
+    Ok(())
 }
 
 // A number below a hundred in two digits.
-pub(crate) fn two_digits(page: &mut Page, used: &mut usize, n: u64) {
-    byte(page, used, digit(n / 10));
-    byte(page, used, digit(n));
+pub(crate) fn two_digits(page: &mut impl Write, n: u64) -> io::Result<()> {
+    byte(page, digit(n / 10))?;
+    byte(page, digit(n))
 }
 
 // The last digit of a number.
@@ -77,60 +117,61 @@ fn hex_digit(n: u32) -> u8 {
 }
 
 // A number below 65,536 as JSON has it.
-fn unicode(page: &mut Page, used: &mut usize, n: u32) {
-    word(page, used, b"\\u");
-    byte(page, used, hex_digit(n / 0x1000 % 16));
-    byte(page, used, hex_digit(n / 0x100 % 16));
-    byte(page, used, hex_digit(n / 0x10 % 16));
-    byte(page, used, hex_digit(n % 16));
+fn unicode(page: &mut impl Write, n: u32) -> io::Result<()> {
+    word(page, b"\\u")?;
+    byte(page, hex_digit(n / 0x1000 % 16))?;
+    byte(page, hex_digit(n / 0x100 % 16))?;
+    byte(page, hex_digit(n / 0x10 % 16))?;
+    byte(page, hex_digit(n % 16))
 }
 
-fn escaped(page: &mut Page, used: &mut usize, p: u32) {
+fn escaped(page: &mut impl Write, p: u32) -> io::Result<()> {
     if p < 0x1_0000 {
-        unicode(page, used, p);
+        unicode(page, p)
     } else {
-        unicode(page, used, high_half(p));
-        unicode(page, used, low_half(p));
+        unicode(page, high_half(p))?;
+        unicode(page, low_half(p))
     }
 }
 
 // A character, by its bytes.
-fn character(page: &mut Page, used: &mut usize, c: &[u8]) {
+fn character(page: &mut impl Write, c: &[u8]) -> io::Result<()> {
     let p = point(c);
     let l = letter(p);
     if l == 0 {
-        word(page, used, c);
+        word(page, c)
     } else if l == b'u' {
-        escaped(page, used, p);
+        escaped(page, p)
     } else {
-        byte(page, used, b'\\');
-        byte(page, used, l);
+        byte(page, b'\\')?;
+        byte(page, l)
     }
 }
 
 // A text by itself, for the middle of a quoted one. No text that was read ends in the middle of a character.
-pub fn characters(page: &mut Page, used: &mut usize, text: &[u8]) {
+pub fn characters(page: &mut impl Write, text: &[u8]) -> io::Result<()> {
     let mut at: usize = 0;
     while at < text.len() {
         let n = width(text[at]);
         if text.len() - at < n {
-            return;
+            return Ok(());
         }
-        character(page, used, part(text, at, n));
+        character(page, part(text, at, n))?;
         at += n;
     }
+    Ok(())
 }
 
 // A text between quotes, as JSON has it.
-pub fn quoted(page: &mut Page, used: &mut usize, text: &[u8]) {
-    byte(page, used, b'"');
-    characters(page, used, text);
-    byte(page, used, b'"');
+pub fn quoted(page: &mut impl Write, text: &[u8]) -> io::Result<()> {
+    byte(page, b'"')?;
+    characters(page, text)?;
+    byte(page, b'"')
 }
 
 // A text of the input between quotes, and its place.
-pub fn placed(page: &mut Page, used: &mut usize, input: &[u8], place: usize, length: usize) {
-    quoted(page, used, part(input, place, length));
-    word(page, used, b" @");
-    decimal(page, used, place as u64);
+pub fn placed(page: &mut impl Write, input: &[u8], place: usize, length: usize) -> io::Result<()> {
+    quoted(page, part(input, place, length))?;
+    word(page, b" @")?;
+    decimal(page, place as u64)
 }
