@@ -2,7 +2,7 @@
 use wire::limit::LEVELS;
 
 // What a text is.
-#[derive(Drop)]
+#[derive(Clone, Copy)]
 pub enum Named {
     FileName,
     Key,
@@ -14,7 +14,7 @@ pub enum Named {
     Response,
 }
 
-#[derive(Drop)]
+#[derive(Clone, Copy)]
 pub enum FileField {
     Beginning,
     StoredLength,
@@ -26,7 +26,7 @@ pub enum FileField {
     Closing,
 }
 
-#[derive(Drop)]
+#[derive(Clone, Copy)]
 pub enum PacketField {
     Zero,
     Version,
@@ -37,7 +37,7 @@ pub enum PacketField {
     Declared,
 }
 
-#[derive(Drop)]
+#[derive(Clone, Copy)]
 pub enum ValueField {
     Marker,
     Number,
@@ -49,7 +49,7 @@ pub enum ValueField {
     Zone,
 }
 
-#[derive(Drop)]
+#[derive(Clone, Copy)]
 pub enum Field {
     OfFile(FileField),
     OfPacket(PacketField),
@@ -64,7 +64,7 @@ pub enum Field {
 }
 
 // What a walk is in. Of headers and messages: how many there are, and how many more behind this one.
-#[derive(Drop)]
+#[derive(Clone, Copy)]
 pub enum Part {
     File,
     Packet,
@@ -76,7 +76,7 @@ pub enum Part {
 }
 
 // A field of so many bytes at a place, in so many containers. A cut steps over values whose length is known.
-#[derive(Drop)]
+#[derive(Clone, Copy)]
 pub struct Spot {
     pub at: usize,
     pub field: Field,
@@ -88,7 +88,7 @@ pub struct Spot {
 
 // The way to a field: on each level the last key, by its place and length, and 0 where none was read; or in a strict array how many values it has and how
 // many are left, with the one that the way goes through. Level 0 has the key of a file's element, or the name of a header or the target of a message.
-#[derive(Drop)]
+#[derive(Clone, Copy)]
 pub struct Level {
     pub place: usize,
     pub length: usize,

@@ -1,5 +1,7 @@
 // The bytes round a place, in hex: two lines of sixteen, and a mark under the byte.
-use figures::page::{Page, spaces, word};
+use figures::page::{spaces, word};
+use std::io;
+use std::io::Write;
 use wire::text::part;
 
 // How far the lines stand in.
@@ -20,14 +22,15 @@ fn digit(n: u64) -> u8 {
 }
 
 // The last digits of a row, from a place on.
-fn last_digits(page: &mut Page, used: &mut usize, row: &[u8; 16], first: usize) {
+fn last_digits(page: &mut impl Write, row: &[u8; 16], first: usize) -> io::Result<()> {
     if first <= 16 {
-        word(page, used, part(row, first, 16 - first));
+        word(page, part(row, first, 16 - first))?;
     }
+    Ok(())
 }
 
 // A number in so many digits at least.
-pub(crate) fn hex(page: &mut Page, used: &mut usize, n: u64, least: usize) {
+pub(crate) fn hex(page: &mut impl Write, n: u64, least: usize) -> io::Result<()> {
     let mut row = [0u8; 16];
     let mut first: usize = 16;
     let mut rest = n;
@@ -36,7 +39,7 @@ pub(crate) fn hex(page: &mut Page, used: &mut usize, n: u64, least: usize) {
         row[first] = digit(rest % 16);
         rest /= 16;
     }
-    last_digits(page, used, &row, first);
+    last_digits(page, &row, first)
 }
 
 fn wide(b: u8) -> u64 {
@@ -53,22 +56,24 @@ fn letter(b: u8) -> u8 {
     }
 }
 
-fn cells(page: &mut Page, used: &mut usize, row: &[u8]) {
+fn cells(page: &mut impl Write, row: &[u8]) -> io::Result<()> {
     let mut i: usize = 0;
     while i < row.len() {
-        word(page, used, b" ");
-        hex(page, used, wide(row[i]), 2);
+        word(page, b" ")?;
+        hex(page, wide(row[i]), 2)?;
         i += 1;
     }
+    Ok(())
 }
 
-fn letters(page: &mut Page, used: &mut usize, row: &[u8]) {
+fn letters(page: &mut impl Write, row: &[u8]) -> io::Result<()> {
     let mut i: usize = 0;
     while i < row.len() {
         let one = [letter(row[i]); 1];
-        word(page, used, &one);
+        word(page, &one)?;
         i += 1;
     }
+    Ok(())
 }
 
 // The bytes of a line.
@@ -84,39 +89,41 @@ fn row_at(input: &[u8], line: usize) -> &[u8] {
     }
 }
 
-fn line_at(page: &mut Page, used: &mut usize, input: &[u8], line: usize, indent: usize) {
+fn line_at(page: &mut impl Write, input: &[u8], line: usize, indent: usize) -> io::Result<()> {
     let row = row_at(input, line);
-    spaces(page, used, indent);
-    spaces(page, used, INDENT);
-    hex(page, used, line as u64, PLACE);
+    spaces(page, indent)?;
+    spaces(page, INDENT)?;
+    hex(page, line as u64, PLACE)?;
     if 0 < row.len() && row.len() <= LINE {
-        word(page, used, b" ");
-        cells(page, used, row);
-        spaces(page, used, 3 * (LINE - row.len()) + 2);
-        letters(page, used, row);
+        word(page, b" ")?;
+        cells(page, row)?;
+        spaces(page, 3 * (LINE - row.len()) + 2)?;
+        letters(page, row)?;
     }
-    word(page, used, b"\n");
+    word(page, b"\n")
 }
 
 // Under the byte of a line.
-fn mark(page: &mut Page, used: &mut usize, column: usize, indent: usize) {
-    spaces(page, used, indent);
-    spaces(page, used, INDENT + PLACE + 2 + 3 * (column % LINE));
-    word(page, used, b"^^\n");
+fn mark(page: &mut impl Write, column: usize, indent: usize) -> io::Result<()> {
+    spaces(page, indent)?;
+    spaces(page, INDENT + PLACE + 2 + 3 * (column % LINE))?;
+    word(page, b"^^\n")
 }
 
-fn line_before(page: &mut Page, used: &mut usize, input: &[u8], line: usize, indent: usize) {
+fn line_before(page: &mut impl Write, input: &[u8], line: usize, indent: usize) -> io::Result<()> {
     if LINE <= line {
-        line_at(page, used, input, line - LINE, indent);
+        line_at(page, input, line - LINE, indent)?;
     }
+    Ok(())
 }
 
-fn line_behind(page: &mut Page, used: &mut usize, input: &[u8], line: usize, indent: usize) {
+fn line_behind(page: &mut impl Write, input: &[u8], line: usize, indent: usize) -> io::Result<()> {
     if line <= input.len() {
         if LINE < input.len() - line {
-            line_at(page, used, input, line + LINE, indent);
+            line_at(page, input, line + LINE, indent)?;
         }
     }
+    Ok(())
 }
 
 // Whether the second line is the one behind: where the place is in the second half of its own, or on the first line; but not where there is none.
@@ -128,16 +135,22 @@ fn looks_ahead(input: &[u8], line: usize, column: usize) -> bool {
     }
 }
 
-pub(crate) fn around(page: &mut Page, used: &mut usize, input: &[u8], place: usize, indent: usize) {
+pub(crate) fn around(
+    page: &mut impl Write,
+    input: &[u8],
+    place: usize,
+    indent: usize,
+) -> io::Result<()> {
     let column = place % LINE;
     let line = place - column;
     let ahead = looks_ahead(input, line, column);
     if !ahead {
-        line_before(page, used, input, line, indent);
+        line_before(page, input, line, indent)?;
     }
-    line_at(page, used, input, line, indent);
-    mark(page, used, column, indent);
+    line_at(page, input, line, indent)?;
+    mark(page, column, indent)?;
     if ahead {
-        line_behind(page, used, input, line, indent);
+        line_behind(page, input, line, indent)?;
     }
+    Ok(())
 }
