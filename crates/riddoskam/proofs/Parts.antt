@@ -1,5 +1,6 @@
 -- A result that is known whole is known in each part.
-use Rattle.wire.proofs.Kit.{◌≡◌, ap}
+use Rattle.std.specs.Prelude.{◌≡◌}
+use Rattle.wire.proofs.Kit.{ap}
 use Rattle.image.specs.declared.building.Laying.{Laying}
 use Rattle.image.specs.declared.reading.Reading.{Reading}
 use Rattle.image.specs.declared.writing.Writing.{Writing}

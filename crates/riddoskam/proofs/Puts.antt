@@ -1,5 +1,6 @@
 -- `riddoskam_put` and `riddoskam_record_at`, each the inverse of the other.
-use Rattle.wire.proofs.Kit.{ℕ, ◌≡◌, refl, sym, List, arith}
+use Rattle.std.specs.Prelude.{◌≡◌}
+use Rattle.wire.proofs.Kit.{ℕ, refl, sym, List, arith}
 use Rattle.wire.specs.Number.{Bytes}
 use Rattle.image.specs.declared.taking.Taken.{Taken}
 use Rattle.image.specs.declared.taking.Taken.TheVariants.{Found, Bad}

@@ -1,5 +1,6 @@
 -- The row that `riddoskam_packet_cut` leaves, and what `riddoskam_packet_nth` leaves.
-use Rattle.wire.proofs.Kit.{ℕ, zero, suc, ◌*◌, ◌-◌, ◌<◌, ◌≡◌, refl, List, [], ◌∷◌, ◌++◌, Bool, true, false, arith, length, get_or, take, drop, replicate, leb}
+use Rattle.std.specs.Prelude.{◌*◌, ◌-◌, ◌<◌, ◌≡◌, ◌∷◌, ◌++◌}
+use Rattle.wire.proofs.Kit.{ℕ, zero, suc, refl, List, [], Bool, true, false, arith, length, get_or, take, drop, replicate, leb}
 use Rattle.wire.proofs.Kit.{lt-ltb}
 use Rattle.wire.specs.Choice.{pick}
 use Rattle.packet.specs.declared.head.Entry.{Entry}

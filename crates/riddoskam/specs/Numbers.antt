@@ -1,14 +1,11 @@
 -- What a call returns by value in Rattle, as the numbers that go out to C.
-use Rattle.wire.specs.Kit.{ℕ, List, Bool, true, false, replicate}
+use Rattle.std.specs.Prelude.{ℕ, List, Bool, true, false, replicate}
 use Rattle.image.specs.declared.taking.Taken.{Taken}
-use Rattle.image.specs.declared.taking.Taken.TheVariants as Taken
 use Rattle.image.specs.Record.{layout_of}
 use Rattle.image.specs.Building.{numbers_in}
 use Rattle.packet.specs.declared.entry.Found.{Found}
-use Rattle.packet.specs.declared.entry.Found.TheVariants as Found
 use Rattle.packet.specs.Row.{entry_numbers}
 use Rattle.index.specs.declared.find.Way.{Way}
-use Rattle.index.specs.declared.find.Way.TheVariants as Way
 
 -- ---- an entry
 

@@ -1,5 +1,7 @@
 // The library for programs in other languages: each public call, on numbers and slices alone. The answer is the result, the counts go out through
-// references. A slice is a pointer and a length, a reference is a pointer; include/riddoskam.h declares what stands here.
+// references. The crate riddoskam_c exports what stands here.
+#![tactic(auto)]
+
 ghost use Rattle.std.specs.Prelude.{◌≡◌, ◌/◌, length, take, drop};
 ghost use Rattle.wire.specs.Choice.{pick};
 ghost use Rattle.wire.specs.Text.{inside_of, part_of, place_of};
@@ -8,11 +10,11 @@ ghost use Rattle.image.specs.Out.{onto};
 ghost use Rattle.image.specs.Taking.{record_at};
 ghost use Rattle.image.specs.Building.{put_of};
 ghost use Rattle.amf0.specs.Reading.{read_of};
-ghost use Rattle.amf0.specs.Writing.{write_of as valueWritten};
+ghost use Rattle.amf0.specs.Writing.{write_of as value_written};
 ghost use Rattle.lso.specs.Reading.{whole_of as whole_file, incomplete_of as incomplete_file};
-ghost use Rattle.lso.specs.Writing.{write_of as fileWritten};
+ghost use Rattle.lso.specs.Writing.{write_of as file_written};
 ghost use Rattle.packet.specs.Reading.{whole_of as whole_packet, incomplete_of as incomplete_packet};
-ghost use Rattle.packet.specs.Writing.{write_of as packetWritten};
+ghost use Rattle.packet.specs.Writing.{write_of as packet_written};
 ghost use Rattle.packet.specs.Entry.{cut_of, list_of, read_span, read_entry, found_in};
 ghost use Rattle.packet.specs.Row.{row_of};
 ghost use Rattle.index.specs.Mark.{rows};
@@ -30,21 +32,14 @@ use wire::text::inside;
 
 // ---- texts
 
-#[unsafe(no_mangle)]
-pub extern "C" fn riddoskam_inside(input: &[u8], place: usize, length: usize) -> bool
+pub fn riddoskam_inside(input: &[u8], place: usize, length: usize) -> bool
     ensures { result ≡ inside_of input.now place length }
 {
     inside(input, place, length)
 }
 
 // The named part, told by the place where it begins and its length: the empty part at the front where it is not inside.
-#[unsafe(no_mangle)]
-pub extern "C" fn riddoskam_part(
-    input: &[u8],
-    place: usize,
-    length: usize,
-    from: &mut usize,
-) -> usize
+pub fn riddoskam_part(input: &[u8], place: usize, length: usize, from: &mut usize) -> usize
     ensures value { result ≡ pick (inside_of input.now place length) length 0 }
     ensures from_after { from.new ≡ place_of input.now place length }
     ensures input_after { take result (drop from.new input.now) ≡ part_of input.now place length }
@@ -60,8 +55,7 @@ pub extern "C" fn riddoskam_part(
 
 // ---- values
 
-#[unsafe(no_mangle)]
-pub extern "C" fn riddoskam_parse_single_element(
+pub fn riddoskam_parse_single_element(
     input: &[u8],
     image: &mut [u8],
     used: &mut usize,
@@ -78,16 +72,10 @@ pub extern "C" fn riddoskam_parse_single_element(
     value.answer
 }
 
-#[unsafe(no_mangle)]
-pub extern "C" fn riddoskam_write_value(
-    image: &[u8],
-    text: &[u8],
-    out: &mut [u8],
-    count: &mut usize,
-) -> u8
-    ensures value { result ≡ (valueWritten image.now text.now (length out.old)).writing.answer }
-    ensures count_after { count.new ≡ (valueWritten image.now text.now (length out.old)).writing.count }
-    ensures out_after { out.new ≡ onto (valueWritten image.now text.now (length out.old)).bytes out.old }
+pub fn riddoskam_write_value(image: &[u8], text: &[u8], out: &mut [u8], count: &mut usize) -> u8
+    ensures value { result ≡ (value_written image.now text.now (length out.old)).writing.answer }
+    ensures count_after { count.new ≡ (value_written image.now text.now (length out.old)).writing.count }
+    ensures out_after { out.new ≡ onto (value_written image.now text.now (length out.old)).bytes out.old }
 {
     let value = amf0::write::write_value(image, text, out);
     *count = value.count;
@@ -96,13 +84,7 @@ pub extern "C" fn riddoskam_write_value(
 
 // ---- files
 
-#[unsafe(no_mangle)]
-pub extern "C" fn riddoskam_lso_parse(
-    input: &[u8],
-    image: &mut [u8],
-    used: &mut usize,
-    made: &mut usize,
-) -> u8
+pub fn riddoskam_lso_parse(input: &[u8], image: &mut [u8], used: &mut usize, made: &mut usize) -> u8
     ensures value { result ≡ (whole_file input.now (length image.old)).reading.answer }
     ensures used_after { used.new ≡ (whole_file input.now (length image.old)).reading.used }
     ensures made_after { made.new ≡ (whole_file input.now (length image.old)).reading.made }
@@ -114,8 +96,7 @@ pub extern "C" fn riddoskam_lso_parse(
     file.answer
 }
 
-#[unsafe(no_mangle)]
-pub extern "C" fn riddoskam_lso_parse_incomplete(
+pub fn riddoskam_lso_parse_incomplete(
     input: &[u8],
     image: &mut [u8],
     used: &mut usize,
@@ -132,16 +113,15 @@ pub extern "C" fn riddoskam_lso_parse_incomplete(
     start.answer
 }
 
-#[unsafe(no_mangle)]
-pub extern "C" fn riddoskam_lso_write_to_bytes(
+pub fn riddoskam_lso_write_to_bytes(
     image: &[u8],
     text: &[u8],
     out: &mut [u8],
     count: &mut usize,
 ) -> u8
-    ensures value { result ≡ (fileWritten image.now text.now (length out.old)).writing.answer }
-    ensures count_after { count.new ≡ (fileWritten image.now text.now (length out.old)).writing.count }
-    ensures out_after { out.new ≡ onto (fileWritten image.now text.now (length out.old)).bytes out.old }
+    ensures value { result ≡ (file_written image.now text.now (length out.old)).writing.answer }
+    ensures count_after { count.new ≡ (file_written image.now text.now (length out.old)).writing.count }
+    ensures out_after { out.new ≡ onto (file_written image.now text.now (length out.old)).bytes out.old }
 {
     let file = lso::write::write_to_bytes(image, text, out);
     *count = file.count;
@@ -150,8 +130,7 @@ pub extern "C" fn riddoskam_lso_write_to_bytes(
 
 // ---- packets
 
-#[unsafe(no_mangle)]
-pub extern "C" fn riddoskam_packet_parse(
+pub fn riddoskam_packet_parse(
     input: &[u8],
     image: &mut [u8],
     used: &mut usize,
@@ -168,8 +147,7 @@ pub extern "C" fn riddoskam_packet_parse(
     whole.answer
 }
 
-#[unsafe(no_mangle)]
-pub extern "C" fn riddoskam_packet_parse_incomplete(
+pub fn riddoskam_packet_parse_incomplete(
     input: &[u8],
     image: &mut [u8],
     used: &mut usize,
@@ -186,17 +164,16 @@ pub extern "C" fn riddoskam_packet_parse_incomplete(
     front.answer
 }
 
-#[unsafe(no_mangle)]
-pub extern "C" fn riddoskam_packet_write_to_bytes(
+pub fn riddoskam_packet_write_to_bytes(
     image: &[u8],
     text: &[u8],
     exact_lengths: bool,
     out: &mut [u8],
     count: &mut usize,
 ) -> u8
-    ensures value { result ≡ (packetWritten image.now text.now exact_lengths (length out.old)).writing.answer }
-    ensures count_after { count.new ≡ (packetWritten image.now text.now exact_lengths (length out.old)).writing.count }
-    ensures out_after { out.new ≡ onto (packetWritten image.now text.now exact_lengths (length out.old)).bytes out.old }
+    ensures value { result ≡ (packet_written image.now text.now exact_lengths (length out.old)).writing.answer }
+    ensures count_after { count.new ≡ (packet_written image.now text.now exact_lengths (length out.old)).writing.count }
+    ensures out_after { out.new ≡ onto (packet_written image.now text.now exact_lengths (length out.old)).bytes out.old }
 {
     let whole = packet::write::write_to_bytes(image, text, exact_lengths, out);
     *count = whole.count;
@@ -204,8 +181,7 @@ pub extern "C" fn riddoskam_packet_write_to_bytes(
 }
 
 // Entry `number` of a packet, as eight numbers: kind, flag, place and length of the first text, of the second and of the value. Zeros where it is refused.
-#[unsafe(no_mangle)]
-pub extern "C" fn riddoskam_packet_nth(packet: &[u8], number: usize, entry: &mut [usize; 8]) -> u8
+pub fn riddoskam_packet_nth(packet: &[u8], number: usize, entry: &mut [usize; 8]) -> u8
     ensures value { result ≡ found_answer (found_in (cut_of packet.now) number) }
     ensures after { entry.new ≡ found_numbers (found_in (cut_of packet.now) number) }
 {
@@ -231,8 +207,7 @@ pub extern "C" fn riddoskam_packet_nth(packet: &[u8], number: usize, entry: &mut
 }
 
 // All entries of a packet, as a row of eight numbers each, as `riddoskam_packet_nth` has them; zeros behind them, and zeros alone where it is refused.
-#[unsafe(no_mangle)]
-pub extern "C" fn riddoskam_packet_cut(
+pub fn riddoskam_packet_cut(
     packet: &[u8],
     numbers: &mut [usize],
     used: &mut usize,
@@ -250,8 +225,7 @@ pub extern "C" fn riddoskam_packet_cut(
 }
 
 // Reads the value of entry `number`.
-#[unsafe(no_mangle)]
-pub extern "C" fn riddoskam_packet_parse_entry(
+pub fn riddoskam_packet_parse_entry(
     packet: &[u8],
     number: usize,
     image: &mut [u8],
@@ -270,8 +244,7 @@ pub extern "C" fn riddoskam_packet_parse_entry(
 }
 
 // Reads the value in a part of a packet, as the value of an entry whose place and length are known.
-#[unsafe(no_mangle)]
-pub extern "C" fn riddoskam_packet_parse_span(
+pub fn riddoskam_packet_parse_span(
     packet: &[u8],
     place: usize,
     size: usize,
@@ -294,13 +267,7 @@ pub extern "C" fn riddoskam_packet_parse_span(
 
 // The record at a place of an image, as five numbers: its kind and its fields, in the order in which they lie; a field that it has not is 0. `next` is the
 // place behind it. Zeros where no whole and right record stands there.
-#[unsafe(no_mangle)]
-pub extern "C" fn riddoskam_record_at(
-    image: &[u8],
-    at: usize,
-    fields: &mut [u64; 5],
-    next: &mut usize,
-) -> u8
+pub fn riddoskam_record_at(image: &[u8], at: usize, fields: &mut [u64; 5], next: &mut usize) -> u8
     ensures value { result ≡ taken_answer (record_at image.now at) }
     ensures fields_after { fields.new ≡ taken_numbers (record_at image.now at) }
     ensures next_after { next.new ≡ taken_next (record_at image.now at) }
@@ -321,8 +288,7 @@ pub extern "C" fn riddoskam_record_at(
 }
 
 // Lays the record that five numbers tell, as `riddoskam_record_at` has them, behind the `made` bytes of an image. Where it is refused, neither is changed.
-#[unsafe(no_mangle)]
-pub extern "C" fn riddoskam_put(image: &mut [u8], made: &mut usize, fields: &[u64; 5]) -> u8
+pub fn riddoskam_put(image: &mut [u8], made: &mut usize, fields: &[u64; 5]) -> u8
     ensures value { result ≡ (put_of fields.now made.old image.old).laying.answer }
     ensures made_after { made.new ≡ (put_of fields.now made.old image.old).laying.made }
     ensures image_after { image.new ≡ (put_of fields.now made.old image.old).image }
@@ -335,13 +301,7 @@ pub extern "C" fn riddoskam_put(image: &mut [u8], made: &mut usize, fields: &[u6
 // ---- indexes
 
 // Makes the index of an image, a mark for each of its `count` keys.
-#[unsafe(no_mangle)]
-pub extern "C" fn riddoskam_index(
-    image: &[u8],
-    text: &[u8],
-    index: &mut [u8],
-    count: &mut usize,
-) -> u8
+pub fn riddoskam_index(image: &[u8], text: &[u8], index: &mut [u8], count: &mut usize) -> u8
     ensures value { result ≡ (index_of image.now text.now (length index.old)).answer }
     ensures count_after { count.new ≡ length (index_of image.now text.now (length index.old)).keys }
     ensures holds { Holds image.now text.now (index_of image.now text.now (length index.old)).keys index.new }
@@ -369,8 +329,7 @@ fn told(way: Way, place: &mut usize) -> bool
 }
 
 // The place of the value to which a path leads from the first record. The path is its keys in a row, each as a short text.
-#[unsafe(no_mangle)]
-pub extern "C" fn riddoskam_find(
+pub fn riddoskam_find(
     image: &[u8],
     text: &[u8],
     index: &[u8],
@@ -384,8 +343,7 @@ pub extern "C" fn riddoskam_find(
 }
 
 // The place of the value of the last pair of a key in the container whose record stands at a place.
-#[unsafe(no_mangle)]
-pub extern "C" fn riddoskam_step(
+pub fn riddoskam_step(
     image: &[u8],
     text: &[u8],
     index: &[u8],

@@ -1,0 +1,296 @@
+// The calls of riddoskam, as they go out to programs in other languages: each is the call of its name, and promises what that promises. A slice is a pointer
+// and a length, a reference is a pointer; include/riddoskam.h declares what stands here.
+#![tactic(auto)]
+
+ghost use Rattle.std.specs.Prelude.{◌≡◌, ◌/◌, length, take, drop};
+ghost use Rattle.wire.specs.Choice.{pick};
+ghost use Rattle.wire.specs.Text.{inside_of, part_of, place_of};
+ghost use Rattle.image.specs.Whole.{padded};
+ghost use Rattle.image.specs.Out.{onto};
+ghost use Rattle.image.specs.Taking.{record_at};
+ghost use Rattle.image.specs.Building.{put_of};
+ghost use Rattle.amf0.specs.Reading.{read_of};
+ghost use Rattle.amf0.specs.Writing.{write_of as value_written};
+ghost use Rattle.lso.specs.Reading.{whole_of as whole_file, incomplete_of as incomplete_file};
+ghost use Rattle.lso.specs.Writing.{write_of as file_written};
+ghost use Rattle.packet.specs.Reading.{whole_of as whole_packet, incomplete_of as incomplete_packet};
+ghost use Rattle.packet.specs.Writing.{write_of as packet_written};
+ghost use Rattle.packet.specs.Entry.{cut_of, list_of, read_span, read_entry, found_in};
+ghost use Rattle.packet.specs.Row.{row_of};
+ghost use Rattle.index.specs.Mark.{rows};
+ghost use Rattle.index.specs.Index.{index_of, Holds};
+ghost use Rattle.index.specs.Find.{step_of, find_of};
+ghost use Rattle.riddoskam.specs.Numbers.{found_answer, found_numbers, taken_answer, taken_numbers, taken_next, way_found, way_place};
+
+// ---- texts
+
+#[unsafe(no_mangle)]
+pub extern "C" fn riddoskam_inside(input: &[u8], place: usize, length: usize) -> bool
+    ensures { result ≡ inside_of input.now place length }
+{
+    riddoskam::riddoskam_inside(input, place, length)
+}
+
+#[unsafe(no_mangle)]
+pub extern "C" fn riddoskam_part(
+    input: &[u8],
+    place: usize,
+    length: usize,
+    from: &mut usize,
+) -> usize
+    ensures value { result ≡ pick (inside_of input.now place length) length 0 }
+    ensures from_after { from.new ≡ place_of input.now place length }
+    ensures input_after { take result (drop from.new input.now) ≡ part_of input.now place length }
+{
+    riddoskam::riddoskam_part(input, place, length, from)
+}
+
+// ---- values
+
+#[unsafe(no_mangle)]
+pub extern "C" fn riddoskam_parse_single_element(
+    input: &[u8],
+    image: &mut [u8],
+    used: &mut usize,
+    made: &mut usize,
+) -> u8
+    ensures value { result ≡ (read_of input.now (length image.old)).reading.answer }
+    ensures used_after { used.new ≡ (read_of input.now (length image.old)).reading.used }
+    ensures made_after { made.new ≡ (read_of input.now (length image.old)).reading.made }
+    ensures image_after { image.new ≡ padded (read_of input.now (length image.old)).bytes (length image.old) }
+{
+    riddoskam::riddoskam_parse_single_element(input, image, used, made)
+}
+
+#[unsafe(no_mangle)]
+pub extern "C" fn riddoskam_write_value(
+    image: &[u8],
+    text: &[u8],
+    out: &mut [u8],
+    count: &mut usize,
+) -> u8
+    ensures value { result ≡ (value_written image.now text.now (length out.old)).writing.answer }
+    ensures count_after { count.new ≡ (value_written image.now text.now (length out.old)).writing.count }
+    ensures out_after { out.new ≡ onto (value_written image.now text.now (length out.old)).bytes out.old }
+{
+    riddoskam::riddoskam_write_value(image, text, out, count)
+}
+
+// ---- files
+
+#[unsafe(no_mangle)]
+pub extern "C" fn riddoskam_lso_parse(
+    input: &[u8],
+    image: &mut [u8],
+    used: &mut usize,
+    made: &mut usize,
+) -> u8
+    ensures value { result ≡ (whole_file input.now (length image.old)).reading.answer }
+    ensures used_after { used.new ≡ (whole_file input.now (length image.old)).reading.used }
+    ensures made_after { made.new ≡ (whole_file input.now (length image.old)).reading.made }
+    ensures image_after { image.new ≡ padded (whole_file input.now (length image.old)).bytes (length image.old) }
+{
+    riddoskam::riddoskam_lso_parse(input, image, used, made)
+}
+
+#[unsafe(no_mangle)]
+pub extern "C" fn riddoskam_lso_parse_incomplete(
+    input: &[u8],
+    image: &mut [u8],
+    used: &mut usize,
+    made: &mut usize,
+) -> u8
+    ensures value { result ≡ (incomplete_file input.now (length image.old)).reading.answer }
+    ensures used_after { used.new ≡ (incomplete_file input.now (length image.old)).reading.used }
+    ensures made_after { made.new ≡ (incomplete_file input.now (length image.old)).reading.made }
+    ensures image_after { image.new ≡ padded (incomplete_file input.now (length image.old)).bytes (length image.old) }
+{
+    riddoskam::riddoskam_lso_parse_incomplete(input, image, used, made)
+}
+
+#[unsafe(no_mangle)]
+pub extern "C" fn riddoskam_lso_write_to_bytes(
+    image: &[u8],
+    text: &[u8],
+    out: &mut [u8],
+    count: &mut usize,
+) -> u8
+    ensures value { result ≡ (file_written image.now text.now (length out.old)).writing.answer }
+    ensures count_after { count.new ≡ (file_written image.now text.now (length out.old)).writing.count }
+    ensures out_after { out.new ≡ onto (file_written image.now text.now (length out.old)).bytes out.old }
+{
+    riddoskam::riddoskam_lso_write_to_bytes(image, text, out, count)
+}
+
+// ---- packets
+
+#[unsafe(no_mangle)]
+pub extern "C" fn riddoskam_packet_parse(
+    input: &[u8],
+    image: &mut [u8],
+    used: &mut usize,
+    made: &mut usize,
+) -> u8
+    ensures value { result ≡ (whole_packet input.now (length image.old)).reading.answer }
+    ensures used_after { used.new ≡ (whole_packet input.now (length image.old)).reading.used }
+    ensures made_after { made.new ≡ (whole_packet input.now (length image.old)).reading.made }
+    ensures image_after { image.new ≡ padded (whole_packet input.now (length image.old)).bytes (length image.old) }
+{
+    riddoskam::riddoskam_packet_parse(input, image, used, made)
+}
+
+#[unsafe(no_mangle)]
+pub extern "C" fn riddoskam_packet_parse_incomplete(
+    input: &[u8],
+    image: &mut [u8],
+    used: &mut usize,
+    made: &mut usize,
+) -> u8
+    ensures value { result ≡ (incomplete_packet input.now (length image.old)).reading.answer }
+    ensures used_after { used.new ≡ (incomplete_packet input.now (length image.old)).reading.used }
+    ensures made_after { made.new ≡ (incomplete_packet input.now (length image.old)).reading.made }
+    ensures image_after { image.new ≡ padded (incomplete_packet input.now (length image.old)).bytes (length image.old) }
+{
+    riddoskam::riddoskam_packet_parse_incomplete(input, image, used, made)
+}
+
+#[unsafe(no_mangle)]
+pub extern "C" fn riddoskam_packet_write_to_bytes(
+    image: &[u8],
+    text: &[u8],
+    exact_lengths: bool,
+    out: &mut [u8],
+    count: &mut usize,
+) -> u8
+    ensures value { result ≡ (packet_written image.now text.now exact_lengths (length out.old)).writing.answer }
+    ensures count_after { count.new ≡ (packet_written image.now text.now exact_lengths (length out.old)).writing.count }
+    ensures out_after { out.new ≡ onto (packet_written image.now text.now exact_lengths (length out.old)).bytes out.old }
+{
+    riddoskam::riddoskam_packet_write_to_bytes(image, text, exact_lengths, out, count)
+}
+
+#[unsafe(no_mangle)]
+pub extern "C" fn riddoskam_packet_nth(packet: &[u8], number: usize, entry: &mut [usize; 8]) -> u8
+    ensures value { result ≡ found_answer (found_in (cut_of packet.now) number) }
+    ensures after { entry.new ≡ found_numbers (found_in (cut_of packet.now) number) }
+{
+    riddoskam::riddoskam_packet_nth(packet, number, entry)
+}
+
+#[unsafe(no_mangle)]
+pub extern "C" fn riddoskam_packet_cut(
+    packet: &[u8],
+    numbers: &mut [usize],
+    used: &mut usize,
+    count: &mut usize,
+) -> u8
+    ensures value { result ≡ (list_of packet.now (length numbers.old / 8)).cutting.answer }
+    ensures used_after { used.new ≡ (list_of packet.now (length numbers.old / 8)).cutting.used }
+    ensures count_after { count.new ≡ (list_of packet.now (length numbers.old / 8)).cutting.count }
+    ensures numbers_after { numbers.new ≡ row_of (list_of packet.now (length numbers.old / 8)).entries (length numbers.old) }
+{
+    riddoskam::riddoskam_packet_cut(packet, numbers, used, count)
+}
+
+#[unsafe(no_mangle)]
+pub extern "C" fn riddoskam_packet_parse_entry(
+    packet: &[u8],
+    number: usize,
+    image: &mut [u8],
+    used: &mut usize,
+    made: &mut usize,
+) -> u8
+    ensures value { result ≡ (read_entry packet.now number (length image.old)).reading.answer }
+    ensures used_after { used.new ≡ (read_entry packet.now number (length image.old)).reading.used }
+    ensures made_after { made.new ≡ (read_entry packet.now number (length image.old)).reading.made }
+    ensures image_after { image.new ≡ padded (read_entry packet.now number (length image.old)).bytes (length image.old) }
+{
+    riddoskam::riddoskam_packet_parse_entry(packet, number, image, used, made)
+}
+
+#[unsafe(no_mangle)]
+pub extern "C" fn riddoskam_packet_parse_span(
+    packet: &[u8],
+    place: usize,
+    size: usize,
+    image: &mut [u8],
+    used: &mut usize,
+    made: &mut usize,
+) -> u8
+    ensures value { result ≡ (read_span packet.now place size (length image.old)).reading.answer }
+    ensures used_after { used.new ≡ (read_span packet.now place size (length image.old)).reading.used }
+    ensures made_after { made.new ≡ (read_span packet.now place size (length image.old)).reading.made }
+    ensures image_after { image.new ≡ padded (read_span packet.now place size (length image.old)).bytes (length image.old) }
+{
+    riddoskam::riddoskam_packet_parse_span(packet, place, size, image, used, made)
+}
+
+// ---- images
+
+#[unsafe(no_mangle)]
+pub extern "C" fn riddoskam_record_at(
+    image: &[u8],
+    at: usize,
+    fields: &mut [u64; 5],
+    next: &mut usize,
+) -> u8
+    ensures value { result ≡ taken_answer (record_at image.now at) }
+    ensures fields_after { fields.new ≡ taken_numbers (record_at image.now at) }
+    ensures next_after { next.new ≡ taken_next (record_at image.now at) }
+{
+    riddoskam::riddoskam_record_at(image, at, fields, next)
+}
+
+#[unsafe(no_mangle)]
+pub extern "C" fn riddoskam_put(image: &mut [u8], made: &mut usize, fields: &[u64; 5]) -> u8
+    ensures value { result ≡ (put_of fields.now made.old image.old).laying.answer }
+    ensures made_after { made.new ≡ (put_of fields.now made.old image.old).laying.made }
+    ensures image_after { image.new ≡ (put_of fields.now made.old image.old).image }
+{
+    riddoskam::riddoskam_put(image, made, fields)
+}
+
+// ---- indexes
+
+#[unsafe(no_mangle)]
+pub extern "C" fn riddoskam_index(
+    image: &[u8],
+    text: &[u8],
+    index: &mut [u8],
+    count: &mut usize,
+) -> u8
+    ensures value { result ≡ (index_of image.now text.now (length index.old)).answer }
+    ensures count_after { count.new ≡ length (index_of image.now text.now (length index.old)).keys }
+    ensures holds { Holds image.now text.now (index_of image.now text.now (length index.old)).keys index.new }
+{
+    riddoskam::riddoskam_index(image, text, index, count)
+}
+
+#[unsafe(no_mangle)]
+pub extern "C" fn riddoskam_find(
+    image: &[u8],
+    text: &[u8],
+    index: &[u8],
+    path: &[u8],
+    place: &mut usize,
+) -> bool
+    ensures value { result ≡ way_found (find_of image.now text.now (rows (length index.now / 13) index.now) path.now) }
+    ensures place_after { place.new ≡ way_place (find_of image.now text.now (rows (length index.now / 13) index.now) path.now) }
+{
+    riddoskam::riddoskam_find(image, text, index, path, place)
+}
+
+#[unsafe(no_mangle)]
+pub extern "C" fn riddoskam_step(
+    image: &[u8],
+    text: &[u8],
+    index: &[u8],
+    container: usize,
+    key: &[u8],
+    place: &mut usize,
+) -> bool
+    ensures value { result ≡ way_found (step_of image.now text.now (rows (length index.now / 13) index.now) container key.now) }
+    ensures place_after { place.new ≡ way_place (step_of image.now text.now (rows (length index.now / 13) index.now) container key.now) }
+{
+    riddoskam::riddoskam_step(image, text, index, container, key, place)
+}
