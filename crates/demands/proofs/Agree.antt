@@ -1,5 +1,6 @@
 -- What demand 3 says of calls of two kinds: an entry beside the value reader, and the entries beside the whole packet.
-use Rattle.wire.proofs.Kit.{ℕ, suc, ◌<◌, ◌≡◌, ◌≢◌, List, [], ◌∷◌, ◌++◌, length, get_or, take}
+use Rattle.std.specs.Prelude.{◌<◌, ◌≡◌, ◌≢◌, ◌∷◌, ◌++◌}
+use Rattle.wire.proofs.Kit.{ℕ, suc, List, [], length, get_or, take}
 use Rattle.wire.specs.Number.{Bytes}
 use Rattle.image.specs.declared.reading.Reading.{Reading}
 use Rattle.image.specs.declared.record.Record.TheVariants as R

@@ -1,6 +1,7 @@
 -- Nothing but places has moved: without its place, a reading and a cut come to what they came to before a refusal had one.
-use Rattle.wire.proofs.Kit.{ℕ, ◌≤◌, ◌≡◌, refl, sym, ap, ◌∙◌, ◌≢◌, List, Bool, true, false, arith, length, get_or, leb, ltb, eqb}
-use Rattle.wire.proofs.Kit.{eq-eqb, ne_eqb, inl, inr, ⊎_elim, ◌+◌, ◌++◌}
+use Rattle.std.specs.Prelude.{◌≤◌, ◌≡◌, ◌≢◌, ◌+◌, ◌++◌}
+use Rattle.wire.proofs.Kit.{ℕ, refl, sym, ap, ◌∙◌, List, Bool, true, false, arith, length, get_or, leb, ltb, eqb}
+use Rattle.wire.proofs.Kit.{eq-eqb, ne_eqb, inl, inr, ⊎_elim}
 use Rattle.wire.specs.Choice.{pick}
 use Rattle.wire.specs.Limit as limit
 use Rattle.wire.specs.Text.{inside_of}

@@ -1,5 +1,6 @@
 -- Demand 1 of the functions that go out to C: each comes to what its call does, and so answers, leaves and changes what that does.
-use Rattle.wire.proofs.Kit.{ℕ, ◌/◌, ◌≤◌, ◌≡◌, refl, ◌∙◌, ◌≢◌, inl, inr, List, [], ◌∷◌, Bool, now, length, replicate, sym, ap}
+use Rattle.std.specs.Prelude.{◌/◌, ◌≤◌, ◌≡◌, ◌≢◌, ◌∷◌}
+use Rattle.wire.proofs.Kit.{ℕ, refl, ◌∙◌, inl, inr, List, [], Bool, length, replicate, sym, ap}
 use Rattle.image.specs.declared.building.Laying.{Laying}
 use Rattle.image.specs.declared.reading.Reading.{Reading}
 use Rattle.image.specs.declared.writing.Writing.{Writing}
@@ -8,30 +9,29 @@ use Rattle.image.specs.Building.{Put, putting, put_of}
 use Rattle.image.proofs.Told.{put_cases, put_six, put_four, put_refused, put_before, put_behind, put_length}
 use Rattle.amf0.specs.Reading.{read_of}
 use Rattle.amf0.specs.Writing as amf0
-use Rattle.amf0_theorems.specs.Refusal as value-why
-use Rattle.amf0_theorems.specs.Unwritten as value-unwritten
-use Rattle.amf0_theorems.proofs.Refusals as values-why
+use Rattle.amf0_theorems.specs.Refusal as value_why
+use Rattle.amf0_theorems.specs.Unwritten as value_unwritten
+use Rattle.amf0_theorems.proofs.Refusals as values_why
 use Rattle.amf0_theorems.proofs.Theorems as values
-use Rattle.amf0_theorems.proofs.WriteTheorems as values-write
+use Rattle.amf0_theorems.proofs.WriteTheorems as values_write
 use Rattle.lso.specs.Reading as lso
-use Rattle.lso.specs.Writing as lso-write
-use Rattle.lso_theorems.specs.Refusal as file-why
-use Rattle.lso_theorems.specs.Unwritten as file-unwritten
-use Rattle.lso_theorems.proofs.Reasons as files-why
+use Rattle.lso.specs.Writing as lso_write
+use Rattle.lso_theorems.specs.Refusal as file_why
+use Rattle.lso_theorems.specs.Unwritten as file_unwritten
+use Rattle.lso_theorems.proofs.Reasons as files_why
 use Rattle.lso_theorems.proofs.Theorems as files
-use Rattle.lso_theorems.proofs.WriteTheorems as files-write
+use Rattle.lso_theorems.proofs.WriteTheorems as files_write
 use Rattle.packet.specs.declared.entry.Cutting.{Cutting}
 use Rattle.packet.specs.declared.entry.Found.{Found}
-use Rattle.packet.specs.declared.entry.Found.TheVariants as Found
 use Rattle.packet.specs.Reading as packet
-use Rattle.packet.specs.Writing as packet-write
+use Rattle.packet.specs.Writing as packet_write
 use Rattle.packet.specs.Entry.{cut_of, list_of, found_in, read_span, read_entry}
-use Rattle.packet_theorems.specs.Why as packet-why
-use Rattle.packet_theorems.specs.Unwritten as packet-unwritten
-use Rattle.packet_theorems.proofs.Reasons as packets-why
+use Rattle.packet_theorems.specs.Why as packet_why
+use Rattle.packet_theorems.specs.Unwritten as packet_unwritten
+use Rattle.packet_theorems.proofs.Reasons as packets_why
 use Rattle.packet_theorems.proofs.Theorems as calls
 use Rattle.packet_theorems.proofs.SpanTheorems as spans
-use Rattle.packet_theorems.proofs.WriteTheorems as packets-write
+use Rattle.packet_theorems.proofs.WriteTheorems as packets_write
 use Rattle.index.specs.declared.make.Indexing.{Indexing}
 use Rattle.riddoskam.specs.Numbers.{found_answer, found_numbers}
 use Rattle.riddoskam.proofs.Puts.{Leaves, put_record, record_put}
@@ -45,11 +45,11 @@ use Rattle.demands.proofs.Demand1.{Cuts-by, row_uncut, index_nothing}
 -- ---- the readers
 
 -- `riddoskam_parse_single_element`
-pub value_rules : ReaderRules (λ a. a ≤ 5) value-why.Comes CParseSingleElement
+pub value_rules : ReaderRules (λ a. a ≤ 5) value_why.Comes CParseSingleElement
 value_rules =
     record {
       answers = law.answers reads (λ a. a ≤ 5) values.answers;
-      reasons = law.reasons reads value-why.Comes values-why.reasons;
+      reasons = law.reasons reads value_why.Comes values_why.reasons;
       inside = law.inside reads λ s room bs. values.place_inside s room;
       zeros = law.zeros reads values.refused_empty;
       past = law.past reads;
@@ -63,11 +63,11 @@ value_rules =
     reads = record { told = told; counts = value_counts }
 
 -- `riddoskam_lso_parse`
-pub file_rules : ReaderRules (λ a. a ≤ 5) file-why.ComesWhole CLsoParse
+pub file_rules : ReaderRules (λ a. a ≤ 5) file_why.ComesWhole CLsoParse
 file_rules =
     record {
       answers = law.answers reads (λ a. a ≤ 5) files.answers_whole;
-      reasons = law.reasons reads file-why.ComesWhole files-why.reasons_whole;
+      reasons = law.reasons reads file_why.ComesWhole files_why.reasons_whole;
       inside = law.inside reads files.place_inside_whole;
       zeros = law.zeros reads files.refused_empty_whole;
       past = law.past reads;
@@ -81,11 +81,11 @@ file_rules =
     reads = record { told = told; counts = file_counts }
 
 -- `riddoskam_lso_parse_incomplete`
-pub file_incomplete_rules : ReaderRules (λ a. a ≤ 5) file-why.Comes CLsoParseIncomplete
+pub file_incomplete_rules : ReaderRules (λ a. a ≤ 5) file_why.Comes CLsoParseIncomplete
 file_incomplete_rules =
     record {
       answers = law.answers reads (λ a. a ≤ 5) files.answers_incomplete;
-      reasons = law.reasons reads file-why.Comes files-why.reasons_incomplete;
+      reasons = law.reasons reads file_why.Comes files_why.reasons_incomplete;
       inside = law.inside reads files.place_inside_incomplete;
       zeros = law.zeros reads files.refused_empty_incomplete;
       past = law.past reads;
@@ -99,11 +99,11 @@ file_incomplete_rules =
     reads = record { told = told; counts = file_incomplete_counts }
 
 -- `riddoskam_packet_parse`
-pub packet_rules : ReaderRules calls.Answer packet-why.ComesWhole CPacketParse
+pub packet_rules : ReaderRules calls.Answer packet_why.ComesWhole CPacketParse
 packet_rules =
     record {
       answers = law.answers reads calls.Answer calls.parse_answers;
-      reasons = law.reasons reads packet-why.ComesWhole packets-why.parse_reasons;
+      reasons = law.reasons reads packet_why.ComesWhole packets_why.parse_reasons;
       inside = law.inside reads λ s room bs. calls.parse_inside s room;
       zeros = law.zeros reads calls.parse_refused;
       past = law.past reads;
@@ -117,11 +117,11 @@ packet_rules =
     reads = record { told = told; counts = packet_counts }
 
 -- `riddoskam_packet_parse_incomplete`
-pub packet_incomplete_rules : ReaderRules calls.Answer packet-why.Comes CPacketParseIncomplete
+pub packet_incomplete_rules : ReaderRules calls.Answer packet_why.Comes CPacketParseIncomplete
 packet_incomplete_rules =
     record {
       answers = law.answers reads calls.Answer calls.incomplete_answers;
-      reasons = law.reasons reads packet-why.Comes packets-why.reasons;
+      reasons = law.reasons reads packet_why.Comes packets_why.reasons;
       inside = law.inside reads λ s room bs. calls.incomplete_inside s room;
       zeros = law.zeros reads calls.incomplete_refused;
       past = law.past reads;
@@ -135,12 +135,12 @@ packet_incomplete_rules =
     reads = record { told = told; counts = packet_incomplete_counts }
 
 -- `riddoskam_packet_parse_entry`
-pub entry_rules : (k : ℕ) → ReaderRules calls.EntryAnswer (λ s. packet-why.ComesEntry s k) λ s. CParseEntry s k
+pub entry_rules : (k : ℕ) → ReaderRules calls.EntryAnswer (λ s. packet_why.ComesEntry s k) λ s. CParseEntry s k
 entry_rules k =
     record {
       answers = law.answers (reads k) calls.EntryAnswer λ s. calls.entry_answers s k;
-      reasons = law.reasons (reads k) (λ s. packet-why.ComesEntry s k) λ s. packets-why.entry_reasons s k;
-      inside = law.inside (reads k) λ s. packets-why.entry_inside s k;
+      reasons = law.reasons (reads k) (λ s. packet_why.ComesEntry s k) λ s. packets_why.entry_reasons s k;
+      inside = law.inside (reads k) λ s. packets_why.entry_inside s k;
       zeros = law.zeros (reads k) λ s. calls.entry_refused s k;
       past = law.past (reads k);
     }
@@ -153,11 +153,11 @@ entry_rules k =
     reads k = record { told = told k; counts = λ s. entry_counts s k }
 
 -- `riddoskam_packet_parse_span`
-pub span_rules : (p n : ℕ) → ReaderRules (OneOf 0 (1 ∷ 4 ∷ 5 ∷ 8 ∷ 9 ∷ [])) (λ s. packet-why.ComesSpan s p n) λ s. CParseSpan s p n
+pub span_rules : (p n : ℕ) → ReaderRules (OneOf 0 (1 ∷ 4 ∷ 5 ∷ 8 ∷ 9 ∷ [])) (λ s. packet_why.ComesSpan s p n) λ s. CParseSpan s p n
 span_rules p n =
     record {
       answers = law.answers (reads p n) (OneOf 0 (1 ∷ 4 ∷ 5 ∷ 8 ∷ 9 ∷ [])) λ s. spans.span_answers s p n;
-      reasons = law.reasons (reads p n) (λ s. packet-why.ComesSpan s p n) λ s. packets-why.span_reasons s p n;
+      reasons = law.reasons (reads p n) (λ s. packet_why.ComesSpan s p n) λ s. packets_why.span_reasons s p n;
       inside = law.inside (reads p n) λ s room bs. spans.span_inside s p n room;
       zeros = law.zeros (reads p n) λ s. spans.span_refused s p n;
       past = law.past (reads p n);
@@ -173,11 +173,11 @@ span_rules p n =
 -- ---- the writers
 
 -- `riddoskam_write_value`
-pub value_write_rules : WriterRules (OneOf 0 (1 ∷ 4 ∷ 5 ∷ 6 ∷ [])) value-unwritten.Outcome CWriteValue
+pub value_write_rules : WriterRules (OneOf 0 (1 ∷ 4 ∷ 5 ∷ 6 ∷ [])) value_unwritten.Outcome CWriteValue
 value_write_rules =
     record {
-      answers = law.write_answers puts (OneOf 0 (1 ∷ 4 ∷ 5 ∷ 6 ∷ [])) values-write.write_answers;
-      reasons = law.write_reasons puts value-unwritten.Outcome values-write.write_reasons;
+      answers = law.write_answers puts (OneOf 0 (1 ∷ 4 ∷ 5 ∷ 6 ∷ [])) values_write.write_answers;
+      reasons = law.write_reasons puts value_unwritten.Outcome values_write.write_reasons;
       untouched = law.untouching puts;
       kept = law.keeping puts;
     }
@@ -187,41 +187,41 @@ value_write_rules =
         record { returns = λ j. record { answer = o.ensures.0 j; count = o.ensures.1.0 j }; leaves = o.ensures.1.1 }
 
     puts : Putting CWriteValue amf0.write_of
-    puts = record { told = told; settles = values-write.write_settled }
+    puts = record { told = told; settles = values_write.write_settled }
 
 -- `riddoskam_lso_write_to_bytes`
-pub file_write_rules : WriterRules (OneOf 0 (1 ∷ 4 ∷ 5 ∷ 6 ∷ [])) file-unwritten.Outcome CLsoWrite
+pub file_write_rules : WriterRules (OneOf 0 (1 ∷ 4 ∷ 5 ∷ 6 ∷ [])) file_unwritten.Outcome CLsoWrite
 file_write_rules =
     record {
-      answers = law.write_answers puts (OneOf 0 (1 ∷ 4 ∷ 5 ∷ 6 ∷ [])) files-write.write_answers;
-      reasons = law.write_reasons puts file-unwritten.Outcome files-write.write_reasons;
+      answers = law.write_answers puts (OneOf 0 (1 ∷ 4 ∷ 5 ∷ 6 ∷ [])) files_write.write_answers;
+      reasons = law.write_reasons puts file_unwritten.Outcome files_write.write_reasons;
       untouched = law.untouching puts;
       kept = law.keeping puts;
     }
   where
-    told : (i t o : List ℕ) (r : Writing) (y : List ℕ) → CLsoWrite i t o r y → Wrote (lso-write.write_of i t) o r y
+    told : (i t o : List ℕ) (r : Writing) (y : List ℕ) → CLsoWrite i t o r y → Wrote (lso_write.write_of i t) o r y
     told _ _ _ _ _ (CLsoWrite.call κs a o) =
         record { returns = λ j. record { answer = o.ensures.0 j; count = o.ensures.1.0 j }; leaves = o.ensures.1.1 }
 
-    puts : Putting CLsoWrite lso-write.write_of
-    puts = record { told = told; settles = files-write.write_settled }
+    puts : Putting CLsoWrite lso_write.write_of
+    puts = record { told = told; settles = files_write.write_settled }
 
 -- `riddoskam_packet_write_to_bytes`
-pub packet_write_rules : (exact : Bool) → WriterRules (OneOf 0 (1 ∷ 4 ∷ 5 ∷ 6 ∷ [])) (λ i t. packet-unwritten.Outcome i t exact) λ i t. CPacketWrite i t exact
+pub packet_write_rules : (exact : Bool) → WriterRules (OneOf 0 (1 ∷ 4 ∷ 5 ∷ 6 ∷ [])) (λ i t. packet_unwritten.Outcome i t exact) λ i t. CPacketWrite i t exact
 packet_write_rules exact =
     record {
-      answers = law.write_answers (puts exact) (OneOf 0 (1 ∷ 4 ∷ 5 ∷ 6 ∷ [])) λ i t. packets-write.write_answers i t exact;
-      reasons = law.write_reasons (puts exact) (λ i t. packet-unwritten.Outcome i t exact) λ i t. packets-write.write_reasons i t exact;
+      answers = law.write_answers (puts exact) (OneOf 0 (1 ∷ 4 ∷ 5 ∷ 6 ∷ [])) λ i t. packets_write.write_answers i t exact;
+      reasons = law.write_reasons (puts exact) (λ i t. packet_unwritten.Outcome i t exact) λ i t. packets_write.write_reasons i t exact;
       untouched = law.untouching (puts exact);
       kept = law.keeping (puts exact);
     }
   where
-    told : (exact : Bool) (i t o : List ℕ) (r : Writing) (y : List ℕ) → CPacketWrite i t exact o r y → Wrote (packet-write.write_of i t exact) o r y
+    told : (exact : Bool) (i t o : List ℕ) (r : Writing) (y : List ℕ) → CPacketWrite i t exact o r y → Wrote (packet_write.write_of i t exact) o r y
     told _ _ _ _ _ _ (CPacketWrite.call κs a o) =
         record { returns = λ j. record { answer = o.ensures.0 j; count = o.ensures.1.0 j }; leaves = o.ensures.1.1 }
 
-    puts : (exact : Bool) → Putting (λ i t. CPacketWrite i t exact) λ i t. packet-write.write_of i t exact
-    puts exact = record { told = told exact; settles = λ i t. packets-write.write_settled i t exact }
+    puts : (exact : Bool) → Putting (λ i t. CPacketWrite i t exact) λ i t. packet_write.write_of i t exact
+    puts exact = record { told = told exact; settles = λ i t. packets_write.write_settled i t exact }
 
 -- ---- the cut, the lookup by number, and the index
 
@@ -231,17 +231,17 @@ cuts_row = record { told = told }
   where
     told : (s row : List ℕ) (c : Cutting) (left : List ℕ) → CPacketCut s row c left → (room : ℕ) × (c ≡ (list_of s room).cutting)
     told _ _ _ _ (CPacketCut.call κs a o) =
-        (length (now a.1.0) / 8, λ j. record { answer = o.ensures.0 j; used = o.ensures.1.0 j; count = o.ensures.1.1.0 j })
+        (length a.1.0.now / 8, λ j. record { answer = o.ensures.0 j; used = o.ensures.1.0 j; count = o.ensures.1.1.0 j })
 
 -- A refused `riddoskam_packet_cut` counts 0, and leaves a row of zeros.
 pub cut_zeros : CutZeros 0 CPacketCut
 cut_zeros _ _ _ _ (CPacketCut.call κs a o) =
-    row_uncut (now a.0) (now a.1.0) _ o.last.1.0
+    row_uncut a.0.now a.1.0.now _ o.last.1.0
     (λ j. record { answer = o.ensures.0 j; used = o.ensures.1.0 j; count = o.ensures.1.1.0 j }) o.ensures.1.1.1
 
 -- A refused `riddoskam_packet_nth` leaves eight zeros.
 pub nth_zeros : (s : List ℕ) (k answer : ℕ) (numbers : List ℕ) → CPacketNth s k answer numbers → answer ≢ 0 → numbers ≡ replicate 8 0
-nth_zeros _ _ _ _ (CPacketNth.call κs a o) ne = o.ensures.1 ∙ go (found_in (cut_of (now a.0)) a.1.0) (λ z. ne (o.ensures.0 ∙ z))
+nth_zeros _ _ _ _ (CPacketNth.call κs a o) ne = o.ensures.1 ∙ go (found_in (cut_of a.0.now) a.1.0) (λ z. ne (o.ensures.0 ∙ z))
   where
     go : (f : Found) → found_answer f ≢ 0 → found_numbers f ≡ replicate 8 0
     go (Found.Is e) n = absurd (n refl)
@@ -251,7 +251,7 @@ nth_zeros _ _ _ _ (CPacketNth.call κs a o) ne = o.ensures.1 ∙ go (found_in (c
 pub index_zeros : (i t index : List ℕ) (r : Indexing) (left : List ℕ) → CIndex i t index r left → r.answer ≢ 0
     → (r.count ≡ 0) × (left ≡ replicate (length index) 0)
 index_zeros _ _ _ _ _ (CIndex.call κs a o) =
-    index_nothing (now a.0) (now a.1.0) (now a.1.1.0) _ o.last.1.1.0
+    index_nothing a.0.now a.1.0.now a.1.1.0.now _ o.last.1.1.0
     (λ j. record { answer = o.ensures.0 j; count = o.ensures.1.0 j }) (o.ensures.1.1, o.kept.1.1.0)
 
 -- ---- a record by its numbers

@@ -1,5 +1,6 @@
 -- A call of a function that has returned, as the kit has it, and what makes a contract firm.
-use Rattle.wire.proofs.Kit.{ℕ, ◌≡◌, List, Dens, In}
+use Rattle.std.specs.Prelude.{◌≡◌}
+use Rattle.wire.proofs.Kit.{ℕ, List, Dens, In}
 use contract.Lifetimes.{Lfts}
 use borrow.Fn.Kinds.{ParamKind, ResultKind, res_t, ended_of, stays, Out}
 use denote.Triple.Clauses.{Lasts, at_exit}

@@ -1,5 +1,6 @@
 -- What a reading says that it made is as many bytes as its records have.
-use Rattle.wire.proofs.Kit.{ℕ, ◌+◌, ◌≡◌, refl, Bool, List, [], ◌++◌, length, leb, ltb, eqb}
+use Rattle.std.specs.Prelude.{◌+◌, ◌≡◌, ◌++◌}
+use Rattle.wire.proofs.Kit.{ℕ, refl, Bool, List, [], length, leb, ltb, eqb}
 use Rattle.wire.specs.Choice.{pick}
 use Rattle.wire.specs.Limit as limit
 use Rattle.wire.specs.Text.{inside_of}

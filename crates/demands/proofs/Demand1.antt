@@ -1,12 +1,12 @@
 -- Demand 1 of the calls that make no tree: the cut into a list or a row, the lookup by number, and the index.
-use Rattle.wire.proofs.Kit.{ℕ, ◌/◌, ◌≤◌, ◌≡◌, refl, sym, ap, ◌∙◌, ◌≢◌, ◌↔◌, List, [], ◌∷◌, ◌++◌, sub-zero, arith, length, replicate, take-append_seam, ltb}
+use Rattle.std.specs.Prelude.{◌/◌, ◌≤◌, ◌≡◌, ◌≢◌, ◌↔◌, ◌∷◌, ◌++◌}
+use Rattle.wire.proofs.Kit.{ℕ, refl, sym, ap, ◌∙◌, List, [], sub-zero, arith, length, replicate, take-append_seam, ltb}
 use Rattle.wire.specs.Number.{Bytes}
 use Rattle.wire.specs.Limit as limit
 use Rattle.wire.proofs.Laws.{picked}
 use Rattle.packet.specs.declared.head.Entry.{Entry}
 use Rattle.packet.specs.declared.entry.Cutting.{Cutting}
 use Rattle.packet.specs.declared.entry.Found.{Found}
-use Rattle.packet.specs.declared.entry.Found.TheVariants as Found
 use Rattle.packet.specs.Entry.{Cut as PacketCut, found, stops, cut_of, found_in, no_entry, uncut, Listed, list_of, filled}
 use Rattle.packet.specs.Row.{numbers_of, row_of}
 use Rattle.packet_theorems.proofs.Theorems as packets
@@ -19,9 +19,9 @@ use Rattle.packet_theorems.proofs.Reasons as why
 use Rattle.packet_theorems.proofs.Beginnings as beginnings
 use Rattle.packet_theorems.proofs.Refusals.{cut_refused_exactly}
 use Rattle.packet_theorems.proofs.CutExactly.{cut_complete, cut_sound}
-use Rattle.packet_theorems.specs.Refusal.{cut, Seven, RefusedCut}
+use Rattle.packet_theorems.specs.Refusal.{Seven, RefusedCut}
 use Rattle.packet_theorems.specs.Why.{ComesList, ComesNth}
-use Rattle.packet.proofs.Laws.{Splits, cut_told as cut-splits}
+use Rattle.packet.proofs.Laws.{Splits, cut_told as cut_splits}
 use Rattle.index.specs.declared.make.Indexing.{Indexing}
 use Rattle.index.specs.Index.{index_of, indexing}
 use Rattle.index_theorems.proofs.Answers as indexes
@@ -63,7 +63,7 @@ accepted_just s room bs = go (list_of s room) (comes_list s room)
   where
     go : (w : Listed) → Outcome.ComesList s room w → w.cutting.answer ≢ 4 → w.cutting.answer ≡ 0 ↔ IsCut s
     go w (Outcome.ComesList.not_cut {a} {p} e) ne = (
-      λ z. let h : Splits s (stops a p) = rw e at (cut-splits s) in absurd (omega (arith, h.cuts.low)),
+      λ z. let h : Splits s (stops a p) = rw e at (cut_splits s) in absurd (omega (arith, h.cuts.low)),
       λ t. let f = (cut_complete t.0 t.1 s t.3 t.2).cut in let z : ◌≡◌ {A = ℕ} 0 1 = cc in absurd (omega arith),
     )
     go w (Outcome.ComesList.too_short e h) ne = absurd (ne refl)

@@ -1,5 +1,6 @@
 -- Demand 2 of the calls, what each format says in its own way: what is accepted, and what is put out.
-use Rattle.wire.proofs.Kit.{ℕ, ◌*◌, ◌≤◌, ◌≡◌, refl, sym, ap, ◌∙◌, List, ◌++◌, arith, Bool, length}
+use Rattle.std.specs.Prelude.{◌*◌, ◌≤◌, ◌≡◌, ◌++◌}
+use Rattle.wire.proofs.Kit.{ℕ, refl, sym, ap, ◌∙◌, List, arith, Bool, length}
 use Rattle.wire.specs.Number.{Bytes}
 use Rattle.wire.specs.Limit as limit
 use Rattle.image.specs.declared.reading.Reading.{Reading}
@@ -9,32 +10,32 @@ use Rattle.image.specs.Out.{Written}
 use Rattle.amf0.specs.Standard.{Sort, Tree, depth, Encodes}
 use Rattle.amf0.specs.Reading.{read_of}
 use Rattle.amf0.specs.Writing as amf0
-use Rattle.amf0.specs.Written as tree-writing
+use Rattle.amf0.specs.Written as tree_writing
 use Rattle.amf0_theorems.proofs.Theorems as values
 use Rattle.amf0_theorems.proofs.WriteOutcome.{written_sized}
-use Rattle.amf0_theorems.proofs.WriteTheorems as values-write
+use Rattle.amf0_theorems.proofs.WriteTheorems as values_write
 use Rattle.lso.specs.File.{Lso, File, deepest}
 use Rattle.lso.specs.Reading as lso
-use Rattle.lso.specs.Writing as lso-write
-use Rattle.lso.specs.Written as file-writing
+use Rattle.lso.specs.Writing as lso_write
+use Rattle.lso.specs.Written as file_writing
 use Rattle.lso_theorems.specs.Refusal.{Halts}
 use Rattle.lso_theorems.proofs.Stopping.{Accepts}
 use Rattle.lso_theorems.proofs.Theorems as files
-use Rattle.lso_theorems.proofs.WriteTheorems as files-write
+use Rattle.lso_theorems.proofs.WriteTheorems as files_write
 use Rattle.packet.specs.declared.head.Entry.{Entry}
 use Rattle.packet.specs.declared.entry.Found.TheVariants as Found
 use Rattle.packet.specs.Packet.{Packet, Encoded}
 use Rattle.packet.specs.Shown.{Within}
 use Rattle.packet.specs.Reading as packet
 use Rattle.packet.specs.Entry.{span_of, read_span, read_entry}
-use Rattle.packet.specs.Writing as packet-write
-use Rattle.packet.specs.Written as packet-writing
+use Rattle.packet.specs.Writing as packet_write
+use Rattle.packet.specs.Written as packet_writing
 use Rattle.packet_theorems.proofs.Theorems.{entry_takes, span_takes}
 use Rattle.amf0_theorems.proofs.Spans.{TakesSpan}
 use Rattle.amf0_theorems.proofs.SpanTrip.{span_write}
 use Rattle.packet_theorems.proofs.WriteOutcome.{read_whole, read_incomplete}
 use Rattle.packet_theorems.proofs.PacketTheorems as packets
-use Rattle.packet_theorems.proofs.WriteTheorems as packets-write
+use Rattle.packet_theorems.proofs.WriteTheorems as packets_write
 use Rattle.demands.specs.Forms.{made, sent}
 use Rattle.demands.proofs.Calls.{ParseSingleElement, LsoParse, LsoParseIncomplete, PacketParse, PacketParseIncomplete, ParseEntry, WriteValue, LsoWrite, PacketWrite, Nth}
 use Rattle.demands.proofs.Told.{value_reads, file_reads, file_incomplete_reads, packet_reads, packet_incomplete_reads, entry_reads, value_puts, file_puts, packet_puts}
@@ -106,34 +107,34 @@ entry_complete s k e t i r left bs f x d l a =
 -- ---- what is put out
 
 -- What is put out of the image of a tree is its shortest encoding.
-pub value_shortest : (t : Tree Sort.value) (i text o : List ℕ) (w : Writing) (y : List ℕ) → tree-writing.Writable i text t → WriteValue i text o w y
-    → w.answer ≡ 0 → tree-writing.Shortest t (sent w y)
+pub value_shortest : (t : Tree Sort.value) (i text o : List ℕ) (w : Writing) (y : List ℕ) → tree_writing.Writable i text t → WriteValue i text o w y
+    → w.answer ≡ 0 → tree_writing.Shortest t (sent w y)
 value_shortest t i text o w y h b z =
-    let g = values-write.written_tree i text t (length o) h in
-    rw (written_sized (tree-writing.write t) (length o) (sent w y) (sym g.0 ∙ sent_is value_puts i text o w y b z)).same g.1
+    let g = values_write.written_tree i text t (length o) h in
+    rw (written_sized (tree_writing.write t) (length o) (sent w y) (sym g.0 ∙ sent_is value_puts i text o w y b z)).same g.1
 
 -- What is put out of the image of a file is that file, but for the length that it says.
-pub file_written : (f : Lso) (i text o : List ℕ) (w : Writing) (y : List ℕ) → file-writing.Writable i text f → LsoWrite i text o w y → w.answer ≡ 0
-    → files-write.WrittenAs f (sent w y)
-file_written f i text o w y h b z = files-write.written_is i text (sent w y) f (length o) h (sent_is file_puts i text o w y b z)
+pub file_written : (f : Lso) (i text o : List ℕ) (w : Writing) (y : List ℕ) → file_writing.Writable i text f → LsoWrite i text o w y → w.answer ≡ 0
+    → files_write.WrittenAs f (sent w y)
+file_written f i text o w y h b z = files_write.written_is i text (sent w y) f (length o) h (sent_is file_puts i text o w y b z)
 
 -- That length is 16 plus the name's length plus the body's.
-pub file_length : (i text o : List ℕ) (w : Writing) (y : List ℕ) → Bytes i → LsoWrite i text o w y → w.answer ≡ 0 → file-writing.SaysLength (sent w y)
+pub file_length : (i text o : List ℕ) (w : Writing) (y : List ℕ) → Bytes i → LsoWrite i text o w y → w.answer ≡ 0 → file_writing.SaysLength (sent w y)
 file_length i text o w y bs b z =
     let e = sent_is file_puts i text o w y b z in
-    rw (ap (λ (v : Written). v.bytes) e) at (files-write.written_length i text (length o) bs (ap (λ (v : Written). v.writing.answer) e))
+    rw (ap (λ (v : Written). v.bytes) e) at (files_write.written_length i text (length o) bs (ap (λ (v : Written). v.writing.answer) e))
 
 -- What is put out of the image of a packet is that packet, but for the lengths that its entries declare: those are as asked for.
-pub packet_written : (p : Packet) (exact : Bool) (i text o : List ℕ) (w : Writing) (y : List ℕ) → packet-writing.Writable i text p
-    → PacketWrite i text exact o w y → w.answer ≡ 0 → packets-write.WrittenAs exact p (sent w y)
+pub packet_written : (p : Packet) (exact : Bool) (i text o : List ℕ) (w : Writing) (y : List ℕ) → packet_writing.Writable i text p
+    → PacketWrite i text exact o w y → w.answer ≡ 0 → packets_write.WrittenAs exact p (sent w y)
 packet_written p exact i text o w y h b z =
-    packets-write.written_is i text (sent w y) exact p (length o) h (sent_is (packet_puts exact) i text o w y b z)
+    packets_write.written_is i text (sent w y) exact p (length o) h (sent_is (packet_puts exact) i text o w y b z)
 
 -- It is cut into that packet's entries.
-pub packet_cuts : (p : Packet) (exact : Bool) (i text o : List ℕ) (w : Writing) (y : List ℕ) → packet-writing.Writable i text p
-    → PacketWrite i text exact o w y → w.answer ≡ 0 → packets-write.CutsExactly (sent w y) p
+pub packet_cuts : (p : Packet) (exact : Bool) (i text o : List ℕ) (w : Writing) (y : List ℕ) → packet_writing.Writable i text p
+    → PacketWrite i text exact o w y → w.answer ≡ 0 → packets_write.CutsExactly (sent w y) p
 packet_cuts p exact i text o w y h b z =
-    packets-write.cuts_exactly i text (sent w y) exact p (length o) h (sent_is (packet_puts exact) i text o w y b z)
+    packets_write.cuts_exactly i text (sent w y) exact p (length o) h (sent_is (packet_puts exact) i text o w y b z)
 
 -- ---- what was read, written: that it is, in no more bytes
 
@@ -145,28 +146,28 @@ Fewer v w = (w.writing.answer ≡ 0) × (w.writing.count ≤ v.reading.used)
 pub value_fewer : (s : List ℕ) (room out : ℕ) → Bytes s → (read_of s room).reading.answer ≡ 0 → (read_of s room).reading.used ≤ out
     → Fewer (read_of s room) (amf0.write_of (read_of s room).bytes s out)
 value_fewer s room out bs z l =
-    let g = values-write.accepted_write s room out z l (values.sound s room bs z) in
+    let g = values_write.accepted_write s room out z l (values.sound s room bs z) in
     rw g.0 (refl, g.1)
 
 -- a file that was read whole,
 pub file_fewer : (s : List ℕ) (room out : ℕ) → Bytes s → (lso.whole_of s room).reading.answer ≡ 0 → (lso.whole_of s room).reading.used ≤ out
-    → Fewer (lso.whole_of s room) (lso-write.write_of (lso.whole_of s room).bytes s out)
-file_fewer s room out bs z l = let g = files-write.accepted_write s room out bs z l in (g.answer, g.fewer)
+    → Fewer (lso.whole_of s room) (lso_write.write_of (lso.whole_of s room).bytes s out)
+file_fewer s room out bs z l = let g = files_write.accepted_write s room out bs z l in (g.answer, g.fewer)
 
 -- a file as far as it was used,
 pub file_incomplete_fewer : (s : List ℕ) (room out : ℕ) → Bytes s → (lso.incomplete_of s room).reading.answer ≡ 0 → (lso.incomplete_of s room).reading.used ≤ out
-    → Fewer (lso.incomplete_of s room) (lso-write.write_of (lso.incomplete_of s room).bytes s out)
-file_incomplete_fewer s room out bs z l = let g = files-write.accepted_write_incomplete s room out bs z l in (g.answer, g.fewer)
+    → Fewer (lso.incomplete_of s room) (lso_write.write_of (lso.incomplete_of s room).bytes s out)
+file_incomplete_fewer s room out bs z l = let g = files_write.accepted_write_incomplete s room out bs z l in (g.answer, g.fewer)
 
 -- a packet that was read whole,
 pub packet_fewer : (exact : Bool) (s : List ℕ) (room out : ℕ) → Bytes s → (packet.whole_of s room).reading.answer ≡ 0 → (packet.whole_of s room).reading.used ≤ out
-    → Fewer (packet.whole_of s room) (packet-write.write_of (packet.whole_of s room).bytes s exact out)
-packet_fewer exact s room out bs z l = let g = packets-write.accepted_write (read_whole s room bs z) exact out l in (g.answer, g.fewer)
+    → Fewer (packet.whole_of s room) (packet_write.write_of (packet.whole_of s room).bytes s exact out)
+packet_fewer exact s room out bs z l = let g = packets_write.accepted_write (read_whole s room bs z) exact out l in (g.answer, g.fewer)
 
 -- and one as far as it was used
 pub packet_incomplete_fewer : (exact : Bool) (s : List ℕ) (room out : ℕ) → Bytes s → (packet.incomplete_of s room).reading.answer ≡ 0
-    → (packet.incomplete_of s room).reading.used ≤ out → Fewer (packet.incomplete_of s room) (packet-write.write_of (packet.incomplete_of s room).bytes s exact out)
-packet_incomplete_fewer exact s room out bs z l = let g = packets-write.accepted_write (read_incomplete s room bs z) exact out l in (g.answer, g.fewer)
+    → (packet.incomplete_of s room).reading.used ≤ out → Fewer (packet.incomplete_of s room) (packet_write.write_of (packet.incomplete_of s room).bytes s exact out)
+packet_incomplete_fewer exact s room out bs z l = let g = packets_write.accepted_write (read_incomplete s room bs z) exact out l in (g.answer, g.fewer)
 
 -- What was accepted in a span is written, in no more bytes.
 fewer : {s : List ℕ} {place n room : ℕ} {w : Whole} (out : ℕ) → TakesSpan s place n room w → Bytes s → w.reading.used ≤ out → Fewer w (amf0.write_of w.bytes s out)

@@ -1,5 +1,6 @@
 -- Demand 3 of the calls: two packets, and what the calls give for the one and for the other.
-use Rattle.wire.proofs.Kit.{ℕ, suc, ◌+◌, ◌/◌, ◌≤◌, ◌<◌, ◌≡◌, refl, sym, ap, ◌∙◌, ◌≢◌, ◌⊎◌, inl, inr, ⊎_elim, List, [], ◌∷◌, ◌++◌, true, false, sub-zero, arith, length, get_or, take, replicate}
+use Rattle.std.specs.Prelude.{◌+◌, ◌/◌, ◌≤◌, ◌<◌, ◌≡◌, ◌≢◌, ◌⊎◌, ◌∷◌, ◌++◌}
+use Rattle.wire.proofs.Kit.{ℕ, suc, refl, sym, ap, ◌∙◌, inl, inr, ⊎_elim, List, [], true, false, sub-zero, arith, length, get_or, take, replicate}
 use Rattle.wire.proofs.Kit.{length-take, ltb, le-ltb, ltb-true}
 use Rattle.wire.proofs.Laws.{picked}
 use Rattle.wire.specs.Number.{Bytes}
@@ -13,12 +14,11 @@ use Rattle.amf0.specs.Span.{Changed}
 use Rattle.packet.specs.declared.head.Entry.{Entry}
 use Rattle.packet.specs.declared.entry.Cutting.{Cutting}
 use Rattle.packet.specs.declared.entry.Found.{Found}
-use Rattle.packet.specs.declared.entry.Found.TheVariants as Found
 use Rattle.packet.specs.Reading.{whole_of}
 use Rattle.packet.specs.Entry.{Cut as PacketCut, found, stops, cut_of, no_entry, Listed, list_of, found_in, span, span_of, read_span, read_entry}
 use Rattle.packet.specs.Change as change
 use Rattle.packet.specs.Change.{known, known_spans, images_from}
-use Rattle.packet.proofs.Laws.{Splits, cut_told as cut-splits, entry_chosen}
+use Rattle.packet.proofs.Laws.{Splits, cut_told as cut_splits, entry_chosen}
 use Rattle.packet_theorems.specs.Cuts.{CutInto, Exact}
 use Rattle.packet_theorems.proofs.Demand3 as packets
 use Rattle.packet_theorems.proofs.Theorems as calls
@@ -50,7 +50,7 @@ cut_entries s list c left a z = go (list_of s (length list)) (comes_list s (leng
   where
     go : (w : Listed) → ComesList s (length list) w → listed c left ≡ w → cut_of s ≡ found (take c.count left) c.used
     go w (ComesList.not_cut {a = b} {p} e) f =
-        let h : Splits s (stops b p) = rw e at (cut-splits s) in
+        let h : Splits s (stops b p) = rw e at (cut_splits s) in
         absurd (omega (arith, h.cuts.low, ap (λ (x : Listed). x.cutting.answer) f))
     go w (ComesList.too_short e h) f = absurd (omega (arith, ap (λ (x : Listed). x.cutting.answer) f))
     go w (ComesList.cut {es} e h) f = e ∙ ap (λ (x : Listed). found x.entries x.cutting.used) (sym f)
@@ -160,7 +160,7 @@ module _ (s t : List ℕ) (list left : List Entry) (c : Cutting) (bs : Bytes s) 
   -- By its place and length.
   pub changed_span : (k : ℕ) (e : Entry) → Nth s k (Found.Is e) → Alone e.place (span_of t e) (ParseSpan t e.place e.length)
   changed_span k e f i j x y r q a b l =
-      let h = entry_chosen s k 0 (cut_of s) {e = e} (cut-splits s) (nth_told f) in
+      let h = entry_chosen s k 0 (cut_of s) {e = e} (cut_splits s) (nth_told f) in
       rw (made_is value_reads (span_of t e) i r x a, made_is (span_reads e.place e.length) t j q y b, l)
       (span_judged t e.place e.length (length i) (omega (arith, h.short, change.long)) (omega (arith, h.inside, change.long)))
 

@@ -2,7 +2,8 @@
 -- its arguments, its result and what it left: `ParseSingleElement s i r x` is a call of `parse_single_element` on the input s and the image i, which returned r
 -- and left x in the image (`Calls.antt`). What is said of every reader, or of every writer, has a form with a name (`specs/Forms.antt`). `Bytes s`
 -- says that s is a row of bytes, as what stands in a slice of bytes is.
-use Rattle.wire.proofs.Kit.{ℕ, ◌*◌, ◌/◌, ◌≤◌, ◌<◌, ◌≡◌, ap, ◌∙◌, ◌≢◌, ◌↔◌, ◌⊎◌, inl, List, [], ◌∷◌, ◌++◌, Bool, true, false, arith, length, get_or, take, replicate}
+use Rattle.std.specs.Prelude.{◌*◌, ◌/◌, ◌≤◌, ◌<◌, ◌≡◌, ◌≢◌, ◌↔◌, ◌⊎◌, ◌∷◌, ◌++◌}
+use Rattle.wire.proofs.Kit.{ℕ, ap, ◌∙◌, inl, List, [], Bool, true, false, arith, length, get_or, take, replicate}
 use Rattle.wire.specs.Number.{Bytes}
 use Rattle.wire.specs.Field.{bytes_at}
 use Rattle.wire.specs.Limit as limit
@@ -13,27 +14,26 @@ use Rattle.image.specs.Due.{Lacks}
 use Rattle.image.specs.Whole.{Whole, bytes, refused}
 use Rattle.amf0.specs.Reading.{top_value}
 use Rattle.amf0.specs.Standard.{Sort, Tree, depth, Encodes}
-use Rattle.amf0_theorems.specs.Refusal as value-why
-use Rattle.amf0_theorems.specs.Unwritten as value-unwritten
-use Rattle.amf0_theorems.proofs.Refusals as values-why
-use Rattle.amf0.specs.Written as value-writing
+use Rattle.amf0_theorems.specs.Refusal as value_why
+use Rattle.amf0_theorems.specs.Unwritten as value_unwritten
+use Rattle.amf0_theorems.proofs.Refusals as values_why
+use Rattle.amf0.specs.Written as value_writing
 use Rattle.amf0_theorems.proofs.Theorems as values
-use Rattle.amf0_theorems.proofs.WriteTheorems as values-write
-use Rattle.amf0_theorems.proofs.Room as values-room
+use Rattle.amf0_theorems.proofs.WriteTheorems as values_write
+use Rattle.amf0_theorems.proofs.Room as values_room
 use Rattle.lso.specs.File.{Lso, File, deepest}
-use Rattle.lso.specs.Written as file-writing
-use Rattle.lso_theorems.specs.Refusal as file-why
-use Rattle.lso_theorems.specs.Unwritten as file-unwritten
+use Rattle.lso.specs.Written as file_writing
+use Rattle.lso_theorems.specs.Refusal as file_why
+use Rattle.lso_theorems.specs.Unwritten as file_unwritten
 use Rattle.lso_theorems.proofs.Stopping.{Accepts}
-use Rattle.lso_theorems.proofs.Reasons as files-why
+use Rattle.lso_theorems.proofs.Reasons as files_why
 use Rattle.lso_theorems.proofs.Theorems as files
-use Rattle.lso_theorems.proofs.WriteTheorems as files-write
-use Rattle.lso_theorems.proofs.Room as files-room
+use Rattle.lso_theorems.proofs.WriteTheorems as files_write
+use Rattle.lso_theorems.proofs.Room as files_room
 use Rattle.amf0.specs.Span.{Changed}
 use Rattle.packet.specs.declared.head.Entry.{Entry}
 use Rattle.packet.specs.declared.entry.Cutting.{Cutting}
 use Rattle.packet.specs.declared.entry.Found.{Found}
-use Rattle.packet.specs.declared.entry.Found.TheVariants as Found
 use Rattle.packet.specs.Packet.{Packet, Encoded}
 use Rattle.packet.specs.Shown.{Within}
 use Rattle.packet.specs.Reading.{packet_at}
@@ -41,16 +41,16 @@ use Rattle.packet.specs.Entry.{no_entry, span, span_of}
 use Rattle.packet.specs.Change.{known}
 use Rattle.packet_theorems.specs.Cuts.{CutInto, Exact}
 use Rattle.packet_theorems.specs.Refusal.{Seven, RefusedCut}
-use Rattle.packet_theorems.specs.Why as packet-why
-use Rattle.packet_theorems.specs.Unwritten as packet-unwritten
-use Rattle.packet_theorems.proofs.Reasons as packets-why
-use Rattle.packet.specs.Written as packet-writing
+use Rattle.packet_theorems.specs.Why as packet_why
+use Rattle.packet_theorems.specs.Unwritten as packet_unwritten
+use Rattle.packet_theorems.proofs.Reasons as packets_why
+use Rattle.packet.specs.Written as packet_writing
 use Rattle.packet_theorems.proofs.Theorems as calls
 use Rattle.packet_theorems.proofs.CutTheorems.{CutAnswer}
 use Rattle.packet_theorems.proofs.SpanTheorems as spans
 use Rattle.packet_theorems.proofs.PacketTheorems as packets
-use Rattle.packet_theorems.proofs.WriteTheorems as packets-write
-use Rattle.packet_theorems.proofs.Room as packets-room
+use Rattle.packet_theorems.proofs.WriteTheorems as packets_write
+use Rattle.packet_theorems.proofs.Room as packets_room
 use Rattle.packet_theorems.proofs.EntryTrip as trips
 use Rattle.packet_theorems.proofs.WriteOutcome.{read_whole, read_incomplete}
 use Rattle.index.specs.declared.make.Indexing.{Indexing}
@@ -65,12 +65,12 @@ use Rattle.demands.proofs.Agree.{Changes, Alone, Agrees}
 use Rattle.demands.proofs.CCalls.{CParseSingleElement, CLsoParse, CLsoParseIncomplete, CPacketParse, CPacketParseIncomplete, CParseEntry, CParseSpan, CWriteValue, CLsoWrite, CPacketWrite, CPacketCut, CPacketNth, CIndex, CRecordAt, CPut}
 use Rattle.demands.specs.Before as then
 use Rattle.demands.proofs.Before as before
-use Rattle.amf0_theorems.specs.Due as value-place
-use Rattle.lso_theorems.specs.Due as file-place
-use Rattle.packet_theorems.specs.Due as packet-place
-use Rattle.amf0_theorems.proofs.Dues as values-place
-use Rattle.lso_theorems.proofs.Dues as files-place
-use Rattle.packet_theorems.proofs.Dues as packets-place
+use Rattle.amf0_theorems.specs.Due as value_place
+use Rattle.lso_theorems.specs.Due as file_place
+use Rattle.packet_theorems.specs.Due as packet_place
+use Rattle.amf0_theorems.proofs.Dues as values_place
+use Rattle.lso_theorems.proofs.Dues as files_place
+use Rattle.packet_theorems.proofs.Dues as packets_place
 use Rattle.demands.proofs.Demand1 as one
 use Rattle.demands.proofs.Short as short
 use Rattle.demands.proofs.Tight as tight
@@ -80,7 +80,7 @@ use Rattle.demands.proofs.CDemand1 as c
 use Rattle.demands.proofs.Demand2 as two
 use Rattle.demands.proofs.Demand2.{Means}
 use Rattle.demands.proofs.Demand3 as three
-use Rattle.amf0_theorems.proofs.SpanTrip as span-trips
+use Rattle.amf0_theorems.proofs.SpanTrip as span_trips
 
 -- ---- 1. "Every public call ends on every input; readers and writers answer from [the table of answers]. None relies on a check made by the caller. A refused
 -- read leaves the tree buffer all zeros; a refused write leaves the output as it was found." The table is the rule "Answers" (docs/DEMANDS.md).
@@ -107,19 +107,19 @@ pub record Demand1 : Type 0 where
   pub packet_write_answers : (exact : Bool) → WriteAnswers (OneOf 0 (1 ∷ 4 ∷ 5 ∷ 6 ∷ [])) λ i t. PacketWrite i t exact
   pub index_answers : (i t index : List ℕ) (r : Indexing) (left : List ℕ) → MakeIndex i t index r left → OneOf 0 (1 ∷ 4 ∷ 5 ∷ 6 ∷ []) r.answer
   -- When each is given: what a call can come to, with what holds there. A refusal by a field says which fields stand before it, and what is wrong with that one.
-  pub value_reasons : Reasons value-why.Comes ParseSingleElement
-  pub file_reasons : Reasons file-why.ComesWhole LsoParse
-  pub file_incomplete_reasons : Reasons file-why.Comes LsoParseIncomplete
-  pub packet_reasons : Reasons packet-why.ComesWhole PacketParse
-  pub packet_incomplete_reasons : Reasons packet-why.Comes PacketParseIncomplete
-  pub entry_reasons : (k : ℕ) → Reasons (λ s. packet-why.ComesEntry s k) λ s. ParseEntry s k
-  pub span_reasons : (p n : ℕ) → Reasons (λ s. packet-why.ComesSpan s p n) λ s. ParseSpan s p n
+  pub value_reasons : Reasons value_why.Comes ParseSingleElement
+  pub file_reasons : Reasons file_why.ComesWhole LsoParse
+  pub file_incomplete_reasons : Reasons file_why.Comes LsoParseIncomplete
+  pub packet_reasons : Reasons packet_why.ComesWhole PacketParse
+  pub packet_incomplete_reasons : Reasons packet_why.Comes PacketParseIncomplete
+  pub entry_reasons : (k : ℕ) → Reasons (λ s. packet_why.ComesEntry s k) λ s. ParseEntry s k
+  pub span_reasons : (p n : ℕ) → Reasons (λ s. packet_why.ComesSpan s p n) λ s. ParseSpan s p n
   pub cut_reasons : (s : List ℕ) (list : List Entry) (c : Cutting) (left : List Entry) → Bytes s → Cut s list c left
-      → packet-why.ComesList s (length list) (listed c left)
-  pub nth_reasons : (s : List ℕ) (k : ℕ) (f : Found) → Bytes s → Nth s k f → packet-why.ComesNth s k f
-  pub value_write_reasons : WriteReasons value-unwritten.Outcome WriteValue
-  pub file_write_reasons : WriteReasons file-unwritten.Outcome LsoWrite
-  pub packet_write_reasons : (exact : Bool) → WriteReasons (λ i t. packet-unwritten.Outcome i t exact) λ i t. PacketWrite i t exact
+      → packet_why.ComesList s (length list) (listed c left)
+  pub nth_reasons : (s : List ℕ) (k : ℕ) (f : Found) → Bytes s → Nth s k f → packet_why.ComesNth s k f
+  pub value_write_reasons : WriteReasons value_unwritten.Outcome WriteValue
+  pub file_write_reasons : WriteReasons file_unwritten.Outcome LsoWrite
+  pub packet_write_reasons : (exact : Bool) → WriteReasons (λ i t. packet_unwritten.Outcome i t exact) λ i t. PacketWrite i t exact
   -- And these reasons are exact. 1 is given just where the input is over the limit.
   pub value_over : OverLimit ParseSingleElement
   pub file_over : OverLimit LsoParse
@@ -128,7 +128,7 @@ pub record Demand1 : Type 0 where
   pub packet_incomplete_over : OverLimit PacketParseIncomplete
   pub entry_over : (k : ℕ) → OverLimit λ s. ParseEntry s k
   -- 4 is given just where the room is too small for the records that fall due, or a list for the entries;
-  pub value_tight : Just 4 (λ s room. room < length (value-why.records s)) ParseSingleElement
+  pub value_tight : Just 4 (λ s room. room < length (value_why.records s)) ParseSingleElement
   pub file_tight : Just 4 TightFile LsoParse
   pub file_incomplete_tight : Just 4 TightFile LsoParseIncomplete
   pub packet_tight : Just 4 (λ s room. room < length (bytes (packet_at s))) PacketParse
@@ -142,9 +142,9 @@ pub record Demand1 : Type 0 where
   pub packet_full : JustAt 4 (λ s room. Lacks (packet_at s) 0 room) PacketParse
   pub packet_incomplete_full : JustAt 4 (λ s room. Lacks (packet_at s) 0 room) PacketParseIncomplete
   -- There stands what that record says: a value's marker, a key's length or an end marker, in a file also its front, in a packet its front or an entry's first text.
-  pub value_due : (s : List ℕ) (room p : ℕ) → Bytes s → Lacks (top_value s 0) 0 room p → (r : Record) × value-place.DueAt s r p
-  pub file_due : (s : List ℕ) (room p : ℕ) → Bytes s → FullFile s room p → (r : Record) × file-place.DueAt s r p
-  pub packet_due : (s : List ℕ) (room p : ℕ) → Bytes s → Lacks (packet_at s) 0 room p → (r : Record) × packet-place.DueAt s r p
+  pub value_due : (s : List ℕ) (room p : ℕ) → Bytes s → Lacks (top_value s 0) 0 room p → (r : Record) × value_place.DueAt s r p
+  pub file_due : (s : List ℕ) (room p : ℕ) → Bytes s → FullFile s room p → (r : Record) × file_place.DueAt s r p
+  pub packet_due : (s : List ℕ) (room p : ℕ) → Bytes s → Lacks (packet_at s) 0 room p → (r : Record) × packet_place.DueAt s r p
   -- A room of three times the input is never too small, nor is one of three times the part or the value that is read.
   pub value_roomy : Roomy ParseSingleElement
   pub file_roomy : Roomy LsoParse
@@ -156,25 +156,25 @@ pub record Demand1 : Type 0 where
       → r.answer ≢ 4
   -- A value that is not refused for room is refused with an answer at a place just where a field there refuses it so, and with 5 just where the marker of a value
   -- stands there and no level is left. A proper beginning of a value is 2, and a value deeper than the limit is 5.
-  pub value_refused : (a : ℕ) → a ≢ 0 → JustAtInRoom a (λ s. value-why.RefusedValue limit.levels s 0 a) ParseSingleElement
-  pub value_deep : JustAtInRoom 5 (values-why.Deep limit.levels) ParseSingleElement
+  pub value_refused : (a : ℕ) → a ≢ 0 → JustAtInRoom a (λ s. value_why.RefusedValue limit.levels s 0 a) ParseSingleElement
+  pub value_deep : JustAtInRoom 5 (values_why.Deep limit.levels) ParseSingleElement
   pub value_short : ShortInRoom IsValue ParseSingleElement
   pub value_too_deep : (t : Tree Sort.value) (x q i : List ℕ) (r : Reading) (left : List ℕ) → Encodes Sort.value t x → limit.levels < depth t
       → length (x ++ q) ≤ limit.bytes → ParseSingleElement (x ++ q) i r left → r.answer ≢ 4 → r.answer ≡ 5
   -- A file is 2 or 3 at a place just where a field of its header there is refused so, and, read whole, 3 also where no further element can be read from there on,
   -- before its end. It is 5 just where the element that stops the reading is too deep, at the marker. A proper beginning of a header is 2; one of a file, behind
   -- its header, is read as far as it is whole.
-  pub file_two : JustAt 2 (λ s room. file-why.RefusedHeader s 2) LsoParse
-  pub file_incomplete_two : JustAt 2 (λ s room. file-why.RefusedHeader s 2) LsoParseIncomplete
+  pub file_two : JustAt 2 (λ s room. file_why.RefusedHeader s 2) LsoParse
+  pub file_incomplete_two : JustAt 2 (λ s room. file_why.RefusedHeader s 2) LsoParseIncomplete
   pub file_three : JustAt 3 WrongFile LsoParse
-  pub file_incomplete_three : JustAt 3 (λ s room. file-why.RefusedHeader s 3) LsoParseIncomplete
-  pub file_five : JustAt 5 file-why.TooDeep LsoParse
-  pub file_incomplete_five : JustAt 5 file-why.TooDeep LsoParseIncomplete
+  pub file_incomplete_three : JustAt 3 (λ s room. file_why.RefusedHeader s 3) LsoParseIncomplete
+  pub file_five : JustAt 5 file_why.TooDeep LsoParse
+  pub file_incomplete_five : JustAt 5 file_why.TooDeep LsoParseIncomplete
   pub file_short : Short IsHeader LsoParse
   pub file_incomplete_short : Short IsHeader LsoParseIncomplete
   pub file_begun : (f : Lso) (s q i : List ℕ) (p : ℕ) (r : Reading) (x : List ℕ) → File f (s ++ q) → 1 ≤ length q → deepest f.body ≤ limit.levels
-      → file-why.Heads (s ++ q) p → p ≤ length s → length s ≤ limit.bytes → 3 * length s ≤ length i → LsoParseIncomplete s i r x
-      → (g : Lso) × (w : file-why.WholeIn f g s) × Accepts s g (length w.row) (made r x)
+      → file_why.Heads (s ++ q) p → p ≤ length s → length s ≤ limit.bytes → 3 * length s ≤ length i → LsoParseIncomplete s i r x
+      → (g : Lso) × (w : file_why.WholeIn f g s) × Accepts s g (length w.row) (made r x)
   -- A packet is 7 just where its version is 3, and a proper beginning of one is 2;
   pub packet_seven : Just 7 (λ s room. Seven s) PacketParse
   pub packet_incomplete_seven : Just 7 (λ s room. Seven s) PacketParseIncomplete
@@ -196,9 +196,9 @@ pub record Demand1 : Type 0 where
   pub row_short : CutShort Cuttable RowCut
   pub nth_short : (s q : List ℕ) (k : ℕ) (f : Found) → Cuttable (s ++ q) → 1 ≤ length q → length s ≤ limit.bytes → Nth s k f → (p : ℕ) × (f ≡ Found.Stop 2 p)
   -- A write within the limits is 5 or 6 just where a record of the image is refused so, which tells the two apart.
-  pub value_write_refused : WriteJust value-unwritten.Refused WriteValue
-  pub file_write_refused : WriteJust file-unwritten.Refused LsoWrite
-  pub packet_write_refused : (exact : Bool) → WriteJust packet-unwritten.Refused λ i t. PacketWrite i t exact
+  pub value_write_refused : WriteJust value_unwritten.Refused WriteValue
+  pub file_write_refused : WriteJust file_unwritten.Refused LsoWrite
+  pub packet_write_refused : (exact : Bool) → WriteJust packet_unwritten.Refused λ i t. PacketWrite i t exact
   -- The bytes used, or the place at which a reading or a cut is refused, are inside the input.
   pub value_inside : Inside ParseSingleElement
   pub file_inside : Inside LsoParse
@@ -239,17 +239,17 @@ pub record Demand1 : Type 0 where
   pub file_kept : Keeping LsoWrite
   pub packet_kept : (exact : Bool) → Keeping λ i t. PacketWrite i t exact
   -- The answers, their reasons, the zeros and the output of the functions that go out to C.
-  pub c_value : ReaderRules (λ a. a ≤ 5) value-why.Comes CParseSingleElement
-  pub c_file : ReaderRules (λ a. a ≤ 5) file-why.ComesWhole CLsoParse
-  pub c_file_incomplete : ReaderRules (λ a. a ≤ 5) file-why.Comes CLsoParseIncomplete
-  pub c_packet : ReaderRules calls.Answer packet-why.ComesWhole CPacketParse
-  pub c_packet_incomplete : ReaderRules calls.Answer packet-why.Comes CPacketParseIncomplete
-  pub c_entry : (k : ℕ) → ReaderRules calls.EntryAnswer (λ s. packet-why.ComesEntry s k) λ s. CParseEntry s k
-  pub c_span : (p n : ℕ) → ReaderRules (OneOf 0 (1 ∷ 4 ∷ 5 ∷ 8 ∷ 9 ∷ [])) (λ s. packet-why.ComesSpan s p n) λ s. CParseSpan s p n
-  pub c_value_write : WriterRules (OneOf 0 (1 ∷ 4 ∷ 5 ∷ 6 ∷ [])) value-unwritten.Outcome CWriteValue
-  pub c_file_write : WriterRules (OneOf 0 (1 ∷ 4 ∷ 5 ∷ 6 ∷ [])) file-unwritten.Outcome CLsoWrite
+  pub c_value : ReaderRules (λ a. a ≤ 5) value_why.Comes CParseSingleElement
+  pub c_file : ReaderRules (λ a. a ≤ 5) file_why.ComesWhole CLsoParse
+  pub c_file_incomplete : ReaderRules (λ a. a ≤ 5) file_why.Comes CLsoParseIncomplete
+  pub c_packet : ReaderRules calls.Answer packet_why.ComesWhole CPacketParse
+  pub c_packet_incomplete : ReaderRules calls.Answer packet_why.Comes CPacketParseIncomplete
+  pub c_entry : (k : ℕ) → ReaderRules calls.EntryAnswer (λ s. packet_why.ComesEntry s k) λ s. CParseEntry s k
+  pub c_span : (p n : ℕ) → ReaderRules (OneOf 0 (1 ∷ 4 ∷ 5 ∷ 8 ∷ 9 ∷ [])) (λ s. packet_why.ComesSpan s p n) λ s. CParseSpan s p n
+  pub c_value_write : WriterRules (OneOf 0 (1 ∷ 4 ∷ 5 ∷ 6 ∷ [])) value_unwritten.Outcome CWriteValue
+  pub c_file_write : WriterRules (OneOf 0 (1 ∷ 4 ∷ 5 ∷ 6 ∷ [])) file_unwritten.Outcome CLsoWrite
   pub c_packet_write : (exact : Bool)
-      → WriterRules (OneOf 0 (1 ∷ 4 ∷ 5 ∷ 6 ∷ [])) (λ i t. packet-unwritten.Outcome i t exact) λ i t. CPacketWrite i t exact
+      → WriterRules (OneOf 0 (1 ∷ 4 ∷ 5 ∷ 6 ∷ [])) (λ i t. packet_unwritten.Outcome i t exact) λ i t. CPacketWrite i t exact
   pub c_cut_answers : CutAnswers CutAnswer CPacketCut
   pub c_cut_refused : (a : ℕ) → a ≢ 0 → a ≢ 4 → CutJustAt a (λ s. RefusedCut s a) CPacketCut
   pub c_cut_inside : CutInside CPacketCut
@@ -274,34 +274,34 @@ demand1 =
       cut_answers = one.cutter_answers one.cuts_list;
       row_answers = one.cutter_answers one.cuts_row;
       nth_answers = one.nth_answers;
-      value_write_answers = law.write_answers value_puts (OneOf 0 (1 ∷ 4 ∷ 5 ∷ 6 ∷ [])) values-write.write_answers;
-      file_write_answers = law.write_answers file_puts (OneOf 0 (1 ∷ 4 ∷ 5 ∷ 6 ∷ [])) files-write.write_answers;
+      value_write_answers = law.write_answers value_puts (OneOf 0 (1 ∷ 4 ∷ 5 ∷ 6 ∷ [])) values_write.write_answers;
+      file_write_answers = law.write_answers file_puts (OneOf 0 (1 ∷ 4 ∷ 5 ∷ 6 ∷ [])) files_write.write_answers;
       packet_write_answers = λ exact.
-          law.write_answers (packet_puts exact) (OneOf 0 (1 ∷ 4 ∷ 5 ∷ 6 ∷ [])) λ i t. packets-write.write_answers i t exact;
+          law.write_answers (packet_puts exact) (OneOf 0 (1 ∷ 4 ∷ 5 ∷ 6 ∷ [])) λ i t. packets_write.write_answers i t exact;
       index_answers = one.index_answers;
-      value_reasons = law.reasons value_reads value-why.Comes values-why.reasons;
-      file_reasons = law.reasons file_reads file-why.ComesWhole files-why.reasons_whole;
-      file_incomplete_reasons = law.reasons file_incomplete_reads file-why.Comes files-why.reasons_incomplete;
-      packet_reasons = law.reasons packet_reads packet-why.ComesWhole packets-why.parse_reasons;
-      packet_incomplete_reasons = law.reasons packet_incomplete_reads packet-why.Comes packets-why.reasons;
-      entry_reasons = λ k. law.reasons (entry_reads k) (λ s. packet-why.ComesEntry s k) λ s. packets-why.entry_reasons s k;
-      span_reasons = λ p n. law.reasons (span_reads p n) (λ s. packet-why.ComesSpan s p n) λ s. packets-why.span_reasons s p n;
+      value_reasons = law.reasons value_reads value_why.Comes values_why.reasons;
+      file_reasons = law.reasons file_reads file_why.ComesWhole files_why.reasons_whole;
+      file_incomplete_reasons = law.reasons file_incomplete_reads file_why.Comes files_why.reasons_incomplete;
+      packet_reasons = law.reasons packet_reads packet_why.ComesWhole packets_why.parse_reasons;
+      packet_incomplete_reasons = law.reasons packet_incomplete_reads packet_why.Comes packets_why.reasons;
+      entry_reasons = λ k. law.reasons (entry_reads k) (λ s. packet_why.ComesEntry s k) λ s. packets_why.entry_reasons s k;
+      span_reasons = λ p n. law.reasons (span_reads p n) (λ s. packet_why.ComesSpan s p n) λ s. packets_why.span_reasons s p n;
       cut_reasons = one.cut_reasons;
       nth_reasons = one.nth_reasons;
-      value_write_reasons = law.write_reasons value_puts value-unwritten.Outcome values-write.write_reasons;
-      file_write_reasons = law.write_reasons file_puts file-unwritten.Outcome files-write.write_reasons;
+      value_write_reasons = law.write_reasons value_puts value_unwritten.Outcome values_write.write_reasons;
+      file_write_reasons = law.write_reasons file_puts file_unwritten.Outcome files_write.write_reasons;
       packet_write_reasons = λ exact.
-          law.write_reasons (packet_puts exact) (λ i t. packet-unwritten.Outcome i t exact) λ i t. packets-write.write_reasons i t exact;
+          law.write_reasons (packet_puts exact) (λ i t. packet_unwritten.Outcome i t exact) λ i t. packets_write.write_reasons i t exact;
       value_over = law.over_limit value_reads values.over_limit;
       file_over = law.over_limit file_reads files.over_limit_whole;
       file_incomplete_over = law.over_limit file_incomplete_reads files.over_limit_incomplete;
       packet_over = law.over_limit packet_reads calls.parse_over_limit;
       packet_incomplete_over = law.over_limit packet_incomplete_reads calls.incomplete_over_limit;
       entry_over = λ k. law.over_limit (entry_reads k) λ s. calls.entry_over_limit s k;
-      value_tight = law.just value_reads 4 (λ s room. room < length (value-why.records s)) λ s room bs. values.room_exact s room;
+      value_tight = law.just value_reads 4 (λ s room. room < length (value_why.records s)) λ s room bs. values.room_exact s room;
       file_tight = law.just file_reads 4 TightFile tight.file_tight;
       file_incomplete_tight = law.just file_incomplete_reads 4 TightFile tight.file_incomplete_tight;
-      packet_tight = law.just packet_reads 4 (λ s room. room < length (bytes (packet_at s))) λ s room bs. packets-room.parse_room_exact s room;
+      packet_tight = law.just packet_reads 4 (λ s room. room < length (bytes (packet_at s))) λ s room bs. packets_room.parse_room_exact s room;
       packet_incomplete_tight =
           law.just packet_incomplete_reads 4 (λ s room. room < length (bytes (packet_at s))) λ s room bs. calls.incomplete_room_exact s room;
       cut_tight = one.cut_tight;
@@ -309,12 +309,12 @@ demand1 =
       value_full = law.just_at value_reads 4 (λ z. omega arith) values.refused_empty _ λ s room p bs. values.room_place s room p;
       file_full = law.just_at file_reads 4 (λ z. omega arith) files.refused_empty_whole FullFile tight.file_full;
       file_incomplete_full = law.just_at file_incomplete_reads 4 (λ z. omega arith) files.refused_empty_incomplete FullFile tight.file_incomplete_full;
-      packet_full = law.just_at packet_reads 4 (λ z. omega arith) calls.parse_refused _ λ s room p bs. packets-room.parse_room_place s room p;
+      packet_full = law.just_at packet_reads 4 (λ z. omega arith) calls.parse_refused _ λ s room p bs. packets_room.parse_room_place s room p;
       packet_incomplete_full =
           law.just_at packet_incomplete_reads 4 (λ z. omega arith) calls.incomplete_refused _ λ s room p bs. calls.incomplete_room_place s room p;
-      value_due = values-place.room_due;
-      file_due = λ s room p bs f. files-place.room_due s room f.0 p bs f.1 f.2;
-      packet_due = packets-place.room_due;
+      value_due = values_place.room_due;
+      file_due = λ s room p bs f. files_place.room_due s room f.0 p bs f.1 f.2;
+      packet_due = packets_place.room_due;
       value_roomy = law.roomy value_reads values.room_enough;
       file_roomy = law.roomy file_reads files.room_enough_whole;
       file_incomplete_roomy = law.roomy file_incomplete_reads files.room_enough_incomplete;
@@ -323,25 +323,25 @@ demand1 =
       span_roomy = tight.span_roomy;
       entry_roomy = tight.entry_roomy;
       value_refused = λ a some.
-          law.just_at_in_room value_reads a some values.refused_empty (λ s. value-why.RefusedValue limit.levels s 0 a)
-          λ s room p bs l ne. values-why.refused_exactly s room a p bs l ne some;
-      value_deep = law.just_at_in_room value_reads 5 (λ z. omega arith) values.refused_empty (values-why.Deep limit.levels) values-why.deep_exactly;
+          law.just_at_in_room value_reads a some values.refused_empty (λ s. value_why.RefusedValue limit.levels s 0 a)
+          λ s room p bs l ne. values_why.refused_exactly s room a p bs l ne some;
+      value_deep = law.just_at_in_room value_reads 5 (λ z. omega arith) values.refused_empty (values_why.Deep limit.levels) values_why.deep_exactly;
       value_short = short.value_short;
       value_too_deep = short.value_deep;
-      file_two = law.just_at file_reads 2 (λ z. omega arith) files.refused_empty_whole (λ s room. file-why.RefusedHeader s 2) files.two_whole;
+      file_two = law.just_at file_reads 2 (λ z. omega arith) files.refused_empty_whole (λ s room. file_why.RefusedHeader s 2) files.two_whole;
       file_incomplete_two =
-          law.just_at file_incomplete_reads 2 (λ z. omega arith) files.refused_empty_incomplete (λ s room. file-why.RefusedHeader s 2) files.two_incomplete;
-      file_three = law.just_at file_reads 3 (λ z. omega arith) files.refused_empty_whole WrongFile files-why.three_whole;
+          law.just_at file_incomplete_reads 2 (λ z. omega arith) files.refused_empty_incomplete (λ s room. file_why.RefusedHeader s 2) files.two_incomplete;
+      file_three = law.just_at file_reads 3 (λ z. omega arith) files.refused_empty_whole WrongFile files_why.three_whole;
       file_incomplete_three =
-          law.just_at file_incomplete_reads 3 (λ z. omega arith) files.refused_empty_incomplete (λ s room. file-why.RefusedHeader s 3) files.three_incomplete;
-      file_five = law.just_at file_reads 5 (λ z. omega arith) files.refused_empty_whole file-why.TooDeep files-why.five_whole;
-      file_incomplete_five = law.just_at file_incomplete_reads 5 (λ z. omega arith) files.refused_empty_incomplete file-why.TooDeep files-why.five_incomplete;
+          law.just_at file_incomplete_reads 3 (λ z. omega arith) files.refused_empty_incomplete (λ s room. file_why.RefusedHeader s 3) files.three_incomplete;
+      file_five = law.just_at file_reads 5 (λ z. omega arith) files.refused_empty_whole file_why.TooDeep files_why.five_whole;
+      file_incomplete_five = law.just_at file_incomplete_reads 5 (λ z. omega arith) files.refused_empty_incomplete file_why.TooDeep files_why.five_incomplete;
       file_short = short.file_short;
       file_incomplete_short = short.file_incomplete_short;
       file_begun = short.file_begun;
-      packet_seven = law.just_within packet_reads 7 Seven packets-why.parse_seven;
-      packet_incomplete_seven = law.just_within packet_incomplete_reads 7 Seven packets-why.incomplete_seven;
-      entry_seven = λ k. law.just_within (entry_reads k) 7 Seven λ s. packets-why.entry_seven s k;
+      packet_seven = law.just_within packet_reads 7 Seven packets_why.parse_seven;
+      packet_incomplete_seven = law.just_within packet_incomplete_reads 7 Seven packets_why.incomplete_seven;
+      entry_seven = λ k. law.just_within (entry_reads k) 7 Seven λ s. packets_why.entry_seven s k;
       packet_short = short.packet_short;
       packet_incomplete_short = short.packet_incomplete_short;
       entry_short = short.entry_short;
@@ -360,15 +360,15 @@ demand1 =
       cut_short = one.cutter_short one.cuts_list;
       row_short = one.cutter_short one.cuts_row;
       nth_short = one.nth_short;
-      value_write_refused = law.write_just value_puts value-unwritten.Refused values-write.write_refusals;
-      file_write_refused = law.write_just file_puts file-unwritten.Refused files-write.write_refusals;
-      packet_write_refused = λ exact. law.write_just (packet_puts exact) packet-unwritten.Refused λ i t. packets-write.write_refusals i t exact;
+      value_write_refused = law.write_just value_puts value_unwritten.Refused values_write.write_refusals;
+      file_write_refused = law.write_just file_puts file_unwritten.Refused files_write.write_refusals;
+      packet_write_refused = λ exact. law.write_just (packet_puts exact) packet_unwritten.Refused λ i t. packets_write.write_refusals i t exact;
       value_inside = law.inside value_reads λ s room bs. values.place_inside s room;
       file_inside = law.inside file_reads files.place_inside_whole;
       file_incomplete_inside = law.inside file_incomplete_reads files.place_inside_incomplete;
       packet_inside = law.inside packet_reads λ s room bs. calls.parse_inside s room;
       packet_incomplete_inside = law.inside packet_incomplete_reads λ s room bs. calls.incomplete_inside s room;
-      entry_inside = λ k. law.inside (entry_reads k) λ s. packets-why.entry_inside s k;
+      entry_inside = λ k. law.inside (entry_reads k) λ s. packets_why.entry_inside s k;
       span_inside = λ p n. law.inside (span_reads p n) λ s room bs. spans.span_inside s p n room;
       cut_inside = one.cutter_inside one.cuts_list;
       row_inside = one.cutter_inside one.cuts_row;
@@ -421,7 +421,7 @@ demand1 =
 
 -- a round trip of the entry with a number
 abbrev pub EntryTrip : ℕ → List ℕ → List ℕ → Whole → Whole → Type 0
-EntryTrip k s b v w = calls.OfEntry s k λ e. span-trips.SpanTrip s e.place e.length b v w
+EntryTrip k s b v w = calls.OfEntry s k λ e. span_trips.SpanTrip s e.place e.length b v w
 
 pub record Demand2 : Type 0 where
   -- The readers and writers give what the Rust gives: the definitions under specs/ are the rules of docs/DEMANDS.md, the contracts are equations with them, and
@@ -441,10 +441,10 @@ pub record Demand2 : Type 0 where
   pub file_complete : (f : Lso) (s i : List ℕ) (r : Reading) (left : List ℕ) → File f s → deepest f.body ≤ limit.levels → length s ≤ limit.bytes
       → 3 * length s ≤ length i → LsoParse s i r left → Accepts s f (length s) (made r left)
   pub file_incomplete_complete : (f : Lso) (x rest i : List ℕ) (r : Reading) (left : List ℕ) → Bytes (x ++ rest) → File f x → deepest f.body ≤ limit.levels
-      → length (x ++ rest) ≤ limit.bytes → 3 * length (x ++ rest) ≤ length i → file-why.Halts (x ++ rest) (length x) → LsoParseIncomplete (x ++ rest) i r left
+      → length (x ++ rest) ≤ limit.bytes → 3 * length (x ++ rest) ≤ length i → file_why.Halts (x ++ rest) (length x) → LsoParseIncomplete (x ++ rest) i r left
       → Accepts (x ++ rest) f (length x) (made r left)
   pub file_exactly : Exactly IsFile LsoParse
-  pub file_incomplete_exactly : Just 0 (λ s room. (f : Lso) × (n : ℕ) × file-why.Reaches s room f n) LsoParseIncomplete
+  pub file_incomplete_exactly : Just 0 (λ s room. (f : Lso) × (n : ℕ) × file_why.Reaches s room f n) LsoParseIncomplete
   pub file_unique : (a b : Lso) (x : List ℕ) → File a x → File b x → a ≡ b
   -- with packets;
   pub packet_sound : Sound (λ s v. packets.Means s v × (v.reading.used ≡ length s)) PacketParse
@@ -465,29 +465,29 @@ pub record Demand2 : Type 0 where
   -- The writers put out just what an image holds: a tree in its shortest form, a file with its length, a packet with its lengths as asked for; and in either
   -- setting it is cut into its entries.
   pub value_writes : Writes HoldsValue WriteValue
-  pub value_shortest : (t : Tree Sort.value) (i text o : List ℕ) (w : Writing) (y : List ℕ) → value-writing.Writable i text t → WriteValue i text o w y
-      → w.answer ≡ 0 → value-writing.Shortest t (sent w y)
+  pub value_shortest : (t : Tree Sort.value) (i text o : List ℕ) (w : Writing) (y : List ℕ) → value_writing.Writable i text t → WriteValue i text o w y
+      → w.answer ≡ 0 → value_writing.Shortest t (sent w y)
   pub file_writes : Writes HoldsFile LsoWrite
-  pub file_written : (f : Lso) (i text o : List ℕ) (w : Writing) (y : List ℕ) → file-writing.Writable i text f → LsoWrite i text o w y → w.answer ≡ 0
-      → files-write.WrittenAs f (sent w y)
+  pub file_written : (f : Lso) (i text o : List ℕ) (w : Writing) (y : List ℕ) → file_writing.Writable i text f → LsoWrite i text o w y → w.answer ≡ 0
+      → files_write.WrittenAs f (sent w y)
   pub packet_writes : (exact : Bool) → Writes (HoldsPacket exact) λ i t. PacketWrite i t exact
-  pub packet_written : (p : Packet) (exact : Bool) (i text o : List ℕ) (w : Writing) (y : List ℕ) → packet-writing.Writable i text p
-      → PacketWrite i text exact o w y → w.answer ≡ 0 → packets-write.WrittenAs exact p (sent w y)
-  pub packet_cuts : (p : Packet) (exact : Bool) (i text o : List ℕ) (w : Writing) (y : List ℕ) → packet-writing.Writable i text p
-      → PacketWrite i text exact o w y → w.answer ≡ 0 → packets-write.CutsExactly (sent w y) p
+  pub packet_written : (p : Packet) (exact : Bool) (i text o : List ℕ) (w : Writing) (y : List ℕ) → packet_writing.Writable i text p
+      → PacketWrite i text exact o w y → w.answer ≡ 0 → packets_write.WrittenAs exact p (sent w y)
+  pub packet_cuts : (p : Packet) (exact : Bool) (i text o : List ℕ) (w : Writing) (y : List ℕ) → packet_writing.Writable i text p
+      → PacketWrite i text exact o w y → w.answer ≡ 0 → packets_write.CutsExactly (sent w y) p
   -- A tree that was read is written, in no more bytes than were consumed, and what was written in full reads back, given room, as the same tree, texts and
   -- number bits included: one tree, file or packet is what both rows of bytes encode and both images hold. Only text places and the stored file length may
   -- differ: `alike`. The room is three times what was written, any that is not refused for room, or that of the first reading. To write it once more changes
   -- nothing more.
-  pub value_trip : Returns ParseSingleElement WriteValue ParseSingleElement values-write.RoundTrip
-  pub file_trip : Returns LsoParse LsoWrite LsoParse files-write.RoundTrip
-  pub file_incomplete_trip : Returns LsoParseIncomplete LsoWrite LsoParse files-write.RoundTrip
-  pub packet_trip : (exact : Bool) → Returns PacketParse (λ i t. PacketWrite i t exact) PacketParse λ s b. packets-write.RoundTrip s b exact
+  pub value_trip : Returns ParseSingleElement WriteValue ParseSingleElement values_write.RoundTrip
+  pub file_trip : Returns LsoParse LsoWrite LsoParse files_write.RoundTrip
+  pub file_incomplete_trip : Returns LsoParseIncomplete LsoWrite LsoParse files_write.RoundTrip
+  pub packet_trip : (exact : Bool) → Returns PacketParse (λ i t. PacketWrite i t exact) PacketParse λ s b. packets_write.RoundTrip s b exact
   pub packet_incomplete_trip : (exact : Bool)
-      → Returns PacketParseIncomplete (λ i t. PacketWrite i t exact) PacketParse λ s b. packets-write.RoundTrip s b exact
+      → Returns PacketParseIncomplete (λ i t. PacketWrite i t exact) PacketParse λ s b. packets_write.RoundTrip s b exact
   -- So does the tree of an entry, and that of a part of a packet: it is written as a value, and reads back as one.
   pub entry_trip : (k : ℕ) → Returns (λ s. ParseEntry s k) WriteValue ParseSingleElement (EntryTrip k)
-  pub span_trip : (p n : ℕ) → Returns (λ s. ParseSpan s p n) WriteValue ParseSingleElement λ s. span-trips.SpanTrip s p n
+  pub span_trip : (p n : ℕ) → Returns (λ s. ParseSpan s p n) WriteValue ParseSingleElement λ s. span_trips.SpanTrip s p n
   -- Acceptance and accepted results are as they were before a refusal had a place, and so are the answers and counts of refusals: without the place, each call comes
   -- to what the definitions of then say.
   pub value_as_before : AsBefore then.value_of ParseSingleElement
@@ -510,7 +510,7 @@ pub record Demand2 : Type 0 where
   pub cut_wider : (s : List ℕ) (a b x y : List Entry) (c d : Cutting) → Cut s a c x → Cut s b d y → length a ≤ length b → c.answer ≢ 4
       → listed d y ≡ listed c x
   -- The stored length is 16 plus the name's length plus the body's.
-  pub file_length : (i text o : List ℕ) (w : Writing) (y : List ℕ) → Bytes i → LsoWrite i text o w y → w.answer ≡ 0 → file-writing.SaysLength (sent w y)
+  pub file_length : (i text o : List ℕ) (w : Writing) (y : List ℕ) → Bytes i → LsoWrite i text o w y → w.answer ≡ 0 → file_writing.SaysLength (sent w y)
   -- And the starred examples hold: the rule "Examples" (docs/DEMANDS.md).
   pub examples : AllHold table
 
@@ -527,7 +527,7 @@ demand2 =
       file_incomplete_complete = two.file_incomplete_complete;
       file_exactly = law.exactly file_reads IsFile files.exactly;
       file_incomplete_exactly =
-          law.just file_incomplete_reads 0 (λ s room. (f : Lso) × (n : ℕ) × file-why.Reaches s room f n) files-why.exactly_incomplete;
+          law.just file_incomplete_reads 0 (λ s room. (f : Lso) × (n : ℕ) × file_why.Reaches s room f n) files_why.exactly_incomplete;
       file_unique = files.unique;
       packet_sound = law.sound packet_reads (λ s v. packets.Means s v × (v.reading.used ≡ length s)) packets.sound;
       packet_incomplete_sound = law.sound packet_incomplete_reads packets.Means packets.sound_incomplete;
@@ -537,42 +537,42 @@ demand2 =
       packet_unique = packets.unique;
       entry_sound = two.entry_sound;
       entry_complete = two.entry_complete;
-      value_writes = law.writes value_puts HoldsValue values-write.write_accepted;
+      value_writes = law.writes value_puts HoldsValue values_write.write_accepted;
       value_shortest = two.value_shortest;
-      file_writes = law.writes file_puts HoldsFile files-write.write_accepted;
+      file_writes = law.writes file_puts HoldsFile files_write.write_accepted;
       file_written = two.file_written;
-      packet_writes = λ exact. law.writes (packet_puts exact) (HoldsPacket exact) λ i t. packets-write.write_accepted i t exact;
+      packet_writes = λ exact. law.writes (packet_puts exact) (HoldsPacket exact) λ i t. packets_write.write_accepted i t exact;
       packet_written = two.packet_written;
       packet_cuts = two.packet_cuts;
-      value_trip = law.returns value_reads value_puts value_reads values-write.RoundTrip two.value_fewer values-write.round_trip
-          values-room.round_trip_any values-room.same_room values-room.again_any;
-      file_trip = law.returns file_reads file_puts file_reads files-write.RoundTrip two.file_fewer files-write.round_trip
-          files-room.round_trip_any files-room.same_room files-room.again_any;
-      file_incomplete_trip = law.returns file_incomplete_reads file_puts file_reads files-write.RoundTrip two.file_incomplete_fewer
-          files-write.round_trip_incomplete files-room.round_trip_any_incomplete files-room.same_room_incomplete files-room.again_any_incomplete;
+      value_trip = law.returns value_reads value_puts value_reads values_write.RoundTrip two.value_fewer values_write.round_trip
+          values_room.round_trip_any values_room.same_room values_room.again_any;
+      file_trip = law.returns file_reads file_puts file_reads files_write.RoundTrip two.file_fewer files_write.round_trip
+          files_room.round_trip_any files_room.same_room files_room.again_any;
+      file_incomplete_trip = law.returns file_incomplete_reads file_puts file_reads files_write.RoundTrip two.file_incomplete_fewer
+          files_write.round_trip_incomplete files_room.round_trip_any_incomplete files_room.same_room_incomplete files_room.again_any_incomplete;
       packet_trip = λ exact.
-          law.returns packet_reads (packet_puts exact) packet_reads (λ s b. packets-write.RoundTrip s b exact) (two.packet_fewer exact)
-          (λ s b room out more bs e f. packets-write.round_trip (read_whole s room bs e) exact b out f more)
-          (λ s b room out more bs e f. packets-room.round_trip_any (read_whole s room bs e) exact b out f more)
-          (λ s b room out bs e. packets-room.same_room (read_whole s room bs e) exact b out)
-          λ s b room out more once bs e f. packets-room.again_any (read_whole s room bs e) exact b out f more once;
+          law.returns packet_reads (packet_puts exact) packet_reads (λ s b. packets_write.RoundTrip s b exact) (two.packet_fewer exact)
+          (λ s b room out more bs e f. packets_write.round_trip (read_whole s room bs e) exact b out f more)
+          (λ s b room out more bs e f. packets_room.round_trip_any (read_whole s room bs e) exact b out f more)
+          (λ s b room out bs e. packets_room.same_room (read_whole s room bs e) exact b out)
+          λ s b room out more once bs e f. packets_room.again_any (read_whole s room bs e) exact b out f more once;
       packet_incomplete_trip = λ exact.
-          law.returns packet_incomplete_reads (packet_puts exact) packet_reads (λ s b. packets-write.RoundTrip s b exact) (two.packet_incomplete_fewer exact)
-          (λ s b room out more bs e f. packets-write.round_trip (read_incomplete s room bs e) exact b out f more)
-          (λ s b room out more bs e f. packets-room.round_trip_any (read_incomplete s room bs e) exact b out f more)
-          (λ s b room out bs e. packets-room.same_room (read_incomplete s room bs e) exact b out)
-          λ s b room out more once bs e f. packets-room.again_any (read_incomplete s room bs e) exact b out f more once;
+          law.returns packet_incomplete_reads (packet_puts exact) packet_reads (λ s b. packets_write.RoundTrip s b exact) (two.packet_incomplete_fewer exact)
+          (λ s b room out more bs e f. packets_write.round_trip (read_incomplete s room bs e) exact b out f more)
+          (λ s b room out more bs e f. packets_room.round_trip_any (read_incomplete s room bs e) exact b out f more)
+          (λ s b room out bs e. packets_room.same_room (read_incomplete s room bs e) exact b out)
+          λ s b room out more once bs e f. packets_room.again_any (read_incomplete s room bs e) exact b out f more once;
       entry_trip = λ k.
           law.returns (entry_reads k) value_puts value_reads (EntryTrip k) (two.entry_fewer k)
           (λ s b room out more bs e f. trips.entry_trip s k room bs e b out f more) (λ s b room out more bs e f. trips.entry_trip_any s k room bs e b out f more)
           (λ s b room out bs e f. trips.entry_same_room s k room bs e b out f)
           λ s b room out more once bs e f. trips.entry_again s k room bs e b out f more once;
       span_trip = λ p n.
-          law.returns (span_reads p n) value_puts value_reads (λ s. span-trips.SpanTrip s p n) (two.span_fewer p n)
-          (λ s b room out more bs e f. span-trips.span_trip s p n room _ bs (calls.span_takes s p n room e) b out f more)
-          (λ s b room out more bs e f. span-trips.span_trip_any s p n room _ bs (calls.span_takes s p n room e) b out f more)
-          (λ s b room out bs e. span-trips.span_same_room s p n room _ bs (calls.span_takes s p n room e) b out)
-          λ s b room out more once bs e f. span-trips.span_again s p n room _ bs (calls.span_takes s p n room e) b out f more once;
+          law.returns (span_reads p n) value_puts value_reads (λ s. span_trips.SpanTrip s p n) (two.span_fewer p n)
+          (λ s b room out more bs e f. span_trips.span_trip s p n room _ bs (calls.span_takes s p n room e) b out f more)
+          (λ s b room out more bs e f. span_trips.span_trip_any s p n room _ bs (calls.span_takes s p n room e) b out f more)
+          (λ s b room out bs e. span_trips.span_same_room s p n room _ bs (calls.span_takes s p n room e) b out)
+          λ s b room out more once bs e f. span_trips.span_again s p n room _ bs (calls.span_takes s p n room e) b out f more once;
       value_as_before = law.as_before value_reads then.value_of before.value;
       file_as_before = law.as_before file_reads then.whole_file before.file_whole;
       file_incomplete_as_before = law.as_before file_incomplete_reads then.incomplete_file before.file_incomplete;
@@ -584,10 +584,10 @@ demand2 =
       value_wider = law.wider value_reads values.room_more;
       file_wider = law.wider file_reads files.room_more_whole;
       file_incomplete_wider = law.wider file_incomplete_reads files.room_more_incomplete;
-      packet_wider = law.wider packet_reads packets-room.parse_more;
-      packet_incomplete_wider = law.wider packet_incomplete_reads packets-room.incomplete_more;
-      entry_wider = λ k. law.wider (entry_reads k) λ s. packets-room.entry_more s k;
-      span_wider = λ p n. law.wider (span_reads p n) λ s. packets-room.span_more s p n;
+      packet_wider = law.wider packet_reads packets_room.parse_more;
+      packet_incomplete_wider = law.wider packet_incomplete_reads packets_room.incomplete_more;
+      entry_wider = λ k. law.wider (entry_reads k) λ s. packets_room.entry_more s k;
+      span_wider = λ p n. law.wider (span_reads p n) λ s. packets_room.span_more s p n;
       cut_wider = one.cut_wider;
       file_length = two.file_length;
       examples = examples;

@@ -1,6 +1,7 @@
 -- The contract of each public call asks nothing of its caller and determines its outcome: any two outcomes that it permits are the same, what the call
 -- returns and every byte of all that is lent to it. A contract that is weakened fails here, and so does one that begins to ask.
-use Rattle.wire.proofs.Kit.{ℕ, ◌≡◌, refl, sym, ap, ◌∙◌, List, now, length, Dens, In}
+use Rattle.std.specs.Prelude.{◌≡◌}
+use Rattle.wire.proofs.Kit.{ℕ, refl, sym, ap, ◌∙◌, List, length, Dens, In}
 use contract.Lifetimes.{Lfts}
 use borrow.Fn.Kinds.{ParamKind, ResultKind, Out}
 use Rattle.image.specs.Due.{Ran}
@@ -11,14 +12,12 @@ use Rattle.image.proofs.building as building
 use Rattle.amf0.specs.Survey.{Told}
 use Rattle.amf0.proofs.read as value_read
 use Rattle.amf0.proofs.survey as survey
-use Rattle.amf0.proofs.write as value-write
-use Rattle.lso.proofs.read as file-read
-use Rattle.lso.proofs.write as file-write
-use Rattle.packet.proofs.read as packet-read
-use Rattle.packet.proofs.write as packet-write
+use Rattle.amf0.proofs.write as value_write
+use Rattle.lso.proofs.read as file_read
+use Rattle.lso.proofs.write as file_write
+use Rattle.packet.proofs.read as packet_read
+use Rattle.packet.proofs.write as packet_write
 use Rattle.packet.proofs.entry as entry
-use Rattle.packet.proofs.EntryCutKinds as CutKinds
-use Rattle.packet.proofs.EntryCutReads as CutReads
 use Rattle.packet.proofs.row as row
 use Rattle.packet.proofs.walk as walk
 use Rattle.index.proofs.make as make
@@ -34,8 +33,8 @@ pub record EveryCall : Type 0 where
   pub part : Free text.part.Kinds.ps text.part.Reads.Asked
   -- the slice that `part` returns, by its address and its bytes (the kit's name for it is free, and no program sees it)
   pub part_text : (κs : Lfts 1) (a : Dens κs text.part.Kinds.ps) (o p : Returned text.part.Kinds.ps text.part.Kinds.r text.part.Reads.Post κs a)
-      → (o.result.ref_ptr ≡ p.result.ref_ptr) × (now o.result ≡ now p.result)
-  pub record_at_lem : Firm taking.record_at.Kinds.ps taking.record_at.Kinds.r taking.record_at.Reads.Asked taking.record_at.Reads.Post
+      → (o.result.ref_ptr ≡ p.result.ref_ptr) × (o.result.now ≡ p.result.now)
+  pub record_at : Firm taking.record_at.Kinds.ps taking.record_at.Kinds.r taking.record_at.Reads.Asked taking.record_at.Reads.Post
   pub record_of : Firm building.record_of.Kinds.ps building.record_of.Kinds.r building.record_of.Reads.Asked building.record_of.Reads.Post
   pub put_numbers : Firm building.put_numbers.Kinds.ps building.put_numbers.Kinds.r building.put_numbers.Reads.Asked building.put_numbers.Reads.Post
   -- values
@@ -44,24 +43,24 @@ pub record EveryCall : Type 0 where
   pub parse_value : Firm value_read.parse_value.Kinds.ps value_read.parse_value.Kinds.r value_read.parse_value.Reads.Asked value_read.parse_value.Reads.Post
   pub measure : Firm value_read.measure.Kinds.ps value_read.measure.Kinds.r value_read.measure.Reads.Asked value_read.measure.Reads.Post
   pub survey_value : Firm survey.survey_value.Kinds.ps survey.survey_value.Kinds.r survey.survey_value.Reads.Asked survey.survey_value.Reads.Post
-  pub write_value : Firm value-write.write_value.Kinds.ps value-write.write_value.Kinds.r value-write.write_value.Reads.Asked value-write.write_value.Reads.Post
-  pub pour_value : Firm value-write.pour_value.Kinds.ps value-write.pour_value.Kinds.r value-write.pour_value.Reads.Asked value-write.pour_value.Reads.Post
-  pub value_at_lem : Firm value-write.value_at.Kinds.ps value-write.value_at.Kinds.r value-write.value_at.Reads.Asked value-write.value_at.Reads.Post
+  pub write_value : Firm value_write.write_value.Kinds.ps value_write.write_value.Kinds.r value_write.write_value.Reads.Asked value_write.write_value.Reads.Post
+  pub pour_value : Firm value_write.pour_value.Kinds.ps value_write.pour_value.Kinds.r value_write.pour_value.Reads.Asked value_write.pour_value.Reads.Post
+  pub value_at : Firm value_write.value_at.Kinds.ps value_write.value_at.Kinds.r value_write.value_at.Reads.Asked value_write.value_at.Reads.Post
   -- files
-  pub lso_parse : Firm file-read.parse.Kinds.ps file-read.parse.Kinds.r file-read.parse.Reads.Asked file-read.parse.Reads.Post
-  pub lso_parse_incomplete : Firm file-read.parse_incomplete.Kinds.ps file-read.parse_incomplete.Kinds.r
-      file-read.parse_incomplete.Reads.Asked file-read.parse_incomplete.Reads.Post
-  pub lso_write_to_bytes : Firm file-write.write_to_bytes.Kinds.ps file-write.write_to_bytes.Kinds.r
-      file-write.write_to_bytes.Reads.Asked file-write.write_to_bytes.Reads.Post
+  pub lso_parse : Firm file_read.parse.Kinds.ps file_read.parse.Kinds.r file_read.parse.Reads.Asked file_read.parse.Reads.Post
+  pub lso_parse_incomplete : Firm file_read.parse_incomplete.Kinds.ps file_read.parse_incomplete.Kinds.r
+      file_read.parse_incomplete.Reads.Asked file_read.parse_incomplete.Reads.Post
+  pub lso_write_to_bytes : Firm file_write.write_to_bytes.Kinds.ps file_write.write_to_bytes.Kinds.r
+      file_write.write_to_bytes.Reads.Asked file_write.write_to_bytes.Reads.Post
   -- packets
-  pub packet_parse : Firm packet-read.parse.Kinds.ps packet-read.parse.Kinds.r packet-read.parse.Reads.Asked packet-read.parse.Reads.Post
-  pub packet_parse_incomplete : Firm packet-read.parse_incomplete.Kinds.ps packet-read.parse_incomplete.Kinds.r
-      packet-read.parse_incomplete.Reads.Asked packet-read.parse_incomplete.Reads.Post
-  pub packet_write_to_bytes : Firm packet-write.write_to_bytes.Kinds.ps packet-write.write_to_bytes.Kinds.r
-      packet-write.write_to_bytes.Reads.Asked packet-write.write_to_bytes.Reads.Post
+  pub packet_parse : Firm packet_read.parse.Kinds.ps packet_read.parse.Kinds.r packet_read.parse.Reads.Asked packet_read.parse.Reads.Post
+  pub packet_parse_incomplete : Firm packet_read.parse_incomplete.Kinds.ps packet_read.parse_incomplete.Kinds.r
+      packet_read.parse_incomplete.Reads.Asked packet_read.parse_incomplete.Reads.Post
+  pub packet_write_to_bytes : Firm packet_write.write_to_bytes.Kinds.ps packet_write.write_to_bytes.Kinds.r
+      packet_write.write_to_bytes.Reads.Asked packet_write.write_to_bytes.Reads.Post
   pub entry_at : Firm walk.entry_at.Kinds.ps walk.entry_at.Kinds.r walk.entry_at.Reads.Asked walk.entry_at.Reads.Post
   pub nth : Firm entry.nth.Kinds.ps entry.nth.Kinds.r entry.nth.Reads.Asked entry.nth.Reads.Post
-  pub cut : Firm CutKinds.ps CutKinds.r CutReads.Asked CutReads.Post
+  pub cut : Firm entry.cut.Kinds.ps entry.cut.Kinds.r entry.cut.Reads.Asked entry.cut.Reads.Post
   pub row_cut : Firm row.cut.Kinds.ps row.cut.Kinds.r row.cut.Reads.Asked row.cut.Reads.Post
   pub parse_entry : Firm entry.parse_entry.Kinds.ps entry.parse_entry.Kinds.r entry.parse_entry.Reads.Asked entry.parse_entry.Reads.Post
   pub parse_span : Firm entry.parse_span.Kinds.ps entry.parse_span.Kinds.r entry.parse_span.Reads.Asked entry.parse_span.Reads.Post
@@ -124,9 +123,9 @@ module _ {A L : Type 0} {r q a : A} {B : Type 0} {x y b : B} where
         (same e.0 f.0, λ i. all (g i) (h i))
 
     module _ {D : Type 0} {m n d : D} where
-      three-left : (all : B → C → D → L) → (r ≡ a) × ((x ≡ b) × ((u ≡ c) × (m ≡ d))) → (q ≡ a) × ((y ≡ b) × ((v ≡ c) × (n ≡ d)))
+      three_left : (all : B → C → D → L) → (r ≡ a) × ((x ≡ b) × ((u ≡ c) × (m ≡ d))) → (q ≡ a) × ((y ≡ b) × ((v ≡ c) × (n ≡ d)))
           → (r ≡ q) × (all x u m ≡ all y v n)
-      three-left all e f =
+      three_left all e f =
           let g = same e.1.0 f.1.0 in
           let h = same e.1.1.0 f.1.1.0 in
           let k = same e.1.1.1 f.1.1.1 in
@@ -142,7 +141,7 @@ every_call =
       inside = firm (λ κs a. tt) λ κs a o p. plain o.ensures p.ensures;
       part = λ κs a. tt;
       part_text = λ κs a o p. (same o.ensures.1 p.ensures.1, same o.ensures.0 p.ensures.0);
-      record_at_lem = firm (λ κs a. tt) λ κs a o p. plain o.ensures p.ensures;
+      record_at = firm (λ κs a. tt) λ κs a o p. plain o.ensures p.ensures;
       record_of = firm (λ κs a. tt) λ κs a o p. plain o.ensures p.ensures;
       put_numbers = firm (λ κs a. tt) λ κs a o p. one_left (λ x. (x, (tt, (tt, tt)))) o.ensures p.ensures;
       parse_single_element = firm (λ κs a. tt) λ κs a o p. one_left (λ x. (tt, (x, tt))) o.ensures p.ensures;
@@ -157,7 +156,7 @@ every_call =
       pour_value = firm (λ κs a. tt) λ κs a o p.
           let e = same o.ensures.0 p.ensures.0 in
           (ap (λ (x : Poured). x.step) e, λ i. ((e i).out, (tt, (tt, (tt, (tt, tt))))));
-      value_at_lem = firm (λ κs a. tt) λ κs a o p. plain o.ensures p.ensures;
+      value_at = firm (λ κs a. tt) λ κs a o p. plain o.ensures p.ensures;
       lso_parse = firm (λ κs a. tt) λ κs a o p. one_left (λ x. (tt, (x, tt))) o.ensures p.ensures;
       lso_parse_incomplete = firm (λ κs a. tt) λ κs a o p. one_left (λ x. (tt, (x, tt))) o.ensures p.ensures;
       lso_write_to_bytes = firm (λ κs a. tt) λ κs a o p. one_left (λ x. (tt, (tt, (x, tt)))) o.ensures p.ensures;
@@ -171,7 +170,7 @@ every_call =
       parse_entry = firm (λ κs a. tt) λ κs a o p. one_left (λ x. (tt, (tt, (x, tt)))) o.ensures p.ensures;
       parse_span = firm (λ κs a. tt) λ κs a o p. one_left (λ x. (tt, (tt, (tt, (x, tt))))) o.ensures p.ensures;
       make_index = firm (λ κs a. tt) λ κs a o p.
-          let e = index_determined (now a.0) (now a.1.0) (length (now a.1.1.0)) _ _ (o.ensures.1, o.kept.1.1.0)
+          let e = index_determined a.0.now a.1.0.now (length a.1.1.0.now) _ _ (o.ensures.1, o.kept.1.1.0)
           (p.ensures.1, p.kept.1.1.0) in
           (same o.ensures.0 p.ensures.0, λ i. (tt, (tt, (e i, tt))));
       find = firm (λ κs a. tt) λ κs a o p. plain o.ensures p.ensures;
@@ -179,22 +178,22 @@ every_call =
       riddoskam_inside = firm (λ κs a. tt) λ κs a o p. plain o.ensures p.ensures;
       riddoskam_part = firm (λ κs a. tt) λ κs a o p.
           one_left (λ x. (tt, (tt, (tt, (x, tt))))) (o.ensures.0, o.ensures.1.0) (p.ensures.0, p.ensures.1.0);
-      riddoskam_parse_single_element = firm (λ κs a. tt) λ κs a o p. three-left (λ x y z. (tt, (z, (x, (y, tt))))) o.ensures p.ensures;
+      riddoskam_parse_single_element = firm (λ κs a. tt) λ κs a o p. three_left (λ x y z. (tt, (z, (x, (y, tt))))) o.ensures p.ensures;
       riddoskam_write_value = firm (λ κs a. tt) λ κs a o p. two_left (λ x y. (tt, (tt, (y, (x, tt))))) o.ensures p.ensures;
-      riddoskam_lso_parse = firm (λ κs a. tt) λ κs a o p. three-left (λ x y z. (tt, (z, (x, (y, tt))))) o.ensures p.ensures;
-      riddoskam_lso_parse_incomplete = firm (λ κs a. tt) λ κs a o p. three-left (λ x y z. (tt, (z, (x, (y, tt))))) o.ensures p.ensures;
+      riddoskam_lso_parse = firm (λ κs a. tt) λ κs a o p. three_left (λ x y z. (tt, (z, (x, (y, tt))))) o.ensures p.ensures;
+      riddoskam_lso_parse_incomplete = firm (λ κs a. tt) λ κs a o p. three_left (λ x y z. (tt, (z, (x, (y, tt))))) o.ensures p.ensures;
       riddoskam_lso_write_to_bytes = firm (λ κs a. tt) λ κs a o p. two_left (λ x y. (tt, (tt, (y, (x, tt))))) o.ensures p.ensures;
-      riddoskam_packet_parse = firm (λ κs a. tt) λ κs a o p. three-left (λ x y z. (tt, (z, (x, (y, tt))))) o.ensures p.ensures;
-      riddoskam_packet_parse_incomplete = firm (λ κs a. tt) λ κs a o p. three-left (λ x y z. (tt, (z, (x, (y, tt))))) o.ensures p.ensures;
+      riddoskam_packet_parse = firm (λ κs a. tt) λ κs a o p. three_left (λ x y z. (tt, (z, (x, (y, tt))))) o.ensures p.ensures;
+      riddoskam_packet_parse_incomplete = firm (λ κs a. tt) λ κs a o p. three_left (λ x y z. (tt, (z, (x, (y, tt))))) o.ensures p.ensures;
       riddoskam_packet_write_to_bytes = firm (λ κs a. tt) λ κs a o p. two_left (λ x y. (tt, (tt, (tt, (y, (x, tt)))))) o.ensures p.ensures;
       riddoskam_packet_nth = firm (λ κs a. tt) λ κs a o p. one_left (λ x. (tt, (tt, (x, tt)))) o.ensures p.ensures;
-      riddoskam_packet_cut = firm (λ κs a. tt) λ κs a o p. three-left (λ x y z. (tt, (z, (x, (y, tt))))) o.ensures p.ensures;
-      riddoskam_packet_parse_entry = firm (λ κs a. tt) λ κs a o p. three-left (λ x y z. (tt, (tt, (z, (x, (y, tt)))))) o.ensures p.ensures;
-      riddoskam_packet_parse_span = firm (λ κs a. tt) λ κs a o p. three-left (λ x y z. (tt, (tt, (tt, (z, (x, (y, tt))))))) o.ensures p.ensures;
+      riddoskam_packet_cut = firm (λ κs a. tt) λ κs a o p. three_left (λ x y z. (tt, (z, (x, (y, tt))))) o.ensures p.ensures;
+      riddoskam_packet_parse_entry = firm (λ κs a. tt) λ κs a o p. three_left (λ x y z. (tt, (tt, (z, (x, (y, tt)))))) o.ensures p.ensures;
+      riddoskam_packet_parse_span = firm (λ κs a. tt) λ κs a o p. three_left (λ x y z. (tt, (tt, (tt, (z, (x, (y, tt))))))) o.ensures p.ensures;
       riddoskam_record_at = firm (λ κs a. tt) λ κs a o p. two_left (λ x y. (tt, (tt, (x, (y, tt))))) o.ensures p.ensures;
       riddoskam_put = firm (λ κs a. tt) λ κs a o p. two_left (λ x y. (y, (x, (tt, tt)))) o.ensures p.ensures;
       riddoskam_index = firm (λ κs a. tt) λ κs a o p.
-          let e = index_determined (now a.0) (now a.1.0) (length (now a.1.1.0)) _ _ (o.ensures.1.1, o.kept.1.1.0)
+          let e = index_determined a.0.now a.1.0.now (length a.1.1.0.now) _ _ (o.ensures.1.1, o.kept.1.1.0)
           (p.ensures.1.1, p.kept.1.1.0) in
           (same o.ensures.0 p.ensures.0, λ i. (tt, (tt, (e i, ((same o.ensures.1.0 p.ensures.1.0) i, tt)))));
       riddoskam_find = firm (λ κs a. tt) λ κs a o p. one_left (λ x. (tt, (tt, (tt, (tt, (x, tt)))))) o.ensures p.ensures;

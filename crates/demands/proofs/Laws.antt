@@ -1,5 +1,6 @@
 -- What follows for any reader and any writer from what its contract says.
-use Rattle.wire.proofs.Kit.{ℕ, ◌-◌, ◌*◌, ◌≤◌, ◌<◌, ◌≡◌, refl, sym, ap, ap₂, subst, ◌∙◌, ◌≢◌, ◌⊎◌, ◌↔◌, ⊎_elim, List, ◌++◌, sub-zero, arith, length, take, drop}
+use Rattle.std.specs.Prelude.{◌-◌, ◌*◌, ◌≤◌, ◌<◌, ◌≡◌, ◌≢◌, ◌⊎◌, ◌↔◌, ◌++◌}
+use Rattle.wire.proofs.Kit.{ℕ, refl, sym, ap, ap₂, subst, ◌∙◌, ⊎_elim, List, sub-zero, arith, length, take, drop}
 use Rattle.wire.proofs.Kit.{replicate, length-append, length-take, length-drop, take-append_seam, drop-append_seam}
 use Rattle.wire.specs.Number.{Bytes}
 use Rattle.wire.specs.Limit as limit

@@ -1,8 +1,9 @@
 -- Demand 1: what a proper beginning of a value, a header, a file or a packet comes to, and a value that is too deep.
-use Rattle.wire.proofs.Kit.{ℕ, ◌*◌, ◌≤◌, ◌<◌, ◌≡◌, ◌≢◌, List, ◌++◌, arith, length, length-append}
+use Rattle.std.specs.Prelude.{◌*◌, ◌≤◌, ◌<◌, ◌≡◌, ◌≢◌, ◌++◌}
+use Rattle.wire.proofs.Kit.{ℕ, List, arith, length, length-append}
 use Rattle.wire.specs.Limit as limit
 use Rattle.image.specs.declared.reading.Reading.{Reading}
-use Rattle.image.specs.Whole.{bytes, refused}
+use Rattle.image.specs.Whole.{refused}
 use Rattle.amf0.specs.Standard.{Sort, Tree, depth, Encodes}
 use Rattle.amf0_theorems.proofs.Refusals as values
 use Rattle.lso.specs.File.{Lso, File, deepest}

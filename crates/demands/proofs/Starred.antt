@@ -1,5 +1,6 @@
 -- The starred examples of the rule "Examples" (docs/DEMANDS.md), of the calls.
-use Rattle.wire.proofs.Kit.{ℕ, ◌≡◌, ap, ◌∙◌, List, [], ◌∷◌, map, length, take}
+use Rattle.std.specs.Prelude.{◌≡◌, ◌∷◌}
+use Rattle.wire.proofs.Kit.{ℕ, ap, ◌∙◌, List, [], map, length, take}
 use Rattle.image.specs.declared.reading.Reading.{Reading}
 use Rattle.image.specs.declared.writing.Writing.{Writing}
 use Rattle.image.specs.Whole.{Whole}

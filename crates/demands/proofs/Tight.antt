@@ -1,5 +1,6 @@
 -- Demand 1: when a room is too small.
-use Rattle.wire.proofs.Kit.{ℕ, ◌*◌, ◌≤◌, ◌≡◌, refl, sym, ap, ◌∙◌, ◌≢◌, ◌↔◌, ⊎_elim, List, [], ◌∷◌, ◌++◌, arith, length}
+use Rattle.std.specs.Prelude.{◌*◌, ◌≤◌, ◌≡◌, ◌≢◌, ◌↔◌, ◌∷◌, ◌++◌}
+use Rattle.wire.proofs.Kit.{ℕ, refl, sym, ap, ◌∙◌, ⊎_elim, List, [], arith, length}
 use Rattle.wire.specs.Number.{Bytes}
 use Rattle.wire.specs.Limit as limit
 use Rattle.image.specs.declared.reading.Reading.{Reading}
@@ -9,7 +10,7 @@ use Rattle.lso.specs.Reading as lso
 use Rattle.lso_theorems.specs.Refusal.{Comes, ComesWhole}
 use Rattle.lso_theorems.proofs.Refusals.{header_either}
 use Rattle.lso_theorems.proofs.Theorems as files
-use Rattle.lso_theorems.proofs.Reasons as files-why
+use Rattle.lso_theorems.proofs.Reasons as files_why
 use Rattle.packet.specs.declared.head.Entry.{Entry}
 use Rattle.packet.specs.declared.entry.Found.TheVariants as Found
 use Rattle.packet.specs.Entry.{list_of}
@@ -26,7 +27,7 @@ use Rattle.demands.proofs.Told.{entry_reads, span_reads, nth_told}
 -- an incomplete reading that comes to 4 has a header, and no room for what falls due;
 four : {s : List ℕ} {room : ℕ} {w : Whole} → Comes s room w → w.reading.answer ≡ 4 → TightFile s room
 four (Comes.over_limit h) z = absurd (omega arith)
-four (Comes.no_Header h f) z = absurd (⊎_elim (λ x. omega (arith, z, x)) (λ x. omega (arith, z, x)) (header_either f))
+four (Comes.no_header h f) z = absurd (⊎_elim (λ x. omega (arith, z, x)) (λ x. omega (arith, z, x)) (header_either f))
 four {s} {room} (Comes.no_room {p} {place} h e l) z = (p, e, omega (arith, lacks_over (lso.ever_due s p) 0 room place l))
 four (Comes.too_deep h t) z = absurd (omega arith)
 four (Comes.read h f i) z = absurd (omega arith)
@@ -39,16 +40,16 @@ four_whole (ComesWhole.read c h) z = absurd (omega arith)
 
 -- The whole reading of a file is 4 just there,
 pub file_tight : (s : List ℕ) (room : ℕ) → Bytes s → length s ≤ limit.bytes → (lso.whole_of s room).reading.answer ≡ 4 ↔ TightFile s room
-file_tight s room bs h = (four_whole (files-why.reasons_whole s room bs), λ t. (files.room_exact_whole s room t.0 h t.1).1 t.2)
+file_tight s room bs h = (four_whole (files_why.reasons_whole s room bs), λ t. (files.room_exact_whole s room t.0 h t.1).1 t.2)
 
 -- and so is the incomplete one.
 pub file_incomplete_tight : (s : List ℕ) (room : ℕ) → Bytes s → length s ≤ limit.bytes → (lso.incomplete_of s room).reading.answer ≡ 4 ↔ TightFile s room
-file_incomplete_tight s room bs h = (four (files-why.reasons_incomplete s room bs), λ t. (files.room_exact_incomplete s room t.0 h t.1).1 t.2)
+file_incomplete_tight s room bs h = (four (files_why.reasons_incomplete s room bs), λ t. (files.room_exact_incomplete s room t.0 h t.1).1 t.2)
 
 -- an incomplete reading that comes to 4 at a place has a header, and no room for the record that is due there;
 full : {s : List ℕ} {room : ℕ} {w : Whole} (q : ℕ) → Comes s room w → w ≡ refused 4 q → FullFile s room q
 full q (Comes.over_limit h) z = absurd (omega (arith, ap answer_of_lem z))
-full q (Comes.no_Header h f) z = absurd (⊎_elim (λ x. omega (arith, ap answer_of_lem z, x)) (λ x. omega (arith, ap answer_of_lem z, x)) (header_either f))
+full q (Comes.no_header h f) z = absurd (⊎_elim (λ x. omega (arith, ap answer_of_lem z, x)) (λ x. omega (arith, ap answer_of_lem z, x)) (header_either f))
 full q (Comes.no_room {p} {place} h e l) z = (p, e, rw (ap used_of z) at l)
 full q (Comes.too_deep h t) z = absurd (omega (arith, ap answer_of_lem z))
 full q (Comes.read h f i) z = absurd (omega (arith, ap answer_of_lem z))
@@ -61,11 +62,11 @@ full_whole q (ComesWhole.read c h) z = absurd (omega (arith, ap answer_of_lem z)
 
 -- The whole reading of a file is 4 at a place just there,
 pub file_full : (s : List ℕ) (room q : ℕ) → Bytes s → length s ≤ limit.bytes → lso.whole_of s room ≡ refused 4 q ↔ FullFile s room q
-file_full s room q bs h = (full_whole q (files-why.reasons_whole s room bs), λ t. (files.room_place_whole s room t.0 q h t.1).1 t.2)
+file_full s room q bs h = (full_whole q (files_why.reasons_whole s room bs), λ t. (files.room_place_whole s room t.0 q h t.1).1 t.2)
 
 -- and so is the incomplete one.
 pub file_incomplete_full : (s : List ℕ) (room q : ℕ) → Bytes s → length s ≤ limit.bytes → lso.incomplete_of s room ≡ refused 4 q ↔ FullFile s room q
-file_incomplete_full s room q bs h = (full q (files-why.reasons_incomplete s room bs), λ t. (files.room_place_incomplete s room t.0 q h t.1).1 t.2)
+file_incomplete_full s room q bs h = (full q (files_why.reasons_incomplete s room bs), λ t. (files.room_place_incomplete s room t.0 q h t.1).1 t.2)
 
 -- ---- cuts
 

@@ -1,5 +1,6 @@
 -- What each call's own contract says of it: which definition it comes to.
-use Rattle.wire.proofs.Kit.{ℕ, ◌/◌, ◌≡◌, List, Bool, length}
+use Rattle.std.specs.Prelude.{◌/◌, ◌≡◌}
+use Rattle.wire.proofs.Kit.{ℕ, List, Bool, length}
 use Rattle.wire.specs.Text.{part_of}
 use Rattle.image.specs.declared.reading.Reading.{Reading}
 use Rattle.image.specs.declared.writing.Writing.{Writing}
@@ -8,12 +9,12 @@ use Rattle.image.specs.Out.{Written, onto}
 use Rattle.amf0.specs.Reading.{read_of}
 use Rattle.amf0.specs.Writing as amf0
 use Rattle.lso.specs.Reading as lso
-use Rattle.lso.specs.Writing as lso-write
+use Rattle.lso.specs.Writing as lso_write
 use Rattle.packet.specs.declared.head.Entry.{Entry}
 use Rattle.packet.specs.declared.entry.Cutting.{Cutting}
 use Rattle.packet.specs.declared.entry.Found.{Found}
 use Rattle.packet.specs.Reading as packet
-use Rattle.packet.specs.Writing as packet-write
+use Rattle.packet.specs.Writing as packet_write
 use Rattle.packet.specs.Entry.{cut_of, list_of, filled, found_in, read_span, read_entry}
 use Rattle.packet.specs.Row.{row_of}
 use Rattle.index.specs.declared.make.Indexing.{Indexing}
@@ -108,17 +109,17 @@ value_puts = record { told = told; settles = values.write_settled }
     told _ _ _ _ _ (WriteValue.call κs a o) = record { returns = o.ensures.0; leaves = o.ensures.1 }
 
 -- `write_to_bytes` of a file to its own,
-pub file_puts : Putting LsoWrite lso-write.write_of
+pub file_puts : Putting LsoWrite lso_write.write_of
 file_puts = record { told = told; settles = files.write_settled }
   where
-    told : (i t o : List ℕ) (r : Writing) (y : List ℕ) → LsoWrite i t o r y → Wrote (lso-write.write_of i t) o r y
+    told : (i t o : List ℕ) (r : Writing) (y : List ℕ) → LsoWrite i t o r y → Wrote (lso_write.write_of i t) o r y
     told _ _ _ _ _ (LsoWrite.call κs a o) = record { returns = o.ensures.0; leaves = o.ensures.1 }
 
 -- and so does that of a packet.
-pub packet_puts : (exact : Bool) → Putting (λ i t. PacketWrite i t exact) (λ i t. packet-write.write_of i t exact)
+pub packet_puts : (exact : Bool) → Putting (λ i t. PacketWrite i t exact) (λ i t. packet_write.write_of i t exact)
 packet_puts exact = record { told = told exact; settles = λ i t. packets.write_settled i t exact }
   where
-    told : (exact : Bool) (i t o : List ℕ) (r : Writing) (y : List ℕ) → PacketWrite i t exact o r y → Wrote (packet-write.write_of i t exact) o r y
+    told : (exact : Bool) (i t o : List ℕ) (r : Writing) (y : List ℕ) → PacketWrite i t exact o r y → Wrote (packet_write.write_of i t exact) o r y
     told _ _ _ _ _ _ (PacketWrite.call κs a o) = record { returns = o.ensures.0; leaves = o.ensures.1 }
 
 -- ---- the others

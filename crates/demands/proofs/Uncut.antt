@@ -1,11 +1,11 @@
 -- Demand 1: when the reading of an entry is refused because the packet is not cut exactly.
-use Rattle.wire.proofs.Kit.{ℕ, ◌≡◌, refl, sym, ap, ap₂, ◌∙◌, ◌↔◌, inl, inr, ⊎_elim, List, [], ◌∷◌, arith, length, get_or, ltb, ltb-false}
+use Rattle.std.specs.Prelude.{◌≡◌, ◌↔◌, ◌∷◌}
+use Rattle.wire.proofs.Kit.{ℕ, refl, sym, ap, ap₂, ◌∙◌, inl, inr, ⊎_elim, List, [], arith, length, get_or, ltb, ltb-false}
 use Rattle.wire.specs.Number.{Bytes}
 use Rattle.wire.proofs.Laws.{picked}
 use Rattle.image.specs.Whole.{Whole, refused}
 use Rattle.packet.specs.declared.head.Entry.{Entry}
 use Rattle.packet.specs.declared.entry.Found.{Found}
-use Rattle.packet.specs.declared.entry.Found.TheVariants as Found
 use Rattle.packet.specs.Entry.{Cut, found, stops, cut_of, no_entry, found_in, entry_in, read_span, read_entry}
 use Rattle.packet.proofs.Laws.{cut_told, entry_chosen}
 use Rattle.packet_theorems.specs.Refusal.{RefusedCut}

@@ -1,6 +1,6 @@
 -- What the readings and the cut came to before a refusal had a place: the definitions of then, with 0 for the bytes used and for the place. They stand here to
 -- show that nothing but places has moved (docs/CHANGES.md, request 5), and nothing else is said by them.
-use Rattle.wire.specs.Kit.{ℕ, List, ◌++◌, length, get_or, leb, ltb, eqb}
+use Rattle.std.specs.Prelude.{ℕ, List, ◌++◌, length, get_or, leb, ltb, eqb}
 use Rattle.wire.specs.Choice.{pick}
 use Rattle.wire.specs.Limit as limit
 use Rattle.wire.specs.Text.{inside_of}

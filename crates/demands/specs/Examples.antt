@@ -1,9 +1,9 @@
 -- The rule "Examples" (docs/DEMANDS.md): the starred ones, in its order, as the single table that it asks for. The checker computes it.
-use Rattle.wire.specs.Kit.{ℕ, ◌≡◌, refl, List, [], ◌∷◌, ◌++◌, map}
+use Rattle.std.specs.Prelude.{ℕ, ◌≡◌, refl, List, [], ◌∷◌, ◌++◌, map}
 use Rattle.wire.specs.Utf8.{ends}
 use Rattle.wire.specs.Field.{u8_at, u16_at, u24_at, u32_at, u64_at, str_at, text_at, tag_at}
 use Rattle.image.specs.Record.{bytes_of, size}
-use Rattle.image.specs.Taking.{flag_at, short_at, long_at, u16, u32, u64, flag, short, long, zoned, body_at as recordBodyAt, record_at}
+use Rattle.image.specs.Taking.{flag_at, short_at, long_at, u16, u32, u64, flag, short, long, zoned, body_at as record_body_at, record_at}
 use Rattle.image.specs.Whole.{Whole, accepted, refused, bytes, in_room}
 use Rattle.image.specs.Out as out
 use Rattle.image.specs.Out.{Written, written, row}
@@ -83,6 +83,6 @@ found (Example.file s w v) = s whole whole_of s 24 incomplete incomplete_of s 24
 -- They come to what it says.
 pub starred : map found table ≡ table
 unfolding whole_of incomplete_of header_at element_at body_at zeros_at in_room bytes bytes_of size reading.value reading.items reading.pair reading.pairs reading.follow
-    fields_at marker_of u8_at u16_at u24_at u32_at u64_at text_at str_at tag_at ends flag_at short_at long_at u16 u32 u64 flag short long zoned recordBodyAt record_at
+    fields_at marker_of u8_at u16_at u24_at u32_at u64_at text_at str_at tag_at ends flag_at short_at long_at u16 u32 u64 flag short long zoned record_body_at record_at
     out.settled out.ended out.bytes row writing.value writing.items writing.pairs writing.dense writing.rest writing.value_at
 starred = refl

@@ -1,5 +1,5 @@
 -- What an input is, by the grammars, and what an image holds.
-use Rattle.wire.specs.Kit.{ℕ, ◌≤◌, ◌<◌, ◌⊎◌, List, ◌++◌, Bool, length, take}
+use Rattle.std.specs.Prelude.{ℕ, ◌≤◌, ◌<◌, ◌⊎◌, List, ◌++◌, Bool, length, take}
 use Rattle.wire.specs.Number.{Bytes}
 use Rattle.wire.specs.Limit as limit
 use Rattle.image.specs.Due.{Lacks}
