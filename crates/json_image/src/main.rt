@@ -1,31 +1,49 @@
 // Prints the value that an image holds as JSON: reads the image's length in four bytes, the image, and the text that its texts stand in. So what no reading
 // makes is tried, too: values without a key, and dates without a zone.
+#![tactic(auto)]
+
+ghost use Rattle.std.specs.Prelude.{◌≤◌, length, IfOk};
+
 use figures::page::{Page, end, word};
 use index::make::make_index;
-use json::tree::tree;
-use libc::STDIN_FILENO;
+use std::io;
+use std::io::{Read, Write};
+use to_json::tree::tree;
 use wire::answer::{ACCEPTED, NO_ROOM};
 use wire::cursor::{Cursor, U32};
 use wire::text::part;
 
-fn value(page: &mut Page, image: &[u8], text: &[u8], index: &mut [u8]) {
-    let mut used: usize = 0;
+// How many bytes are read at most.
+const ROOM: usize = 65_536;
+
+fn read_some(from: &mut impl Read, buffer: &mut [u8]) -> io::Result<usize>
+    ensures { IfOk result (λ n. n ≤ length buffer.new) }
+{
+    from.read(buffer)
+}
+
+// Reads until the buffer is full or the input ends.
+fn read_all(from: &mut impl Read, buffer: &mut [u8]) -> io::Result<usize> {
+    let mut done: usize = 0;
+    while done < buffer.len() {
+        let n = read_some(from, &mut buffer[done..])?;
+        if n == 0 {
+            return Ok(done);
+        }
+        done += n;
+    }
+    Ok(done)
+}
+
+fn value(page: &mut impl Write, image: &[u8], text: &[u8], index: &mut [u8]) -> io::Result<()> {
     let made = make_index(image, text, index);
     if made.answer == ACCEPTED || made.answer == NO_ROOM {
-        tree(
-            page,
-            &mut used,
-            text,
-            image,
-            index,
-            made.answer == NO_ROOM,
-            0,
-        );
+        tree(page, text, image, index, made.answer == NO_ROOM, 0)?;
     } else {
-        word(page, &mut used, b"no tree");
+        word(page, b"no tree")?;
     }
-    word(page, &mut used, b"\n");
-    end(page, used);
+    word(page, b"\n")?;
+    end(page)
 }
 
 // The text is what stands behind the image.
@@ -38,7 +56,7 @@ fn behind(row: &[u8], place: usize, length: usize) -> &[u8] {
     part(row, 0, 0)
 }
 
-fn show(page: &mut Page, row: &[u8], index: &mut [u8]) {
+fn show(page: &mut impl Write, row: &[u8], index: &mut [u8]) -> io::Result<()> {
     if let U32::Got(n, c) = (Cursor { at: 0 }).be_u32(row) {
         let length = n as usize;
         value(
@@ -46,15 +64,16 @@ fn show(page: &mut Page, row: &[u8], index: &mut [u8]) {
             part(row, c.at, length),
             behind(row, c.at, length),
             index,
-        );
+        )?;
     }
+    Ok(())
 }
 
 // The index has room for 64 keys: past those, objects are told as lists of their pairs.
-fn main() {
-    let mut page = [0u8; 4096];
-    let mut row = io::large_buffer();
+fn main(rt: HostRuntime) -> io::Result<()> {
+    let mut page = Page::onto(rt.stdout());
+    let mut row = [0u8; ROOM];
     let mut index = [0u8; 832];
-    let n = io::read_full(STDIN_FILENO, &mut row);
-    show(&mut page, &row[..n], &mut index);
+    let n = read_all(&mut rt.stdin(), &mut row)?;
+    show(&mut page, part(&row, 0, n), &mut index)
 }

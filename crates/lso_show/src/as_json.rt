@@ -10,8 +10,10 @@ use image::reading::{Reading, Step};
 use image::record::Record;
 use image::taking::{Taken, record_at};
 use index::make::make_index;
-use json::document;
-use json::tree::tree;
+use std::io;
+use std::io::Write;
+use to_json::document;
+use to_json::tree::tree;
 use wire::answer::{ACCEPTED, NOT_RIGHT, NOT_WHOLE, OVER_LIMIT};
 use wire::cursor::Cursor;
 use wire::text::part;
@@ -20,7 +22,7 @@ use wire::text::part;
 const ITEM: usize = 2;
 
 // What an input is to be read as.
-#[derive(Drop)]
+#[derive(Clone, Copy)]
 pub enum Kind {
     File,
     Packet,
@@ -29,34 +31,45 @@ pub enum Kind {
     Unknown,
 }
 
-// Why and where goes onto a page of its own, and is quoted from there.
-fn told(page: &mut Page, used: &mut usize, other: &mut Page, input: &[u8], from: Spot, r: Reading) {
-    let mut length: usize = 0;
-    words(other, &mut length, input, from, r);
-    document::reason(page, used, part(other, 0, length));
+// Why and where goes onto a page of its own: what it holds at the end, and how many bytes that is.
+fn told<W: Write>(
+    page: &mut Page<W>,
+    input: &[u8],
+    from: Spot,
+    r: Reading,
+) -> io::Result<([u8; 4096], usize)> {
+    let mut other = Page::onto(page.beneath());
+    words(&mut other, input, from, r)?;
+    Ok(other.held())
 }
 
-fn reason(page: &mut Page, used: &mut usize, input: &[u8], from: Spot, r: Reading) {
-    let mut other = [0u8; 4096];
-    told(page, used, &mut other, input, from, r);
+// And is quoted from there.
+fn reason<W: Write>(page: &mut Page<W>, input: &[u8], from: Spot, r: Reading) -> io::Result<()> {
+    let (text, length) = told(page, input, from, r)?;
+    document::reason(page, part(&text, 0, length))
 }
 
 // Too long an input is refused at no place.
-fn refused(page: &mut Page, used: &mut usize, input: &[u8], from: Spot, r: Reading) {
-    document::refused(page, used, r.answer);
+fn refused<W: Write>(page: &mut Page<W>, input: &[u8], from: Spot, r: Reading) -> io::Result<()> {
+    document::refused(page, r.answer)?;
     if r.answer != OVER_LIMIT {
-        document::place(page, used, b"place", r.used);
+        document::place(page, b"place", r.used)?;
     }
-    reason(page, used, input, from, r);
+    reason(page, input, from, r)
 }
 
 // A file's end that can't be read, from a place on.
-fn unread(page: &mut Page, used: &mut usize, input: &[u8], image: &mut [u8], place: usize) {
+fn unread<W: Write>(
+    page: &mut Page<W>,
+    input: &[u8],
+    image: &mut [u8],
+    place: usize,
+) -> io::Result<()> {
     let r = not_right(wrong_in(input, image, place));
-    document::refused(page, used, r.answer);
-    document::place(page, used, b"place", r.used);
-    document::place(page, used, b"unreadFrom", place);
-    reason(page, used, input, of_file(), r);
+    document::refused(page, r.answer)?;
+    document::place(page, b"place", r.used)?;
+    document::place(page, b"unreadFrom", place)?;
+    reason(page, input, of_file(), r)
 }
 
 // How much of a buffer the index of an image takes at most; the rest need not be cleared.
@@ -76,28 +89,33 @@ fn not_indexed(input: &[u8], image: &[u8], index: &mut [u8]) -> bool {
     made.answer != ACCEPTED
 }
 
-fn value(page: &mut Page, used: &mut usize, input: &[u8], image: &[u8], index: &mut [u8]) {
+fn value(page: &mut impl Write, input: &[u8], image: &[u8], index: &mut [u8]) -> io::Result<()> {
     let room = room_of(image.len(), index.len());
     let listed = not_indexed(input, image, &mut index[..room]);
-    tree(page, used, input, image, index, listed, ITEM);
+    tree(page, input, image, index, listed, ITEM)
 }
 
-fn pairs(page: &mut Page, used: &mut usize, input: &[u8], image: &[u8], index: &mut [u8]) {
+fn pairs(page: &mut impl Write, input: &[u8], image: &[u8], index: &mut [u8]) -> io::Result<()> {
     let listed = not_indexed(input, image, index);
-    document::file(page, used, input, image, index, listed);
+    document::file(page, input, image, index, listed)
 }
 
-fn file(page: &mut Page, used: &mut usize, input: &[u8], image: &mut [u8], index: &mut [u8]) {
-    document::begin(page, used, b"lso");
+fn file<W: Write>(
+    page: &mut Page<W>,
+    input: &[u8],
+    image: &mut [u8],
+    index: &mut [u8],
+) -> io::Result<()> {
+    document::begin(page, b"lso")?;
     let r = lso::read::parse_incomplete(input, image);
     if r.answer != ACCEPTED {
-        refused(page, used, input, of_file(), r);
-        return;
+        return refused(page, input, of_file(), r);
     }
-    pairs(page, used, input, part(image, 0, r.made), index);
+    pairs(page, input, part(image, 0, r.made), index)?;
     if r.used < input.len() {
-        unread(page, used, input, image, r.used);
+        unread(page, input, image, r.used)?;
     }
+    Ok(())
 }
 
 fn is_entry(r: Record) -> bool {
@@ -137,185 +155,189 @@ fn span(image: &[u8], from: usize, end: usize) -> &[u8] {
     }
 }
 
-fn head(page: &mut Page, used: &mut usize, input: &[u8], r: Record) {
+fn head(page: &mut impl Write, input: &[u8], r: Record) -> io::Result<()> {
     match r {
-        Record::Header(p, n, flag) => document::header(page, used, part(input, p, n), flag),
+        Record::Header(p, n, flag) => document::header(page, part(input, p, n), flag),
         Record::Message(p, n, q, m) => document::message(
             page,
-            used,
             part(input, p, n),
             part(input, q, m),
         ),
-        _ => {}
+        _ => Ok(()),
     }
 }
 
 // The entry whose record stands at a place of a packet's image; returns where the next one does.
 fn entry(
-    page: &mut Page,
-    used: &mut usize,
+    page: &mut impl Write,
     input: &[u8],
     image: &[u8],
     index: &mut [u8],
     at: usize,
     first: bool,
-) -> usize {
+) -> io::Result<usize> {
     match record_at(image, Cursor { at: at }) {
-        Taken::Bad => at,
+        Taken::Bad => Ok(at),
         Taken::Found(r, next) => {
             let end = value_end(image, next.at);
-            document::item(page, used, first);
-            head(page, used, input, r);
-            value(page, used, input, span(image, next.at, end), index);
-            word(page, used, b"}");
-            end
+            document::item(page, first)?;
+            head(page, input, r)?;
+            value(page, input, span(image, next.at, end), index)?;
+            word(page, b"}")?;
+            Ok(end)
         }
     }
 }
 
 fn entries(
-    page: &mut Page,
-    used: &mut usize,
+    page: &mut impl Write,
     input: &[u8],
     image: &[u8],
     index: &mut [u8],
     from: usize,
     count: u16,
-) -> usize {
+) -> io::Result<usize> {
     let mut at = from;
     let mut i: u16 = 0;
     while i < count {
-        at = entry(page, used, input, image, index, at, i == 0);
+        at = entry(page, input, image, index, at, i == 0)?;
         i += 1;
     }
-    document::list_end(page, used, 0 < count);
-    at
+    document::list_end(page, 0 < count)?;
+    Ok(at)
 }
 
-fn lists(page: &mut Page, used: &mut usize, input: &[u8], image: &[u8], index: &mut [u8]) {
+fn lists(page: &mut impl Write, input: &[u8], image: &[u8], index: &mut [u8]) -> io::Result<()> {
     if let Taken::Found(r, c) = record_at(image, Cursor { at: 0 }) {
         if let Record::Packet(headers, messages) = r {
-            document::list(page, used, b"headers");
-            let at = entries(page, used, input, image, index, c.at, headers);
-            document::list(page, used, b"messages");
-            entries(page, used, input, image, index, at, messages);
+            document::list(page, b"headers")?;
+            let at = entries(page, input, image, index, c.at, headers)?;
+            document::list(page, b"messages")?;
+            entries(page, input, image, index, at, messages)?;
         }
     }
+    Ok(())
 }
 
-fn packet(page: &mut Page, used: &mut usize, input: &[u8], image: &mut [u8], index: &mut [u8]) {
-    document::begin(page, used, b"packet");
+fn packet<W: Write>(
+    page: &mut Page<W>,
+    input: &[u8],
+    image: &mut [u8],
+    index: &mut [u8],
+) -> io::Result<()> {
+    document::begin(page, b"packet")?;
     let r = packet::read::parse_incomplete(input, image);
     if r.answer != ACCEPTED {
-        refused(page, used, input, of_packet(false), r);
-        return;
+        return refused(page, input, of_packet(false), r);
     }
-    lists(page, used, input, part(image, 0, r.made), index);
+    lists(page, input, part(image, 0, r.made), index)?;
     if r.used < input.len() {
-        refused(page, used, input, of_packet(false), not_right(r.used));
+        refused(page, input, of_packet(false), not_right(r.used))?;
     }
+    Ok(())
 }
 
-fn value_refused(
-    page: &mut Page,
-    used: &mut usize,
+fn value_refused<W: Write>(
+    page: &mut Page<W>,
     input: &[u8],
     at: usize,
     answer: u8,
     place: usize,
-) {
+) -> io::Result<()> {
     let r = Reading {
         answer: answer,
         used: place,
         made: 0,
     };
-    document::list_end(page, used, 0 < at);
-    refused(page, used, input, of_value(at), r);
+    document::list_end(page, 0 < at)?;
+    refused(page, input, of_value(at), r)
 }
 
 // One value, and where the next one begins: past the end, where there is none or it is refused.
-fn one_of_values(
-    page: &mut Page,
-    used: &mut usize,
+fn one_of_values<W: Write>(
+    page: &mut Page<W>,
     input: &[u8],
     image: &mut [u8],
     index: &mut [u8],
     at: usize,
-) -> usize {
+) -> io::Result<usize> {
     match parse_value(image, input, 0, Cursor { at: at }, 0) {
         Step::Stop(answer, place) => {
-            value_refused(page, used, input, at, answer, place);
-            input.len()
+            value_refused(page, input, at, answer, place)?;
+            Ok(input.len())
         }
         Step::Next(c, made) => {
-            document::item(page, used, at == 0);
-            value(page, used, input, part(image, 0, made), index);
+            document::item(page, at == 0)?;
+            value(page, input, part(image, 0, made), index)?;
             if input.len() <= c.at {
-                document::list_end(page, used, true);
+                document::list_end(page, true)?;
             }
-            c.at
+            Ok(c.at)
         }
     }
 }
 
 // There is one value at least, and a value has a byte at least.
-fn values(page: &mut Page, used: &mut usize, input: &[u8], image: &mut [u8], index: &mut [u8]) {
-    document::begin(page, used, b"values");
-    document::list(page, used, b"values");
-    let mut at = one_of_values(page, used, input, image, index, 0);
+fn values<W: Write>(
+    page: &mut Page<W>,
+    input: &[u8],
+    image: &mut [u8],
+    index: &mut [u8],
+) -> io::Result<()> {
+    document::begin(page, b"values")?;
+    document::list(page, b"values")?;
+    let mut at = one_of_values(page, input, image, index, 0)?;
     let mut turns = input.len();
     while 0 < turns && at < input.len() {
         turns -= 1;
-        at = one_of_values(page, used, input, image, index, at);
+        at = one_of_values(page, input, image, index, at)?;
     }
+    Ok(())
 }
 
 // An input that is refused by its first bytes.
-fn front(page: &mut Page, used: &mut usize, answer: u8, why: &[u8]) {
-    document::refused(page, used, answer);
-    document::place(page, used, b"place", 0);
-    document::reason(page, used, why);
+fn front(page: &mut impl Write, answer: u8, why: &[u8]) -> io::Result<()> {
+    document::refused(page, answer)?;
+    document::place(page, b"place", 0)?;
+    document::reason(page, why)
 }
 
-fn unknown(page: &mut Page, used: &mut usize, input: &[u8]) {
-    document::begin(page, used, b"unknown");
+fn unknown<W: Write>(page: &mut Page<W>, input: &[u8]) -> io::Result<()> {
+    document::begin(page, b"unknown")?;
     if input.len() == 0 {
-        front(page, used, NOT_WHOLE, b"the input is empty");
+        front(page, NOT_WHOLE, b"the input is empty")
     } else {
         front(
             page,
-            used,
             NOT_RIGHT,
             b"no LSO file, AMF packet or AMF0 value begins so",
-        );
+        )
     }
 }
 
-fn by_kind(
-    page: &mut Page,
-    used: &mut usize,
+fn by_kind<W: Write>(
+    page: &mut Page<W>,
     kind: Kind,
     input: &[u8],
     image: &mut [u8],
     index: &mut [u8],
-) {
+) -> io::Result<()> {
     match kind {
-        Kind::File => file(page, used, input, image, index),
-        Kind::Packet => packet(page, used, input, image, index),
-        Kind::Values => values(page, used, input, image, index),
-        Kind::Unknown => unknown(page, used, input),
+        Kind::File => file(page, input, image, index),
+        Kind::Packet => packet(page, input, image, index),
+        Kind::Values => values(page, input, image, index),
+        Kind::Unknown => unknown(page, input),
     }
 }
 
 // The index of each value is made in a buffer; where a value has more keys than there is room for, each of its objects is told as a list of its pairs.
-pub fn as_json(
-    page: &mut Page,
-    used: &mut usize,
+pub fn as_json<W: Write>(
+    page: &mut Page<W>,
     kind: Kind,
     input: &[u8],
     image: &mut [u8],
     index: &mut [u8],
-) {
-    by_kind(page, used, kind, input, image, index);
-    document::end(page, used);
+) -> io::Result<()> {
+    by_kind(page, kind, input, image, index)?;
+    document::end(page)
 }

@@ -16,7 +16,7 @@ const LAST_MARKER: u8 = 0x11;
 // How many arguments there are with a word and a file.
 const WITH_FILE: usize = 3;
 
-#[derive(Drop)]
+#[derive(Clone, Copy)]
 pub enum Form {
     // Whatever the input looks like.
     Any,

@@ -1,12 +1,16 @@
 // Shows an LSO file, an AMF packet or AMF0 values as lines that people can read: `lso_show FILE`, where `-` is standard input. A first word says what the input
 // is: `lso`, `packet`, `entries` (a packet by entry) or `value` (values one behind the other); where there is none it is guessed. `lso_show get FILE KEY..`
 // shows the one value of an LSO file, or of a lone value, to which the keys lead, and `lso_show json FILE` any of these as a JSON document.
+#![tactic(auto)]
+
 mod as_json;
 mod entries;
 mod form;
 mod get;
 mod tree;
 mod values;
+
+ghost use Rattle.std.specs.Prelude.{◌≤◌, length, IfOk};
 
 use amf0::read::{parse_single_element, parse_value};
 use as_json::{Kind, as_json};
@@ -16,7 +20,10 @@ use figures::page::{Page, end};
 use form::{Form, form_of, guess, is_json, is_standard_input, is_whole};
 use image::reading::{Reading, Step};
 use index::mark::SIZE;
-use libc::{STDERR_FILENO, STDIN_FILENO, STDOUT_FILENO};
+use std::env::FillError;
+use std::io::{ErrorKind, Read, Write};
+use std::rt::{Env, Runtime};
+use std::{fs, io, str};
 use wire::answer::{ACCEPTED, NOT_RIGHT, NOT_WHOLE};
 use wire::cursor::{Cursor, Text};
 use wire::limit::BYTES;
@@ -28,19 +35,13 @@ const ASKED: usize = BYTES + 1;
 // where an object has a key twice; else its pairs, with the ends of their objects, have four bytes each at least. There is one such buffer and no second: two
 // would be too much, too.
 const KEYS: usize = BYTES / 4;
+// How long an argument may be that names a file or says what it is.
+const WORD: usize = 4096;
 
-// How many bytes of a file were read, or that it can't be.
-#[derive(Drop)]
-enum Input {
-    Read(usize),
-    Unread,
-}
-
-fn usage() {
-    io::write_all(
-        STDOUT_FILENO,
-        b"usage: lso_show [lso | packet | entries | value] FILE, lso_show get FILE [KEY..], or lso_show json [lso | packet | value] FILE\n",
-    );
+fn usage(rt: &impl Print) -> io::Result<()> {
+    println!(rt;
+        "usage: lso_show [lso | packet | entries | value] FILE, lso_show get FILE [KEY..], or lso_show json [lso | packet | value] FILE"
+    )
 }
 
 // A file is read as far as it can be: what can't be read stands behind the bytes used.
@@ -90,70 +91,62 @@ fn wrong_in(input: &[u8], image: &mut [u8], at: usize) -> usize {
 }
 
 // A file's end that can't be read: what is wrong there, and where the reading ends before it.
-fn unread(page: &mut Page, used: &mut usize, input: &[u8], image: &mut [u8], place: usize) {
+fn unread(page: &mut impl Write, input: &[u8], image: &mut [u8], place: usize) -> io::Result<()> {
     let r = not_right(wrong_in(input, image, place));
-    refused(page, used, input, input, of_file(), r, 0);
+    refused(page, input, input, of_file(), r, 0)?;
     if place <= input.len() {
-        not_read(page, used, place, input.len() - place);
+        not_read(page, place, input.len() - place)?;
     }
+    Ok(())
 }
 
 // Bytes behind what was read: a whole reading refuses them.
 fn left_over(
-    page: &mut Page,
-    used: &mut usize,
+    page: &mut impl Write,
     form: Form,
     input: &[u8],
     image: &mut [u8],
     place: usize,
-) {
+) -> io::Result<()> {
     match form {
-        Form::File => unread(page, used, input, image, place),
-        Form::Keys(_) => unread(page, used, input, image, place),
-        _ => refused(
-            page,
-            used,
-            input,
-            input,
-            of_packet(false),
-            not_right(place),
-            0,
-        ),
+        Form::File => unread(page, input, image, place),
+        Form::Keys(_) => unread(page, input, image, place),
+        _ => refused(page, input, input, of_packet(false), not_right(place), 0),
     }
 }
 
 // The tree that was read, or the one value of it that is asked for.
 fn show_read(
-    page: &mut Page,
-    used: &mut usize,
+    page: &mut impl Write,
+    env: &impl Env,
     form: Form,
     input: &[u8],
     image: &[u8],
     index: &mut [u8],
-) {
+) -> io::Result<()> {
     match form {
-        Form::Keys(end) => get::get(page, used, input, image, index, end),
-        _ => tree::tree(page, used, input, image, first_depth(form)),
+        Form::Keys(end) => get::get(page, env, input, image, index, end),
+        _ => tree::tree(page, input, image, first_depth(form)),
     }
 }
 
 fn show_whole(
-    page: &mut Page,
-    used: &mut usize,
+    page: &mut impl Write,
+    env: &impl Env,
     form: Form,
     input: &[u8],
     image: &mut [u8],
     index: &mut [u8],
-) {
+) -> io::Result<()> {
     let r = parse(form, input, image);
     if r.answer != ACCEPTED {
-        refused(page, used, input, input, first_spot(form), r, 0);
-        return;
+        return refused(page, input, input, first_spot(form), r, 0);
     }
-    show_read(page, used, form, input, part(image, 0, r.made), index);
+    show_read(page, env, form, input, part(image, 0, r.made), index)?;
     if r.used < input.len() {
-        left_over(page, used, form, input, image, r.used);
+        left_over(page, form, input, image, r.used)?;
     }
+    Ok(())
 }
 
 // Keys lead into a lone value alone.
@@ -167,69 +160,66 @@ fn lone(input: &[u8], image: &mut [u8]) -> Reading {
 }
 
 fn show_of_value(
-    page: &mut Page,
-    used: &mut usize,
+    page: &mut impl Write,
+    env: &impl Env,
     input: &[u8],
     image: &mut [u8],
     index: &mut [u8],
     end: usize,
-) {
+) -> io::Result<()> {
     let r = lone(input, image);
     if r.answer == ACCEPTED {
-        get::get(page, used, input, part(image, 0, r.made), index, end);
+        get::get(page, env, input, part(image, 0, r.made), index, end)
     } else {
-        refused(page, used, input, input, of_value(0), r, 0);
+        refused(page, input, input, of_value(0), r, 0)
     }
 }
 
-fn unknown(page: &mut Page, used: &mut usize, input: &[u8]) {
+fn unknown(page: &mut impl Write, input: &[u8]) -> io::Result<()> {
     if input.len() == 0 {
-        refused_front(page, used, input, b"the input is empty", NOT_WHOLE);
+        refused_front(page, input, b"the input is empty", NOT_WHOLE)
     } else {
         refused_front(
             page,
-            used,
             input,
             b"no LSO file, AMF packet or AMF0 value begins so",
             NOT_RIGHT,
-        );
+        )
     }
 }
 
-fn show(
-    page: &mut Page,
-    used: &mut usize,
+fn show<W: Write>(
+    page: &mut Page<W>,
+    env: &impl Env,
     form: Form,
     input: &[u8],
     image: &mut [u8],
     index: &mut [u8],
-) {
+) -> io::Result<()> {
     match form {
-        Form::Unknown => unknown(page, used, input),
-        Form::Entries => entries::entries(page, used, input, image),
-        Form::Values => values::values(page, used, input, image),
-        Form::KeysOfValue(end) => show_of_value(page, used, input, image, index, end),
-        Form::JsonOf(kind) => as_json(page, used, kind, input, image, index),
-        _ => show_whole(page, used, form, input, image, index),
+        Form::Unknown => unknown(page, input),
+        Form::Entries => entries::entries(page, input, image),
+        Form::Values => values::values(page, input, image),
+        Form::KeysOfValue(end) => show_of_value(page, env, input, image, index, end),
+        Form::JsonOf(kind) => as_json(page, kind, input, image, index),
+        _ => show_whole(page, env, form, input, image, index),
     }
 }
 
-// What a guess took an input for, on standard error: of values, whose lines don't say it, and of what can't be read to its end.
-fn told(what: &[u8]) {
-    io::write_all(STDERR_FILENO, b"lso_show: taken for ");
-    io::write_all(STDERR_FILENO, what);
-    io::write_all(
-        STDERR_FILENO,
-        b"; a first word says otherwise: lso, packet, entries or value\n",
+// What a guess took an input for, on standard error: of values, whose lines don't say it, and of what can't be read to its end. The lines are shown all the
+// same where nobody can be told.
+fn told(rt: &impl Eprint, what: &str) {
+    let _ = eprintln!(rt;
+        "lso_show: taken for {what}; a first word says otherwise: lso, packet, entries or value"
     );
 }
 
-fn told_form(form: Form) {
+fn told_form(rt: &impl Eprint, form: Form) {
     match form {
-        Form::File => told(b"an LSO file"),
-        Form::Packet => told(b"an AMF packet"),
-        Form::Values => told(b"AMF0 values"),
-        _ => told(b"nothing that it knows"),
+        Form::File => told(rt, "an LSO file"),
+        Form::Packet => told(rt, "an AMF packet"),
+        Form::Values => told(rt, "AMF0 values"),
+        _ => told(rt, "nothing that it knows"),
     }
 }
 
@@ -240,11 +230,11 @@ fn is_shown(form: Form) -> bool {
     }
 }
 
-fn guessed(input: &[u8], image: &mut [u8]) -> Form {
+fn guessed(rt: &impl Eprint, input: &[u8], image: &mut [u8]) -> Form {
     let form = guess(input, image);
     let whole = is_whole(form, input, image);
     if 0 < input.len() && !(whole && is_shown(form)) {
-        told_form(form);
+        told_form(rt, form);
     }
     form
 }
@@ -267,152 +257,243 @@ fn kind_of(form: Form) -> Kind {
     }
 }
 
-fn settled(form: Form, input: &[u8], image: &mut [u8]) -> Form {
+fn settled(rt: &impl Eprint, form: Form, input: &[u8], image: &mut [u8]) -> Form {
     match form {
-        Form::Any => guessed(input, image),
+        Form::Any => guessed(rt, input, image),
         Form::Keys(end) => with_keys(guess(input, image), end),
         Form::Json => Form::JsonOf(kind_of(guess(input, image))),
         _ => form,
     }
 }
 
-// A page that is written out at the end.
-fn show_page(page: &mut Page, form: Form, input: &[u8], image: &mut [u8], index: &mut [u8]) {
-    let mut used: usize = 0;
-    show(page, &mut used, form, input, image, index);
-    end(page, used);
+// A page that is written out at the end. The index is of any length: so the proof makes no list of its bytes.
+fn show_page<const N: usize, W: Write>(
+    page: &mut Page<W>,
+    env: &impl Env,
+    form: Form,
+    input: &[u8],
+    image: &mut [u8],
+    index: &mut [u8; N],
+) -> io::Result<()> {
+    show(page, env, form, input, image, index)?;
+    end(page)
 }
 
-fn show_settled(form: Form, input: &[u8], image: &mut [u8]) {
-    let mut page = [0u8; 4096];
+fn show_settled(rt: &impl Runtime, form: Form, input: &[u8], image: &mut [u8]) -> io::Result<()> {
+    let mut page = Page::onto(io::writer(rt));
     let mut index = [0u8; SIZE * KEYS];
-    show_page(&mut page, form, input, image, &mut index);
+    show_page(&mut page, rt, form, input, image, &mut index)
 }
 
-fn show_input(form: Form, input: &[u8], image: &mut [u8]) {
-    let s = settled(form, input, image);
-    show_settled(s, input, image);
+fn show_input(rt: &impl Runtime, form: Form, input: &[u8], image: &mut [u8]) -> io::Result<()> {
+    let s = settled(rt, form, input, image);
+    show_settled(rt, s, input, image)
 }
 
-fn read_some(fd: i32, buffer: &mut [u8]) -> Input {
-    let got = libc::read(fd, buffer);
-    if got < 0 {
-        Input::Unread
-    } else {
-        Input::Read(io::count(got, buffer))
-    }
+fn read_some(from: &mut impl Read, buffer: &mut [u8]) -> io::Result<usize>
+    ensures { IfOk result (λ n. n ≤ length buffer.new) }
+{
+    from.read(buffer)
 }
 
 // Reads until the buffer is full or the file ends.
-fn read_all(fd: i32, buffer: &mut [u8]) -> Input {
+fn read_all(from: &mut impl Read, buffer: &mut [u8]) -> io::Result<usize> {
     let mut done: usize = 0;
     while done < buffer.len() {
-        match read_some(fd, &mut buffer[done..]) {
-            Input::Unread => {
-                return Input::Unread;
-            }
-            Input::Read(n) => {
-                if n == 0 {
-                    return Input::Read(done);
-                }
-                if buffer.len() - done < n {
-                    return Input::Unread;
-                }
-                done += n;
-            }
+        let n = read_some(from, &mut buffer[done..])?;
+        if n == 0 {
+            return Ok(done);
+        }
+        done += n;
+    }
+    Ok(done)
+}
+
+// Where an error's words end: std puts its number behind them.
+fn words_end(text: &[u8]) -> usize {
+    for (i, b) in text.iter().enumerate() {
+        if *b == b'(' && 0 < i {
+            return i - 1;
         }
     }
-    Input::Read(done)
+    text.len()
+}
+
+// Says on standard error why something can't be read.
+fn fail(rt: &impl Eprint, what: &str, error: io::Error) {
+    let mut said = io::Cursor::new([0u8; 256]);
+    let _ = write!(said, "{error}");
+    let text = part(said.get_ref(), 0, said.position() as usize);
+    if let Ok(words) = str::from_utf8(part(text, 0, words_end(text))) {
+        let _ = eprintln!(rt; "{what}: {words}");
+    }
 }
 
 // The input buffer has one byte more than a reader takes, which then says that there are too many.
-fn show_open(form: Form, fd: i32, path: &[u8], buffer: &mut [u8], image: &mut [u8]) {
-    match read_all(fd, buffer) {
-        Input::Read(n) => show_input(form, part(buffer, 0, n), image),
-        Input::Unread => os::fail(path),
+fn show_open(
+    rt: &impl Runtime,
+    form: Form,
+    from: &mut impl Read,
+    path: &str,
+    buffer: &mut [u8],
+    image: &mut [u8],
+) -> io::Result<()> {
+    match read_all(from, buffer) {
+        Ok(n) => show_input(rt, form, part(buffer, 0, n), image),
+        Err(e) => {
+            fail(rt, path, e);
+            Ok(())
+        }
     }
 }
 
-fn show_file(form: Form, path: &[u8], buffer: &mut [u8], image: &mut [u8]) {
-    let fd = os::open_read(path);
-    if fd < 0 {
-        os::fail(path);
-        return;
+fn show_file(
+    rt: &impl Runtime,
+    form: Form,
+    path: &str,
+    buffer: &mut [u8],
+    image: &mut [u8],
+) -> io::Result<()> {
+    match fs::open(rt, path) {
+        Ok(mut file) => show_open(rt, form, &mut file, path, buffer, image),
+        Err(e) => {
+            fail(rt, path, e);
+            Ok(())
+        }
     }
-    show_open(form, fd, path, buffer, image);
-    libc::close(fd);
+}
+
+fn show_path(
+    rt: &impl Runtime,
+    form: Form,
+    path: &str,
+    buffer: &mut [u8],
+    image: &mut [u8],
+) -> io::Result<()> {
+    if is_standard_input(path.as_bytes()) {
+        show_open(rt, form, &mut rt.reader(), "standard input", buffer, image)
+    } else {
+        show_file(rt, form, path, buffer, image)
+    }
+}
+
+// What Linux says of a name that is too long.
+const NAME_TOO_LONG: i32 = 36;
+
+// An argument as text; an error where it is longer than the buffer, or no text.
+fn word_at<'a>(env: &impl Env, i: usize, buffer: &'a mut [u8]) -> io::Result<&'a str> {
+    match env.arg(i, buffer) {
+        Ok(n) => match str::from_utf8(&buffer[..n]) {
+            Ok(word) => Ok(word),
+            Err(_) => Err(io::Error::from(ErrorKind::InvalidFilename)),
+        },
+        Err(_) => Err(io::Error::from_raw_os_error(NAME_TOO_LONG)),
+    }
 }
 
 // Shows the file that an argument names, or says why it can't be read.
-fn show_argument(form: Form, i: usize, buffer: &mut [u8], image: &mut [u8]) {
-    let mut path = io::buffer();
-    let n = os::arg(i, &mut path);
-    if os::errno() != 0 {
-        os::fail(b"FILE");
-        return;
-    }
-    if is_standard_input(&path[..n]) {
-        show_open(form, STDIN_FILENO, b"standard input", buffer, image);
-    } else {
-        show_file(form, &path[..n], buffer, image);
+fn show_argument(
+    rt: &impl Runtime,
+    form: Form,
+    i: usize,
+    buffer: &mut [u8],
+    image: &mut [u8],
+) -> io::Result<()> {
+    let mut word = [0u8; WORD];
+    match word_at(rt, i, &mut word) {
+        Ok(path) => show_path(rt, form, path, buffer, image),
+        Err(e) => {
+            fail(rt, "FILE", e);
+            Ok(())
+        }
     }
 }
 
 // The file behind a first word.
-fn show_as(form: Form, buffer: &mut [u8], image: &mut [u8]) {
+fn show_as(rt: &impl Runtime, form: Form, buffer: &mut [u8], image: &mut [u8]) -> io::Result<()> {
     match form {
-        Form::Unknown => usage(),
-        _ => show_argument(form, 2, buffer, image),
+        Form::Unknown => usage(rt),
+        _ => show_argument(rt, form, 2, buffer, image),
     }
 }
 
 // The file behind `json` and a second word.
-fn show_json_as(form: Form, buffer: &mut [u8], image: &mut [u8]) {
+fn show_json_as(
+    rt: &impl Runtime,
+    form: Form,
+    buffer: &mut [u8],
+    image: &mut [u8],
+) -> io::Result<()> {
     match form {
-        Form::File => show_argument(Form::JsonOf(Kind::File), 3, buffer, image),
-        Form::Packet => show_argument(Form::JsonOf(Kind::Packet), 3, buffer, image),
-        Form::Values => show_argument(Form::JsonOf(Kind::Values), 3, buffer, image),
-        _ => usage(),
+        Form::File => show_argument(rt, Form::JsonOf(Kind::File), 3, buffer, image),
+        Form::Packet => show_argument(rt, Form::JsonOf(Kind::Packet), 3, buffer, image),
+        Form::Values => show_argument(rt, Form::JsonOf(Kind::Values), 3, buffer, image),
+        _ => usage(rt),
     }
 }
 
-fn show_json(count: usize, buffer: &mut [u8], image: &mut [u8]) {
-    let mut second = io::buffer();
+fn show_json(
+    rt: &impl Runtime,
+    count: usize,
+    buffer: &mut [u8],
+    image: &mut [u8],
+) -> io::Result<()> {
+    let mut second = [0u8; WORD];
     if count == 3 {
-        show_argument(Form::Json, 2, buffer, image);
+        show_argument(rt, Form::Json, 2, buffer, image)
     } else if count == 4 {
-        let n = os::arg(2, &mut second);
-        let form = form_of(&second[..n], 3);
-        show_json_as(form, buffer, image);
+        match rt.arg(2, &mut second) {
+            Ok(n) => show_json_as(rt, form_of(&second[..n], 3), buffer, image),
+            Err(_) => usage(rt),
+        }
     } else {
-        usage();
+        usage(rt)
     }
 }
 
 // What the first of so many arguments says.
-fn show_by(word: &[u8], count: usize, buffer: &mut [u8], image: &mut [u8]) {
+fn show_by(
+    rt: &impl Runtime,
+    word: &[u8],
+    count: usize,
+    buffer: &mut [u8],
+    image: &mut [u8],
+) -> io::Result<()> {
     if is_json(word) {
-        show_json(count, buffer, image);
+        show_json(rt, count, buffer, image)
     } else {
-        show_as(form_of(word, count), buffer, image);
+        show_as(rt, form_of(word, count), buffer, image)
     }
 }
 
-fn show_asked(buffer: &mut [u8], image: &mut [u8]) {
-    let mut first = io::buffer();
-    let count = os::arg_count();
+// How many arguments there are, with the program's name.
+fn arg_count(env: &impl Env) -> usize {
+    let mut none = [0u8; 0];
+    for i in 0..usize::MAX {
+        if let Err(FillError::NotPresent) = env.arg(i, &mut none) {
+            return i;
+        }
+    }
+    usize::MAX
+}
+
+fn show_asked(rt: &impl Runtime, buffer: &mut [u8], image: &mut [u8]) -> io::Result<()> {
+    let mut first = [0u8; WORD];
+    let count = arg_count(rt);
     if count < 2 {
-        usage();
+        usage(rt)
     } else if count == 2 {
-        show_argument(Form::Any, 1, buffer, image);
+        show_argument(rt, Form::Any, 1, buffer, image)
     } else {
-        let n = os::arg(1, &mut first);
-        show_by(&first[..n], count, buffer, image);
+        match rt.arg(1, &mut first) {
+            Ok(n) => show_by(rt, &first[..n], count, buffer, image),
+            Err(_) => usage(rt),
+        }
     }
 }
 
-fn main() {
+fn main(rt: HostRuntime) -> io::Result<()> {
     let mut buffer = [0u8; ASKED];
     let mut image = [0u8; 3 * BYTES];
-    show_asked(&mut buffer, &mut image);
+    show_asked(&rt, &mut buffer, &mut image)
 }

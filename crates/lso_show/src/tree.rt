@@ -1,15 +1,17 @@
 // A tree image as lines: a value a line, indented by the containers that it stands in.
 use figures::date::date;
 use figures::double::number;
-use figures::page::{Page, amount, decimal, placed, quoted, spaces, word};
+use figures::page::{amount, decimal, placed, quoted, spaces, word};
 use image::record::Record;
 use image::taking::{Taken, record_at};
+use std::io;
+use std::io::Write;
 use wire::cursor::Cursor;
 use wire::text::part;
 
 // Where a walk through an image is: so many containers deep; of each that is a strict array how many values it has and how many of them are still to come,
 // and 0 of any other; and whether the line has begun with the key of the next value.
-#[derive(Drop)]
+#[derive(Clone, Copy)]
 struct Walk {
     depth: usize,
     count: [u32; 40],
@@ -55,10 +57,11 @@ fn closed(w: Walk) -> Walk {
     ended(r)
 }
 
-fn indented(page: &mut Page, used: &mut usize, w: Walk) {
+fn indented(page: &mut impl Write, w: Walk) -> io::Result<()> {
     if w.depth < 40 {
-        spaces(page, used, 2 * w.depth);
+        spaces(page, 2 * w.depth)?;
     }
+    Ok(())
 }
 
 // The number of a value in a strict array, from 0.
@@ -71,67 +74,68 @@ fn number_there(count: u32, left: u32) -> u64 {
 }
 
 // The beginning of a value's line: nothing behind its key, and in a strict array its number there.
-fn begun(page: &mut Page, used: &mut usize, w: Walk) {
+fn begun(page: &mut impl Write, w: Walk) -> io::Result<()> {
     if w.keyed {
-        return;
+        return Ok(());
     }
-    indented(page, used, w);
+    indented(page, w)?;
     let depth = w.depth;
     if depth < 40 {
         if 0 < w.left[depth] {
-            decimal(page, used, number_there(w.count[depth], w.left[depth]));
-            word(page, used, b": ");
+            decimal(page, number_there(w.count[depth], w.left[depth]))?;
+            word(page, b": ")?;
         }
     }
+    Ok(())
 }
 
 // The words of a value.
-fn described(page: &mut Page, used: &mut usize, input: &[u8], r: Record) {
+fn described(page: &mut impl Write, input: &[u8], r: Record) -> io::Result<()> {
     match r {
         Record::Number(bits) => {
-            word(page, used, b"number ");
-            number(page, used, bits);
+            word(page, b"number ")?;
+            number(page, bits)
         }
         Record::Boolean(b) => {
             if b {
-                word(page, used, b"boolean true");
+                word(page, b"boolean true")
             } else {
-                word(page, used, b"boolean false");
+                word(page, b"boolean false")
             }
         }
         Record::Text(p, n) => {
-            word(page, used, b"string ");
-            placed(page, used, input, p, n);
+            word(page, b"string ")?;
+            placed(page, input, p, n)
         }
-        Record::Object => word(page, used, b"object"),
-        Record::Null => word(page, used, b"null"),
-        Record::Undefined => word(page, used, b"undefined"),
+        Record::Object => word(page, b"object"),
+        Record::Null => word(page, b"null"),
+        Record::Undefined => word(page, b"undefined"),
         Record::Reference(n) => {
-            word(page, used, b"reference ");
-            decimal(page, used, n as u64);
+            word(page, b"reference ")?;
+            decimal(page, n as u64)
         }
         Record::EcmaArray(n) => {
-            word(page, used, b"ECMA array, length ");
-            decimal(page, used, n as u64);
+            word(page, b"ECMA array, length ")?;
+            decimal(page, n as u64)
         }
         Record::StrictArray(n) => {
-            word(page, used, b"strict array of ");
-            decimal(page, used, n as u64);
+            word(page, b"strict array of ")?;
+            decimal(page, n as u64)
         }
         Record::Date(bits, _, zone) => {
-            word(page, used, b"date ");
-            date(page, used, bits, zone);
+            word(page, b"date ")?;
+            date(page, bits, zone)
         }
-        Record::Unsupported => word(page, used, b"unsupported"),
+        Record::Unsupported => word(page, b"unsupported"),
         Record::Xml(p, n) => {
-            word(page, used, b"XML ");
-            placed(page, used, input, p, n);
+            word(page, b"XML ")?;
+            placed(page, input, p, n)
         }
         Record::TypedObject(p, n) => {
-            word(page, used, b"typed object ");
-            placed(page, used, input, p, n);
+            word(page, b"typed object ")?;
+            placed(page, input, p, n)
         }
-        _ => word(page, used, b"no value"),
+        _ => word(page, b"no value"),
     }
 }
 
@@ -146,105 +150,102 @@ fn behind(w: Walk, r: Record) -> Walk {
     }
 }
 
-fn value(page: &mut Page, used: &mut usize, input: &[u8], r: Record, w: Walk) -> Walk {
-    begun(page, used, w);
-    described(page, used, input, r);
-    word(page, used, b"\n");
+fn value(page: &mut impl Write, input: &[u8], r: Record, w: Walk) -> io::Result<Walk> {
+    begun(page, w)?;
+    described(page, input, r)?;
+    word(page, b"\n")?;
     let mut next = behind(w, r);
     next.keyed = false;
-    next
+    Ok(next)
 }
 
-fn key(page: &mut Page, used: &mut usize, text: &[u8], w: Walk) -> Walk {
-    indented(page, used, w);
-    quoted(page, used, text);
-    word(page, used, b": ");
+fn key(page: &mut impl Write, text: &[u8], w: Walk) -> io::Result<Walk> {
+    indented(page, w)?;
+    quoted(page, text)?;
+    word(page, b": ")?;
     let mut next = w;
     next.keyed = true;
-    next
+    Ok(next)
 }
 
-fn packet(page: &mut Page, used: &mut usize, headers: u16, messages: u16) {
-    word(page, used, b"AMF packet, headers ");
-    decimal(page, used, headers as u64);
-    word(page, used, b", messages ");
-    decimal(page, used, messages as u64);
-    word(page, used, b"\n");
+fn packet(page: &mut impl Write, headers: u16, messages: u16) -> io::Result<()> {
+    word(page, b"AMF packet, headers ")?;
+    decimal(page, headers as u64)?;
+    word(page, b", messages ")?;
+    decimal(page, messages as u64)?;
+    word(page, b"\n")
 }
 
 pub fn header(
-    page: &mut Page,
-    used: &mut usize,
+    page: &mut impl Write,
     input: &[u8],
     place: usize,
     length: usize,
     flag: bool,
-) {
-    word(page, used, b"  header ");
-    placed(page, used, input, place, length);
+) -> io::Result<()> {
+    word(page, b"  header ")?;
+    placed(page, input, place, length)?;
     if flag {
-        word(page, used, b", must understand: true\n");
+        word(page, b", must understand: true\n")
     } else {
-        word(page, used, b", must understand: false\n");
+        word(page, b", must understand: false\n")
     }
 }
 
 // The places and lengths of the target and the response.
 pub fn message(
-    page: &mut Page,
-    used: &mut usize,
+    page: &mut impl Write,
     input: &[u8],
     p: usize,
     n: usize,
     q: usize,
     m: usize,
-) {
-    word(page, used, b"  message to ");
-    placed(page, used, input, p, n);
-    word(page, used, b", response ");
-    placed(page, used, input, q, m);
-    word(page, used, b"\n");
+) -> io::Result<()> {
+    word(page, b"  message to ")?;
+    placed(page, input, p, n)?;
+    word(page, b", response ")?;
+    placed(page, input, q, m)?;
+    word(page, b"\n")
 }
 
 // One record: a line, or the key that begins one, or the end of a container.
-fn record(page: &mut Page, used: &mut usize, input: &[u8], r: Record, w: Walk) -> Walk {
+fn record(page: &mut impl Write, input: &[u8], r: Record, w: Walk) -> io::Result<Walk> {
     match r {
-        Record::Key(p, n) => key(page, used, part(input, p, n), w),
-        Record::ObjectEnd => closed(w),
+        Record::Key(p, n) => key(page, part(input, p, n), w),
+        Record::ObjectEnd => Ok(closed(w)),
         Record::Packet(headers, messages) => {
-            packet(page, used, headers, messages);
-            w
+            packet(page, headers, messages)?;
+            Ok(w)
         }
         Record::Header(p, n, flag) => {
-            header(page, used, input, p, n, flag);
-            w
+            header(page, input, p, n, flag)?;
+            Ok(w)
         }
         Record::Message(p, n, q, m) => {
-            message(page, used, input, p, n, q, m);
-            w
+            message(page, input, p, n, q, m)?;
+            Ok(w)
         }
         Record::Lso(stored, p, n) => {
-            word(page, used, b"LSO file ");
-            placed(page, used, input, p, n);
-            word(page, used, b", stored length ");
-            amount(page, used, stored as u64, b" byte");
-            word(page, used, b"\n");
-            w
+            word(page, b"LSO file ")?;
+            placed(page, input, p, n)?;
+            word(page, b", stored length ")?;
+            amount(page, stored as u64, b" byte")?;
+            word(page, b"\n")?;
+            Ok(w)
         }
-        _ => value(page, used, input, r, w),
+        _ => value(page, input, r, w),
     }
 }
 
 // The records of an image from a place on, whose values begin so deep; where one value is asked for, they end with it. A record has one byte at least.
 fn records(
-    page: &mut Page,
-    used: &mut usize,
+    page: &mut impl Write,
     input: &[u8],
     image: &[u8],
     place: usize,
     depth: usize,
     one: bool,
-) {
+) -> io::Result<()> {
     let mut w = Walk {
         depth: depth,
         count: [0u32; 40],
@@ -257,24 +258,25 @@ fn records(
         turns -= 1;
         match record_at(image, Cursor { at: at }) {
             Taken::Bad => {
-                return;
+                return Ok(());
             }
             Taken::Found(r, next) => {
-                w = record(page, used, input, r, w);
+                w = record(page, input, r, w)?;
                 at = next.at;
             }
         }
         if one && w.depth == depth {
-            return;
+            return Ok(());
         }
     }
+    Ok(())
 }
 
-pub fn tree(page: &mut Page, used: &mut usize, input: &[u8], image: &[u8], depth: usize) {
-    records(page, used, input, image, 0, depth, false);
+pub fn tree(page: &mut impl Write, input: &[u8], image: &[u8], depth: usize) -> io::Result<()> {
+    records(page, input, image, 0, depth, false)
 }
 
 // The value whose record stands at a place, by itself: a leaf ends with its record, and a container where the walk comes out of it.
-pub fn value_at(page: &mut Page, used: &mut usize, input: &[u8], image: &[u8], place: usize) {
-    records(page, used, input, image, place, 0, true);
+pub fn value_at(page: &mut impl Write, input: &[u8], image: &[u8], place: usize) -> io::Result<()> {
+    records(page, input, image, place, 0, true)
 }

@@ -27,19 +27,22 @@
 //         eight bytes each)
 //
 // Where a reading or a cut is refused, `used` is the place of the refusal. A second row of 0D, 0F or 20 that is too short prints `over` too.
+#![tactic(auto)]
+
 mod output;
 
-ghost use Rattle.std.specs.Prelude.{◌<◌, ◌≤◌};
+ghost use Rattle.std.specs.Prelude.{◌<◌, ◌≤◌, IfOk};
 
 use image::building::{Laying, put_numbers};
 use image::reading::Reading;
 use image::writing::Writing;
 use index::find::{Way, find};
 use index::make::{Indexing, make_index};
-use libc::STDIN_FILENO;
 use output::{number, row, word};
 use packet::entry::{Cutting, Found, cut, nth, parse_span};
 use packet::head::Entry;
+use std::io;
+use std::io::{ErrorKind, Read, Write};
 use wire::bytes::write_bytes;
 use wire::cursor::{Cursor, U32, U64};
 use wire::limit::{BYTES, IMAGE};
@@ -50,66 +53,81 @@ const UNREAD: u8 = 0xA5;
 // And in every byte of a lent output before a writing.
 const UNWRITTEN: u8 = 0x5A;
 
-#[derive(Drop)]
+#[derive(Clone, Copy)]
 enum Number {
     Is(usize),
     End,
 }
 
 // A row that was read: its length, or that the buffer can't hold it, or that the input ended before it did.
-#[derive(Drop)]
+#[derive(Clone, Copy)]
 enum Row {
     Held(usize),
     Over,
     End,
 }
 
-fn read_number() -> Number {
+// Reads until the buffer is full, and says whether it is: an input that ends before has no more to read.
+fn is_read(input: &mut impl Read, buffer: &mut [u8]) -> io::Result<bool> {
+    match input.read_exact(buffer) {
+        Ok(()) => Ok(true),
+        Err(e) => {
+            if e.kind() == ErrorKind::UnexpectedEof {
+                Ok(false)
+            } else {
+                Err(e)
+            }
+        }
+    }
+}
+
+fn read_number(input: &mut impl Read) -> io::Result<Number> {
     let mut four = [0u8; 4];
-    if io::read_full(STDIN_FILENO, &mut four) < 4 {
-        return Number::End;
+    if !is_read(input, &mut four)? {
+        return Ok(Number::End);
     }
     let c = Cursor { at: 0 };
     match c.be_u32(&four) {
-        U32::Got(n, _) => Number::Is(n as usize),
-        U32::Stop(_, _) => Number::End,
+        U32::Got(n, _) => Ok(Number::Is(n as usize)),
+        U32::Stop(_, _) => Ok(Number::End),
     }
 }
 
 // Reads some of the `left` bytes and drops them: how many are left then.
-fn skip_some(left: usize) -> usize
+fn skip_some(input: &mut impl Read, left: usize) -> io::Result<usize>
     requires { 0 < left }
-    ensures { result < left }
+    ensures { IfOk result (λ n. n < left) }
 {
-    let mut chunk = io::large_buffer();
+    let mut chunk = [0u8; 65536];
     if left < 65536 {
-        io::read_full(STDIN_FILENO, &mut chunk[..left]);
-        return 0;
+        is_read(input, &mut chunk[..left])?;
+        return Ok(0);
     }
-    io::read_full(STDIN_FILENO, &mut chunk);
-    left - 65536
+    is_read(input, &mut chunk)?;
+    Ok(left - 65536)
 }
 
-fn skip(n: usize) {
+fn skip(input: &mut impl Read, n: usize) -> io::Result<()> {
     let mut left = n;
     while 0 < left {
-        left = skip_some(left);
+        left = skip_some(input, left)?;
     }
+    Ok(())
 }
 
-fn read_row(buffer: &mut [u8]) -> Row {
-    match read_number() {
-        Number::End => Row::End,
+fn read_row(input: &mut impl Read, buffer: &mut [u8]) -> io::Result<Row> {
+    match read_number(input)? {
+        Number::End => Ok(Row::End),
         Number::Is(n) => {
             if n <= buffer.len() {
-                if io::read_full(STDIN_FILENO, &mut buffer[..n]) < n {
-                    Row::End
+                if is_read(input, &mut buffer[..n])? {
+                    Ok(Row::Held(n))
                 } else {
-                    Row::Held(n)
+                    Ok(Row::End)
                 }
             } else {
-                skip(n);
-                Row::Over
+                skip(input, n)?;
+                Ok(Row::Over)
             }
         }
     }
@@ -124,81 +142,111 @@ fn fill(buffer: &mut [u8], b: u8) {
 }
 
 // What a reading returned, and the image that it left.
-fn tell_reading(r: Reading, image: &[u8]) {
-    number(r.answer as usize);
-    word(b" ");
-    number(r.used);
-    word(b" ");
-    number(r.made);
-    word(b" ");
-    row(image);
-    word(b"\n");
+fn tell_reading(lines: &mut impl Write, r: Reading, image: &[u8]) -> io::Result<()> {
+    number(lines, r.answer as usize)?;
+    word(lines, b" ")?;
+    number(lines, r.used)?;
+    word(lines, b" ")?;
+    number(lines, r.made)?;
+    word(lines, b" ")?;
+    row(lines, image)?;
+    word(lines, b"\n")
 }
 
 // What a writing returned, and the output that it left.
-fn tell_writing(w: Writing, out: &[u8]) {
-    number(w.answer as usize);
-    word(b" ");
-    number(w.count);
-    word(b" ");
-    row(out);
-    word(b"\n");
+fn tell_writing(lines: &mut impl Write, w: Writing, out: &[u8]) -> io::Result<()> {
+    number(lines, w.answer as usize)?;
+    word(lines, b" ")?;
+    number(lines, w.count)?;
+    word(lines, b" ")?;
+    row(lines, out)?;
+    word(lines, b"\n")
 }
 
-fn read_value(input: &[u8], image: &mut [u8]) {
+fn read_value(lines: &mut impl Write, input: &[u8], image: &mut [u8]) -> io::Result<()> {
     fill(image, UNREAD);
-    tell_reading(amf0::read::parse_single_element(input, image), image);
+    tell_reading(lines, amf0::read::parse_single_element(input, image), image)
 }
 
-fn write_value(image: &[u8], text: &[u8], out: &mut [u8]) {
+fn write_value(
+    lines: &mut impl Write,
+    image: &[u8],
+    text: &[u8],
+    out: &mut [u8],
+) -> io::Result<()> {
     fill(out, UNWRITTEN);
-    tell_writing(amf0::write::write_value(image, text, out), out);
+    tell_writing(lines, amf0::write::write_value(image, text, out), out)
 }
 
-fn read_file(input: &[u8], image: &mut [u8]) {
+fn read_file(lines: &mut impl Write, input: &[u8], image: &mut [u8]) -> io::Result<()> {
     fill(image, UNREAD);
-    tell_reading(lso::read::parse(input, image), image);
+    tell_reading(lines, lso::read::parse(input, image), image)
 }
 
-fn read_part_of_file(input: &[u8], image: &mut [u8]) {
+fn read_part_of_file(lines: &mut impl Write, input: &[u8], image: &mut [u8]) -> io::Result<()> {
     fill(image, UNREAD);
-    tell_reading(lso::read::parse_incomplete(input, image), image);
+    tell_reading(lines, lso::read::parse_incomplete(input, image), image)
 }
 
-fn write_file(image: &[u8], text: &[u8], out: &mut [u8]) {
+fn write_file(lines: &mut impl Write, image: &[u8], text: &[u8], out: &mut [u8]) -> io::Result<()> {
     fill(out, UNWRITTEN);
-    tell_writing(lso::write::write_to_bytes(image, text, out), out);
+    tell_writing(lines, lso::write::write_to_bytes(image, text, out), out)
 }
 
-fn read_packet(input: &[u8], image: &mut [u8]) {
+fn read_packet(lines: &mut impl Write, input: &[u8], image: &mut [u8]) -> io::Result<()> {
     fill(image, UNREAD);
-    tell_reading(packet::read::parse(input, image), image);
+    tell_reading(lines, packet::read::parse(input, image), image)
 }
 
-fn read_part_of_packet(input: &[u8], image: &mut [u8]) {
+fn read_part_of_packet(lines: &mut impl Write, input: &[u8], image: &mut [u8]) -> io::Result<()> {
     fill(image, UNREAD);
-    tell_reading(packet::read::parse_incomplete(input, image), image);
+    tell_reading(lines, packet::read::parse_incomplete(input, image), image)
 }
 
-fn write_packet(image: &[u8], text: &[u8], exact: bool, out: &mut [u8]) {
+fn write_packet(
+    lines: &mut impl Write,
+    image: &[u8],
+    text: &[u8],
+    exact: bool,
+    out: &mut [u8],
+) -> io::Result<()> {
     fill(out, UNWRITTEN);
-    tell_writing(packet::write::write_to_bytes(image, text, exact, out), out);
+    tell_writing(
+        lines,
+        packet::write::write_to_bytes(image, text, exact, out),
+        out,
+    )
 }
 
-fn read_entry(input: &[u8], number: usize, image: &mut [u8]) {
+fn read_entry(
+    lines: &mut impl Write,
+    input: &[u8],
+    number: usize,
+    image: &mut [u8],
+) -> io::Result<()> {
     fill(image, UNREAD);
-    tell_reading(packet::entry::parse_entry(input, number, image), image);
+    tell_reading(
+        lines,
+        packet::entry::parse_entry(input, number, image),
+        image,
+    )
 }
 
 // The value at a place of a packet; `length` has its length in four bytes.
-fn read_span(input: &[u8], place: usize, length: &[u8], image: &mut [u8]) {
+fn read_span(
+    lines: &mut impl Write,
+    input: &[u8],
+    place: usize,
+    length: &[u8],
+    image: &mut [u8],
+) -> io::Result<()> {
     let c = Cursor { at: 0 };
     match c.be_u32(length) {
         U32::Got(n, _) => {
             fill(image, UNREAD);
-            tell_reading(parse_span(input, place, n as usize, image), image);
+            tell_reading(lines, parse_span(input, place, n as usize, image), image)
         }
-        U32::Stop(_, _) => word(b"over\n"),
+        U32::Stop(_, _) => word(lines, b"over\n"),
     }
 }
 
@@ -216,123 +264,132 @@ fn unread_entry() -> Entry {
     }
 }
 
-fn tell_cutting(r: Cutting) {
-    number(r.answer as usize);
-    word(b" ");
-    number(r.used);
-    word(b" ");
-    number(r.count);
+fn tell_cutting(lines: &mut impl Write, r: Cutting) -> io::Result<()> {
+    number(lines, r.answer as usize)?;
+    word(lines, b" ")?;
+    number(lines, r.used)?;
+    word(lines, b" ")?;
+    number(lines, r.count)
 }
 
-fn tell_place(place: usize, length: usize) {
-    word(b".");
-    number(place);
-    word(b".");
-    number(length);
+fn tell_place(lines: &mut impl Write, place: usize, length: usize) -> io::Result<()> {
+    word(lines, b".")?;
+    number(lines, place)?;
+    word(lines, b".")?;
+    number(lines, length)
 }
 
-fn tell_entry(e: Entry) {
-    word(b" ");
-    number(e.kind as usize);
-    word(b".");
-    number(e.flag as usize);
-    tell_place(e.place1, e.length1);
-    tell_place(e.place2, e.length2);
-    tell_place(e.place, e.length);
+fn tell_entry(lines: &mut impl Write, e: Entry) -> io::Result<()> {
+    word(lines, b" ")?;
+    number(lines, e.kind as usize)?;
+    word(lines, b".")?;
+    number(lines, e.flag as usize)?;
+    tell_place(lines, e.place1, e.length1)?;
+    tell_place(lines, e.place2, e.length2)?;
+    tell_place(lines, e.place, e.length)
 }
 
 // The cut of a packet into a list of n entries.
-fn cut_packet(input: &[u8], n: usize)
+fn cut_packet(lines: &mut impl Write, input: &[u8], n: usize) -> io::Result<()>
     requires { n ≤ 4096 }
 {
     let z = unread_entry();
     let mut list = [z; 4096];
     let r = cut(input, &mut list[..n]);
-    tell_cutting(r);
+    tell_cutting(lines, r)?;
     let mut i = 0;
     while i < n {
         let e = list[i];
-        tell_entry(e);
+        tell_entry(lines, e)?;
         i += 1;
     }
-    word(b"\n");
+    word(lines, b"\n")
 }
 
-fn tell_found(found: Found) {
+fn tell_found(lines: &mut impl Write, found: Found) -> io::Result<()> {
     match found {
         Found::Is(e) => {
-            word(b"0 0");
-            tell_entry(e);
+            word(lines, b"0 0")?;
+            tell_entry(lines, e)?;
         }
         Found::Stop(a, place) => {
-            number(a as usize);
-            word(b" ");
-            number(place);
-            word(b" 0.0.0.0.0.0.0.0");
+            number(lines, a as usize)?;
+            word(lines, b" ")?;
+            number(lines, place)?;
+            word(lines, b" 0.0.0.0.0.0.0.0")?;
         }
     }
-    word(b"\n");
+    word(lines, b"\n")
 }
 
-fn name_text(input: &[u8], place: usize, length: usize) {
+fn name_text(lines: &mut impl Write, input: &[u8], place: usize, length: usize) -> io::Result<()> {
     if wire::text::inside(input, place, length) {
-        word(b"1 ");
+        word(lines, b"1 ")?;
     } else {
-        word(b"0 ");
+        word(lines, b"0 ")?;
     }
-    row(wire::text::part(input, place, length));
-    word(b"\n");
+    row(lines, wire::text::part(input, place, length))?;
+    word(lines, b"\n")
 }
 
 // What an indexing returned, and the index that it left.
-fn tell_indexing(r: Indexing, index: &[u8]) {
-    number(r.answer as usize);
-    word(b" ");
-    number(r.count);
-    word(b" ");
-    row(index);
-    word(b"\n");
+fn tell_indexing(lines: &mut impl Write, r: Indexing, index: &[u8]) -> io::Result<()> {
+    number(lines, r.answer as usize)?;
+    word(lines, b" ")?;
+    number(lines, r.count)?;
+    word(lines, b" ")?;
+    row(lines, index)?;
+    word(lines, b"\n")
 }
 
-fn index_keys(image: &[u8], text: &[u8], index: &mut [u8]) {
+fn index_keys(
+    lines: &mut impl Write,
+    image: &[u8],
+    text: &[u8],
+    index: &mut [u8],
+) -> io::Result<()> {
     fill(index, UNREAD);
-    tell_indexing(make_index(image, text, index), index);
+    tell_indexing(lines, make_index(image, text, index), index)
 }
 
-fn tell_way(way: Way) {
+fn tell_way(lines: &mut impl Write, way: Way) -> io::Result<()> {
     match way {
         Way::At(place) => {
-            word(b"1 ");
-            number(place);
+            word(lines, b"1 ")?;
+            number(lines, place)?;
         }
-        Way::Nothing => word(b"0 0"),
+        Way::Nothing => word(lines, b"0 0")?,
     }
-    word(b"\n");
+    word(lines, b"\n")
 }
 
 // The way that an index of a bytes finds for a path of b bytes. They stand in `rows` behind one another, and the text behind them.
-fn find_path(image: &[u8], rows: &[u8], a: usize, b: usize) {
+fn find_path(
+    lines: &mut impl Write,
+    image: &[u8],
+    rows: &[u8],
+    a: usize,
+    b: usize,
+) -> io::Result<()> {
     if rows.len() < a {
-        word(b"over\n");
-        return;
+        return word(lines, b"over\n");
     }
     let rest = part(rows, a, rows.len() - a);
     if rest.len() < b {
-        word(b"over\n");
-        return;
+        return word(lines, b"over\n");
     }
     let text = part(rest, b, rest.len() - b);
-    tell_way(find(image, text, part(rows, 0, a), part(rest, 0, b)));
+    tell_way(lines, find(image, text, part(rows, 0, a), part(rest, 0, b)))
 }
 
 // What laying a record returned, and the image that it left.
-fn tell_laying(l: Laying, image: &[u8]) {
-    number(l.answer as usize);
-    word(b" ");
-    number(l.made);
-    word(b" ");
-    row(image);
-    word(b"\n");
+fn tell_laying(lines: &mut impl Write, l: Laying, image: &[u8]) -> io::Result<()> {
+    number(lines, l.answer as usize)?;
+    word(lines, b" ")?;
+    number(lines, l.made)?;
+    word(lines, b" ")?;
+    row(lines, image)?;
+    word(lines, b"\n")
 }
 
 // The number in eight bytes at a place; 0 where it is not whole.
@@ -345,7 +402,13 @@ fn wide_at(row: &[u8], at: usize) -> u64 {
 }
 
 // Lays a record by its numbers, in eight bytes each, into a copy of an image of which so many bytes are made.
-fn put_copy(before: &[u8], made: usize, numbers: &[u8], image: &mut [u8]) {
+fn put_copy(
+    lines: &mut impl Write,
+    before: &[u8],
+    made: usize,
+    numbers: &[u8],
+    image: &mut [u8],
+) -> io::Result<()> {
     write_bytes(image, 0, before);
     let fields = [
         wide_at(numbers, 0),
@@ -355,106 +418,161 @@ fn put_copy(before: &[u8], made: usize, numbers: &[u8], image: &mut [u8]) {
         wide_at(numbers, 32),
     ];
     let laid = put_numbers(image, made, &fields);
-    tell_laying(laid, image);
+    tell_laying(lines, laid, image)
 }
 
-fn put_record(before: &[u8], made: usize, numbers: &[u8], room: &mut [u8]) {
+fn put_record(
+    lines: &mut impl Write,
+    before: &[u8],
+    made: usize,
+    numbers: &[u8],
+    room: &mut [u8],
+) -> io::Result<()> {
     let n = before.len();
     if numbers.len() < 40 {
-        word(b"over\n");
+        word(lines, b"over\n")
     } else if n <= room.len() {
-        put_copy(before, made, numbers, &mut room[..n]);
+        put_copy(lines, before, made, numbers, &mut room[..n])
     } else {
-        word(b"over\n");
+        word(lines, b"over\n")
     }
 }
 
 // Makes a call on a buffer of the asked length.
-fn call(operation: u8, b: usize, first: &[u8], second: &[u8], buffer: &mut [u8]) {
+fn call(
+    lines: &mut impl Write,
+    operation: u8,
+    b: usize,
+    first: &[u8],
+    second: &[u8],
+    buffer: &mut [u8],
+) -> io::Result<()> {
     match operation {
-        0x01 => read_value(first, buffer),
-        0x02 => write_value(first, second, buffer),
-        0x03 => read_file(first, buffer),
-        0x04 => read_part_of_file(first, buffer),
-        0x05 => write_file(first, second, buffer),
-        0x06 => read_packet(first, buffer),
-        0x07 => read_part_of_packet(first, buffer),
-        0x08 => write_packet(first, second, b == 1, buffer),
-        0x0A => read_entry(first, b, buffer),
-        0x0C => index_keys(first, second, buffer),
-        0x0F => read_span(first, b, second, buffer),
-        0x10 => tell_found(nth(first, b)),
-        _ => word(b"no such operation\n"),
+        0x01 => read_value(lines, first, buffer),
+        0x02 => write_value(lines, first, second, buffer),
+        0x03 => read_file(lines, first, buffer),
+        0x04 => read_part_of_file(lines, first, buffer),
+        0x05 => write_file(lines, first, second, buffer),
+        0x06 => read_packet(lines, first, buffer),
+        0x07 => read_part_of_packet(lines, first, buffer),
+        0x08 => write_packet(lines, first, second, b == 1, buffer),
+        0x0A => read_entry(lines, first, b, buffer),
+        0x0C => index_keys(lines, first, second, buffer),
+        0x0F => read_span(lines, first, b, second, buffer),
+        0x10 => tell_found(lines, nth(first, b)),
+        _ => word(lines, b"no such operation\n"),
     }
 }
 
 // Makes the call of a frame whose rows are held.
-fn answer(operation: u8, a: usize, b: usize, first: &[u8], second: &[u8], room: &mut [u8]) {
+fn answer(
+    lines: &mut impl Write,
+    operation: u8,
+    a: usize,
+    b: usize,
+    first: &[u8],
+    second: &[u8],
+    room: &mut [u8],
+) -> io::Result<()> {
     if operation == 0x0B {
-        name_text(first, a, b);
+        name_text(lines, first, a, b)
     } else if operation == 0x0D {
-        find_path(first, second, a, b);
+        find_path(lines, first, second, a, b)
     } else if operation == 0x20 {
-        put_record(first, a, second, room);
+        put_record(lines, first, a, second, room)
     } else if operation == 0x09 {
         if a <= 4096 {
-            cut_packet(first, a);
+            cut_packet(lines, first, a)
         } else {
-            word(b"over\n");
+            word(lines, b"over\n")
         }
     } else if a <= room.len() {
-        call(operation, b, first, second, &mut room[..a]);
+        call(lines, operation, b, first, second, &mut room[..a])
     } else {
-        word(b"over\n");
+        word(lines, b"over\n")
     }
 }
 
 // Replays one frame, and says whether there was one.
-fn frame(first: &mut [u8], second: &mut [u8], room: &mut [u8]) -> bool {
+fn frame(
+    input: &mut impl Read,
+    lines: &mut impl Write,
+    first: &mut [u8],
+    second: &mut [u8],
+    room: &mut [u8],
+) -> io::Result<bool> {
     let mut one = [0u8; 1];
-    if io::read_full(STDIN_FILENO, &mut one) < 1 {
-        return false;
+    if !is_read(input, &mut one)? {
+        return Ok(false);
     }
     let operation = one[0];
-    let Number::Is(a) = read_number() else {
-        return false;
+    let Number::Is(a) = read_number(input)? else {
+        return Ok(false);
     };
-    let Number::Is(b) = read_number() else {
-        return false;
+    let Number::Is(b) = read_number(input)? else {
+        return Ok(false);
     };
-    let left = read_row(first);
-    let right = read_row(second);
+    let left = read_row(input, first)?;
+    let right = read_row(input, second)?;
     match left {
-        Row::End => false,
+        Row::End => Ok(false),
         Row::Over => {
-            word(b"over\n");
-            true
+            word(lines, b"over\n")?;
+            Ok(true)
         }
         Row::Held(n) => match right {
-            Row::End => false,
+            Row::End => Ok(false),
             Row::Over => {
-                word(b"over\n");
-                true
+                word(lines, b"over\n")?;
+                Ok(true)
             }
             Row::Held(m) => {
-                answer(operation, a, b, part(first, 0, n), part(second, 0, m), room);
-                true
+                answer(
+                    lines,
+                    operation,
+                    a,
+                    b,
+                    part(first, 0, n),
+                    part(second, 0, m),
+                    room,
+                )?;
+                Ok(true)
             }
         },
     }
 }
 
 // A proved loop has to end, and nothing says that an input does: the turns are more than any run has.
-fn frames(first: &mut [u8], second: &mut [u8], room: &mut [u8]) {
+fn frames(
+    input: &mut impl Read,
+    lines: &mut impl Write,
+    first: &mut [u8],
+    second: &mut [u8],
+    room: &mut [u8],
+) -> io::Result<()> {
     let mut turns = u64::MAX;
-    while 0 < turns && frame(first, second, room) {
+    while 0 < turns && frame(input, lines, first, second, room)? {
         turns -= 1;
     }
+    lines.flush()
 }
 
-fn main() {
+// The frames in buffers of any lengths: so the proof makes no list of theirs.
+fn replay<const N: usize, const M: usize>(
+    input: &mut impl Read,
+    lines: &mut impl Write,
+    first: &mut [u8; N],
+    second: &mut [u8; M],
+    room: &mut [u8; N],
+) -> io::Result<()> {
+    frames(input, lines, first, second, room)
+}
+
+fn main(rt: HostRuntime) -> io::Result<()> {
+    let mut input = rt.stdin();
+    let mut lines = rt.stdout();
     let mut first = [0u8; IMAGE + 1];
     let mut second = [0u8; BYTES + 1];
     let mut room = [0u8; IMAGE + 1];
-    frames(&mut first, &mut second, &mut room);
+    replay(&mut input, &mut lines, &mut first, &mut second, &mut room)
 }

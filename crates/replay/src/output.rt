@@ -1,14 +1,15 @@
 // What a line is made of.
-ghost use Rattle.std.specs.Prelude.{◌≤◌, ◌≡◌, length};
+ghost use Rattle.std.specs.Prelude.{◌≤◌, ◌≡◌, length, IfOk, OnErr};
 
-use libc::STDOUT_FILENO;
+use std::io;
+use std::io::Write;
 
-pub fn word(text: &[u8]) {
-    io::write_all(STDOUT_FILENO, text);
+pub fn word(lines: &mut impl Write, text: &[u8]) -> io::Result<()> {
+    lines.write_all(text)
 }
 
-pub fn number(n: usize) {
-    io::print_decimal(STDOUT_FILENO, n as u64);
+pub fn number(lines: &mut impl Write, n: usize) -> io::Result<()> {
+    write!(lines, "{n}")
 }
 
 fn digit(n: u8) -> u8 {
@@ -16,33 +17,33 @@ fn digit(n: u8) -> u8 {
 }
 
 // Puts a byte's two digits behind the text, which is printed first where it is full.
-fn push(text: &mut [u8], used: usize, b: u8) -> usize
+fn push(lines: &mut impl Write, text: &mut [u8], used: usize, b: u8) -> io::Result<usize>
     requires { (used ≤ 8192) × (length text.old ≡ 8192) }
-    ensures { result ≤ 8192 }
+    ensures used { IfOk result (λ n. n ≤ 8192) }
+    ensures left { OnErr result (text.new ≡ text.old) }
 {
     if used < 8191 {
         text[used] = digit(b / 16);
         text[used + 1] = digit(b % 16);
-        return used + 2;
+        return Ok(used + 2);
     }
-    word(text);
+    word(lines, text)?;
     text[0] = digit(b / 16);
     text[1] = digit(b % 16);
-    2
+    Ok(2)
 }
 
 // A row of bytes in hex.
-pub fn row(bytes: &[u8]) {
+pub fn row(lines: &mut impl Write, bytes: &[u8]) -> io::Result<()> {
     if bytes.len() == 0 {
-        word(b"-");
-        return;
+        return word(lines, b"-");
     }
     let mut text = [0u8; 8192];
     let mut used: usize = 0;
     let mut i: usize = 0;
     while i < bytes.len() {
-        used = push(&mut text, used, bytes[i]);
+        used = push(lines, &mut text, used, bytes[i])?;
         i += 1;
     }
-    word(&text[..used]);
+    word(lines, &text[..used])
 }
