@@ -1,5 +1,5 @@
 /* Riddoskam: AMF0 values, LSO files and AMF packets, read and written over lent buffers. The library is target/staticlib/libriddoskam.a, made by
-   `rt staticlib riddoskam`, for x86-64 Linux; of the C library it uses memset alone. It has no state, takes no memory and keeps no pointer, so calls may run
+   tools/library, for x86-64 Linux; of the C library it uses memset alone. It has no state, takes no memory and keeps no pointer, so calls may run
    beside each other.
 
    A row of bytes, or of numbers, is a pointer and a length. What a C caller owes is what C itself can't check:
@@ -9,32 +9,32 @@
      nobody else touches it during the call;
    - what it reads (input, image, text, packet, index, path, key) isn't written by anybody during the call.
    Nothing else is owed: whatever the bytes and the numbers are, each call ends, and its answer, its counts and every byte that it leaves are proved to be what
-   is said here (crates/riddoskam/src/lib.rt).
+   is said here (crates/riddoskam_c/src/lib.rt).
 
    What firmware asks before it links (tools/footprint computes and measures it, and `tools/footprint check` holds the library to these figures):
-   - code 31,534 bytes, constants 1,392; no data that is written, nothing thread-local, no constructor, no unwinding;
+   - code 32,453 bytes, constants 1,341; no data that is written, nothing thread-local, no constructor, no unwinding;
    - it links memset; its instructions are those of every x86-64 processor, SSE2 among them, and none of floating point;
    - as the ABI of x86-64 Linux allows, functions keep bytes below the stack pointer (the red zone, 128 bytes): an interrupt that runs on the stack of a
      call must leave them alone;
    - the most stack that a call takes, on any input, with its return address and its arguments and without what memset takes; and the code and constants that
      a program takes which makes this call alone, in bytes:
-       riddoskam_parse_single_element         9,224   6,650
-       riddoskam_lso_parse                    9,432   7,612
-       riddoskam_lso_parse_incomplete         9,432   7,585
-       riddoskam_packet_parse                 9,704   8,300
-       riddoskam_packet_parse_incomplete      9,704   8,273
-       riddoskam_packet_parse_entry           9,312  10,506
-       riddoskam_packet_parse_span            9,240   6,788
-       riddoskam_write_value                 10,304   7,117
-       riddoskam_lso_write_to_bytes          10,592  10,320
-       riddoskam_packet_write_to_bytes       10,792  10,870
-       riddoskam_index                       11,216   9,000
-       riddoskam_find                           504   3,321
-       riddoskam_step                           432   3,128
-       riddoskam_packet_nth                   6,184   5,939
-       riddoskam_packet_cut                   6,024   5,905
-       riddoskam_record_at                      160   2,561
-       riddoskam_put                            264   2,588
+       riddoskam_parse_single_element         8,120   6,653
+       riddoskam_lso_parse                    8,312   7,657
+       riddoskam_lso_parse_incomplete         8,312   7,630
+       riddoskam_packet_parse                 8,616   8,473
+       riddoskam_packet_parse_incomplete      8,616   8,446
+       riddoskam_packet_parse_entry           8,208  10,791
+       riddoskam_packet_parse_span            8,120   6,774
+       riddoskam_write_value                  9,200   6,237
+       riddoskam_lso_write_to_bytes           9,424   9,364
+       riddoskam_packet_write_to_bytes        9,704  10,082
+       riddoskam_index                       10,032   8,792
+       riddoskam_find                           456   3,463
+       riddoskam_step                           320   3,205
+       riddoskam_packet_nth                   5,080   5,679
+       riddoskam_packet_cut                   4,904   5,410
+       riddoskam_record_at                      144   2,679
+       riddoskam_put                            256   3,172
        riddoskam_inside                           8      15
        riddoskam_part                             8      31
 

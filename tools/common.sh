@@ -67,12 +67,28 @@ reached() { # NAME
             level[n] = l
             print l, n
         }
-        { sub(/#.*/, ""); i = index($0, ":"); n = substr($0, 1, i - 1); gsub(/[ \t]/, "", n); if (n != "") uses[n] = substr($0, i + 1) }
+        { sub(/#.*/, ""); i = index($0, ":"); split(substr($0, 1, i - 1), words, " "); if (words[1] != "") uses[words[1]] = substr($0, i + 1) }
         END { visit(name) }' "$root/crates.txt" | sort -s -n -k1,1 | cut -d ' ' -f 2
 }
 
-# One build at a time: rt has no lock of its own. For a subshell that has the repository's folder open as 9. The prover inherits the lock, so that one which
-# outlives its script is waited for.
+# Looks at all that NAME is made of, by find's words: each file of its crates but the wrong programs and what rt makes there.
+among_sources() { # NAME WORD..
+    local crates
+    mapfile -t crates < <(reached "$1" | sed 's:^:crates/:')
+    shift
+    (cd "$root" && find crates.txt "${crates[@]}" -regex 'crates/[^/]*/\(out\|must-fail\|wrong\)' -prune -o "$@")
+}
+
+# Prints a number for the kit and the sources of NAME. It is the contents that count, so that nothing depends on clocks, and a file that is gone counts too.
+number() { # NAME
+    {
+        cat "$(dirname "$(readlink -f "$(command -v rt)")")/../KIT-ID" 2>/dev/null || rt version
+        among_sources "$1" -type f -exec sha256sum {} + | LC_ALL=C sort
+    } | sha256sum | cut -c 1-16
+}
+
+# One build at a time: rt locks the crates that it is at, but not what is made of them here. For a subshell that has the repository's folder open as 9. The
+# prover inherits the lock, so that one which outlives its script is waited for.
 lock() {
     flock -n 9 && return
     echo "$me: waiting for another build" >&2
@@ -122,19 +138,20 @@ logged() { # LOG COMMAND..
     "$@" >"$log" 2>&1
 }
 
-# Runs rt with the words, what it says going to LOG, and tells on standard error which of the crates of NAME it is at, and not in the first two seconds. The
-# status is rt's. Standard input is left to the program that is run later.
+# Runs rt on NAME with the words, what it says going to LOG, and tells on standard error which of the crates of NAME it is at, and not in the first two
+# seconds. The status is rt's. Standard input is left to the program that is run later.
 followed() { # LOG NAME WORD..
-    local log=$1 name=$2 crates at=0 now told='' line ended status said='^rt: [A-Za-z0-9_]+ proved \('
+    local log=$1 name=$2 crate at='' now told='' line ended status said='^rt: chose --jobs [0-9]+ for ([A-Za-z0-9_]+)$'
+    local -A place=()
     shift 2
-    mapfile -t crates < <(reached "$name")
+    for crate in $(reached "$name"); do place[$crate]=$((${#place[@]} + 1)); done
     SECONDS=0
-    (cd "$root" && rt "$@" 2>&1 </dev/null) | while :; do
+    (cd "$root/crates/$name" && rt "$@" 2>&1 </dev/null) | while :; do
         ended=0
         IFS= read -r -t 1 line || ended=$?
         if [ "$ended" = 0 ]; then
             printf '%s\n' "$line"
-            if [[ $line =~ $said ]]; then at=$((at + 1)); fi
+            if [[ $line =~ $said ]]; then at="crate ${place[${BASH_REMATCH[1]}]:-} of ${#place[@]} (${BASH_REMATCH[1]}), "; fi
         else
             printf '%s' "$line"
             [ "$ended" -gt 128 ] || break # neither a line nor a second that has passed: the end
@@ -142,9 +159,7 @@ followed() { # LOG NAME WORD..
         now="$at $(beat)"
         if [ "$SECONDS" -lt 2 ] || [ "$now" = "$told" ]; then continue; fi
         told=$now
-        line="crate $((at + 1)) of ${#crates[@]} (${crates[at]:-})"
-        if [ "$at" -ge ${#crates[@]} ]; then line="its own cases"; fi
-        shown_line "building $name: $line, $SECONDS s"
+        shown_line "building $name: $at$SECONDS s"
     done >"$log"
     status=${PIPESTATUS[0]}
     end_of_line
@@ -157,14 +172,21 @@ not_built() { # LOG WHAT
     die 3 "$2 could not be built; all that was said is in $1"
 }
 
-# Makes target/staticlib/libriddoskam.a of today's sources.
+# Makes target/staticlib/libriddoskam.a of today's sources, where it isn't: the static library that is the crate riddoskam_c, in the code of every x86-64
+# processor.
 static_library() {
-    local log=$root/target/run/libriddoskam.log
+    local log=$root/target/run/libriddoskam.log made=$root/target/staticlib now
     need rt flock
-    mkdir -p "$root/target/run" || exit 3
+    mkdir -p "$root/target/run" "$made" || exit 3
     (
         lock
-        followed "$log" riddoskam staticlib riddoskam || not_built "$log" libriddoskam.a
+        now=$(number riddoskam_c)
+        [ ! -e "$made/libriddoskam.a" ] || [ "$now" != "$(cat "$made/number")" ] || exit 0
+        rm -f "$made/number"
+        followed "$log" riddoskam_c lib --cpu=x86-64 || not_built "$log" libriddoskam.a
+        [ "$(number riddoskam_c)" = "$now" ] || die 3 "a source of riddoskam_c was changed while it was built: run it again"
+        cp "$root/crates/riddoskam_c/out/libriddoskam_c.a" "$made/libriddoskam.a"
+        echo "$now" >"$made/number"
     ) 9<"$root"
 }
 

@@ -1,16 +1,15 @@
 """What the scripts share that try edits of the library against its proofs: the kit's prover, asked directly, and how an edit is applied."""
+import json
 import os
-import platform
 import re
+import shutil
 import subprocess
-import tempfile
 
-from common import ROOT, need_kit
+from common import ROOT, need_kit, unproved
 
 CRATES = os.path.join(ROOT, "crates")
-TARGET = os.path.join(ROOT, "target")
+PARTS = ("src", "specs", "proofs")
 LONGEST = 900  # seconds that a check may take
-
 
 class Kit:
     """The words that `rt` puts together for the compiler."""
@@ -18,48 +17,68 @@ class Kit:
     def __init__(self):
         need_kit()
         guide = subprocess.run(["rt", "doc"], capture_output=True, text=True).stdout.strip()
-        self.home = os.path.realpath(os.path.join(os.path.dirname(guide), ".."))
-        self.own = f"{self.home}/on/{platform.machine()}"
+        self.home = os.path.dirname(os.path.realpath(guide))
         self.needs = {}
         for line in open(os.path.join(ROOT, "crates.txt")):
             name, colon, needed = line.split("#")[0].partition(":")
             if colon:
-                self.needs[name.strip()] = needed.split()
+                self.needs[name.split()[0]] = needed.split()
 
-    def libraries(self, crate):
-        words = ["--extern", f"std={self.own}/rlib/std.rlib"]
+    def below(self, crates):
+        """What some crates are made of, of this repository."""
+        todo, found = [d for c in crates for d in self.needs[c]], set()
+        while todo:
+            d = todo.pop()
+            if d in self.needs and d not in found:
+                found.add(d)
+                todo += self.needs[d]
+        return found
+
+    def prove(self, crate):
+        """Proves a crate as it stands: what others need of it is built, and what was checked is kept, both in its folder out."""
+        for verb in ("lib", "check"):
+            p = subprocess.run(["rt", verb], cwd=f"{CRATES}/{crate}", capture_output=True, text=True)
+            if p.returncode:
+                raise unproved(f"{crate} itself is not proved: `rt check` in crates/{crate} says why")
+
+    def check(self, crate, folder, kept, sources=()):
+        """Proves the crate that stands in a folder, over what was checked before: the status, and what the prover says. Sources are libraries that are taken
+        from other folders than their own, and proved along."""
+        words = [f"{self.home}/bin/rattle", "check", "--crate-name", crate, "src/lib.rt", "--extern", f"std={self.home}/rlibs/std.rlib"]
         for d in self.needs[crate]:
-            folder = f"{TARGET}/rlib" if os.path.isdir(f"{CRATES}/{d}") else f"{self.own}/rlib"
-            words += ["--extern", f"{d}={folder}/{d}.rlib"]
-        return words + ["-L", f"dependency={TARGET}/rlib", "-L", f"dependency={self.own}/rlib"]
-
-    def root_file(self, folder):
-        return next(f"{folder}/src/{name}.rt" for name in ("main", "lib") if os.path.exists(f"{folder}/src/{name}.rt"))
-
-    def check(self, crate, folder, checked):
-        """Proves the crate that stands in a folder, over what was checked before."""
-        words = [f"{self.own}/bin/rattle", "check", "--crate-name", crate, self.root_file(folder)] + self.libraries(crate)
-        words += ["--antt-project", f"{self.home}/logic/antt-project.json", "--logic-built", f"{self.own}/logic-built", "--incremental", checked]
+            if d not in dict(sources):
+                words += ["--extern", f"{d}={CRATES}/{d}/out/rlib/{d}.rlib"]
+        for d in sorted(self.below([crate])):
+            words += ["-L", f"dependency={CRATES}/{d}/out/rlib"]
+        words += ["-L", f"dependency={self.home}/rlibs"]
+        for name, home in sources:
+            words += ["--extern", f"core={self.home}/rlibs/core.rlib", "--lib", f"{name}={home}/src/lib.rt"]
+        words += ["--antt-project", f"{self.home}/rattle/logic/antt-project.json", "--logic-built", f"{self.home}/logic_built", "--incremental", kept]
         try:
-            p = subprocess.run(words, capture_output=True, text=True, errors="replace", timeout=LONGEST)
+            p = subprocess.run(words, cwd=folder, capture_output=True, text=True, errors="replace", timeout=LONGEST)
         except subprocess.TimeoutExpired:
             return None, f"the prover did not end within {LONGEST} s"
-        return p.returncode, (p.stdout + p.stderr).replace(folder + "/", "")
+        return p.returncode, p.stdout + p.stderr
 
-    def code(self, crate, folder):
-        """The code of each function as the compiler has it before the proof, or what the compiler said against it."""
-        file = self.root_file(folder)
-        with tempfile.TemporaryDirectory() as empty:
-            with open(f"{empty}/main.rt", "w") as f:
-                f.write("fn main() {}\n")
-            if file.endswith("main.rt"):
-                words = [file, "--crate-name", crate]
-            else:
-                words = [f"{empty}/main.rt", "--crate-name", "rt_empty", "--lib", f"{crate}={file}"]
-            p = subprocess.run([f"{self.own}/bin/rattle-print-mir"] + words + self.libraries(crate), capture_output=True, text=True, errors="replace")
-        if p.returncode:
-            return None, (p.stderr or p.stdout).replace(folder + "/", "")
-        return {piece.split('"', 1)[0]: piece for piece in p.stdout.split('(fn-def "')[1:]}, ""
+    def code(self, crate):
+        """The code of each function of a proved library, as its rlib has it."""
+        with open(f"{CRATES}/{crate}/out/rlib/{crate}.rlib/toolchain/mir.json") as f:
+            return {name: json.dumps(said) for name, said, *_ in json.load(f)}
+
+
+def copy_sources(crate, to):
+    for part in PARTS:
+        if os.path.isdir(f"{CRATES}/{crate}/{part}"):
+            shutil.copytree(f"{CRATES}/{crate}/{part}", f"{to}/{part}")
+
+
+def linked(crate, to):
+    """Copies what was checked of a crate: the checked modules are linked, since the prover never writes into one, it puts a new file in its place."""
+
+    def copied(one, other):
+        return os.link(one, other) if one.endswith(".oantt") else shutil.copy2(one, other)
+
+    shutil.copytree(f"{CRATES}/{crate}/out/incremental", to, copy_function=copied, dirs_exist_ok=True)
 
 
 def apply(folder, path):

@@ -33,8 +33,9 @@ def tokens(text):
     kept, i = [], 0
     while i < len(found):
         word = found[i].text
-        if word in ("requires", "ensures") and found[i + 1].text == "{":
-            i = behind(found, i + 1)
+        opens = next((n for n in (i + 1, i + 2) if found[n].text == "{"), 0) if word in ("requires", "ensures") else 0
+        if opens:
+            i = behind(found, opens)
         elif word == "ghost":
             while found[i].text != ";":
                 i += 1
@@ -95,20 +96,18 @@ def functions(crate, file, text, ts):
     return found
 
 
-# relations that fix a lent buffer as an equation does, each by a theorem: `Holds` by `index-determined` of crates/index_theorems/proofs/Determined.antt
+# relations that fix a lent buffer as an equation does, each by a theorem: `Holds` by `index_determined` of crates/index_theorems/proofs/Determined.antt
 FIXED = "Holds"
 
 
 def exact(f):
     """Whether a function's contract fixes its result and all that it is lent to change, by equations: then a program that meets it is the same program.
     A slice that is returned is fixed by its bytes and its address together."""
-    signature, *clauses = re.split(r"\b(?:requires|ensures) \{", f.head)
-    said = " ".join(clauses)
-    result = re.search(r"λ (\w+)\. ⌜ \(*(?:\(?\w+ : [^)]*\) → )*(?:\1 ≡ (?!true →)|(?:ran|poured) \1 |ptr \1 ≡ )", said)
+    signature = re.split(r"\b(?:requires|ensures)(?: \w+)? \{", f.head)[0]
+    said = [" ".join(c.split()) for c in re.findall(r"\bensures(?: \w+)? \{(.*?)\}(?=\s*(?:requires\b|ensures\b|$))", f.head, re.S)]
+    result = any(re.match(r"(?:\(\w+ : [^)]*\) → )*\(?(?:result ≡ (?!true →)|(?:ran|poured) result |result\.ref_ptr ≡ )", c) for c in said)
     lent = re.findall(r"(\w+): &mut ", signature)
-    return (bool(result) or "->" not in signature) and all(
-        re.search(rf"now \({p} \.exit\)\)? ≡|⌜ (?:{FIXED}) .*\(now \({p} \.exit\)\) ⌝", said) for p in lent
-    )
+    return (result or "->" not in signature) and all(any(re.search(rf"\b{p}\.new ≡|^{FIXED} .*\b{p}\.new$", c) for c in said) for p in lent)
 
 
 class Source:

@@ -1,4 +1,4 @@
-//! Where the static library is: the folder that RIDDOSKAM_LIB names, or the one into which `rt staticlib riddoskam` writes. What is missing is said before the
+//! Where the static library is: the folder that RIDDOSKAM_LIB names, or the one into which `tools/library` writes. What is missing is said before the
 //! linker would say it in other words.
 use std::path::{absolute, Path, PathBuf};
 use std::{env, fs};
@@ -31,7 +31,7 @@ fn library() -> Result<PathBuf, String> {
         let told = if named().is_some() {
             "RIDDOSKAM_LIB must name the folder of the library"
         } else {
-            "make it by `rt staticlib riddoskam`, or name its folder in RIDDOSKAM_LIB"
+            "make it by `tools/library`, or name its folder in RIDDOSKAM_LIB"
         };
         format!("{} can't be read ({why}): {told}", file.display())
     })?;
@@ -51,13 +51,13 @@ fn folder() -> Result<PathBuf, String> {
         Some(folder) => absolute(&folder).map_err(|why| format!("RIDDOSKAM_LIB is {}: {why}", folder.display())),
         None if target.starts_with("x86_64-") && target.contains("-linux-") => Ok(made_here()),
         None => Err(format!(
-            "`rt staticlib riddoskam` makes a library for x86-64 Linux, and this is a build for {target}: \
+            "`tools/library` makes a library for x86-64 Linux, and this is a build for {target}: \
              build with --target x86_64-unknown-linux-gnu, or name the folder of a library for {target} in RIDDOSKAM_LIB"
         )),
     }
 }
 
-/// Where `rt staticlib riddoskam` writes.
+/// Where `tools/library` writes.
 fn made_here() -> PathBuf {
     let root = Path::new(env!("CARGO_MANIFEST_DIR")).join("../..");
     root.canonicalize().unwrap_or(root).join("target/staticlib")
@@ -75,7 +75,7 @@ fn fits(file: &Path, bytes: &[u8]) -> Result<(), String> {
     }
     if !bytes.windows(LAST.len()).any(|name| name == LAST) {
         return Err(format!(
-            "{} is older than this crate, or another library: it has no {}; make it anew by `rt staticlib riddoskam`",
+            "{} is older than this crate, or another library: it has no {}; make it anew by `tools/library`",
             file.display(),
             String::from_utf8_lossy(LAST)
         ));
