@@ -12,29 +12,29 @@
    is said here (crates/riddoskam_c/src/lib.rt).
 
    What firmware asks before it links (tools/footprint computes and measures it, and `tools/footprint check` holds the library to these figures):
-   - code 32,453 bytes, constants 1,341; no data that is written, nothing thread-local, no constructor, no unwinding;
+   - code 35,075 bytes, constants 1,418; no data that is written, nothing thread-local, no constructor, no unwinding;
    - it links memset; its instructions are those of every x86-64 processor, SSE2 among them, and none of floating point;
    - as the ABI of x86-64 Linux allows, functions keep bytes below the stack pointer (the red zone, 128 bytes): an interrupt that runs on the stack of a
      call must leave them alone;
    - the most stack that a call takes, on any input, with its return address and its arguments and without what memset takes; and the code and constants that
      a program takes which makes this call alone, in bytes:
-       riddoskam_parse_single_element         8,120   6,653
-       riddoskam_lso_parse                    8,312   7,657
-       riddoskam_lso_parse_incomplete         8,312   7,630
-       riddoskam_packet_parse                 8,616   8,473
-       riddoskam_packet_parse_incomplete      8,616   8,446
-       riddoskam_packet_parse_entry           8,208  10,791
-       riddoskam_packet_parse_span            8,120   6,774
-       riddoskam_write_value                  9,200   6,237
-       riddoskam_lso_write_to_bytes           9,424   9,364
-       riddoskam_packet_write_to_bytes        9,704  10,082
-       riddoskam_index                       10,032   8,792
-       riddoskam_find                           456   3,463
-       riddoskam_step                           320   3,205
-       riddoskam_packet_nth                   5,080   5,679
-       riddoskam_packet_cut                   4,904   5,410
-       riddoskam_record_at                      144   2,679
-       riddoskam_put                            256   3,172
+       riddoskam_parse_single_element         9,160   6,790
+       riddoskam_lso_parse                    9,352   8,591
+       riddoskam_lso_parse_incomplete         9,336   8,573
+       riddoskam_packet_parse                 9,624   9,007
+       riddoskam_packet_parse_incomplete      9,608   8,947
+       riddoskam_packet_parse_entry           9,360  11,573
+       riddoskam_packet_parse_span            9,272   7,119
+       riddoskam_write_value                  9,200   7,120
+       riddoskam_lso_write_to_bytes           9,424  10,281
+       riddoskam_packet_write_to_bytes        9,672  11,030
+       riddoskam_index                       11,072   8,674
+       riddoskam_find                           472   4,265
+       riddoskam_step                           336   4,033
+       riddoskam_packet_nth                   5,032   6,151
+       riddoskam_packet_cut                   5,016   6,260
+       riddoskam_record_at                      144   2,649
+       riddoskam_put                            256   3,161
        riddoskam_inside                           8      15
        riddoskam_part                             8      31
 

@@ -76,7 +76,12 @@ def linked(crate, to):
     """Copies what was checked of a crate: the checked modules are linked, since the prover never writes into one, it puts a new file in its place."""
 
     def copied(one, other):
-        return os.link(one, other) if one.endswith(".oantt") else shutil.copy2(one, other)
+        if not one.endswith(".oantt"):
+            return shutil.copy2(one, other)
+        # A module that two crates keep is the same in both.
+        if not os.path.exists(other):
+            os.link(one, other)
+        return other
 
     shutil.copytree(f"{CRATES}/{crate}/out/incremental", to, copy_function=copied, dirs_exist_ok=True)
 

@@ -1,8 +1,7 @@
 -- What is still to come where values follow: the laws of the loop over them.
-use Rattle.std.specs.Prelude.{◌+◌, ◌-◌, ◌≤◌, ◌<◌, ◌≡◌}
+use Rattle.std.specs.Prelude.{◌+◌, ◌-◌, ◌≤◌, ◌<◌, ◌≡◌, None}
 use Rattle.wire.proofs.Kit.{ℕ, zero, suc, refl, List, Bool, true, false, arith, length, lt-leb}
 use Rattle.wire.specs.Field.{u8_at}
-use Rattle.image.specs.declared.taking.Taken.TheVariants.{Bad}
 use Rattle.image.specs.Taking.{record_at}
 use Rattle.image.specs.Out.{Out, end, ◌>>=◌}
 use Rattle.amf0.specs.declared.write.Rest.{Rest}
@@ -12,7 +11,7 @@ use Rattle.amf0.specs.Code.{keyed, due_at, owed}
 use Rattle.amf0.proofs.Putting.{pairs_keyed, dense_pairs, rest_nothing, rest_pairs, rest_dense, rest_values}
 
 -- there is no record behind the image
-record_past : (image : List ℕ) (at : ℕ) → length image ≤ at → record_at image at ≡ Bad
+record_past : (image : List ℕ) (at : ℕ) → length image ≤ at → record_at image at ≡ None
 unfolding record_at u8_at
 record_past image at h = rw (lt-leb (at + 1) (length image) (omega arith))
 

@@ -1,12 +1,10 @@
 -- The laws of the reading, step by step, that the functions' proofs cite.
-use Rattle.std.specs.Prelude.{◌+◌, ◌-◌, ◌≤◌, ◌<◌, ◌≡◌}
+use Rattle.std.specs.Prelude.{◌+◌, ◌-◌, ◌≤◌, ◌<◌, ◌≡◌, Ok, Err, Some, None}
 use Rattle.wire.proofs.Kit.{ℕ, zero, suc, refl, sym, ap, ◌∙◌, List, sub-one, arith, length, leb, eq-eqb, ne_eqb, leb-true, leb-false}
 use Rattle.wire.specs.declared.cursor.Cursor.{Cursor}
-use Rattle.wire.specs.declared.cursor.U8.TheVariants as U8
-use Rattle.wire.specs.declared.cursor.Text.TheVariants as Text
-use Rattle.wire.specs.Field.{to, u8_at, text_at}
+use Rattle.wire.specs.Field.{to, u8_at, text_at, got_to, text_to}
 use Rattle.wire.specs.Limit as limit
-use Rattle.wire.proofs.Laws.{pick_yes, pick_no, picked, u8_next}
+use Rattle.wire.proofs.Laws.{pick_yes, pick_no, picked, u8_next, same_ok, same_answer, same_place}
 use Rattle.image.specs.declared.record.Record.{Record}
 use Rattle.image.specs.declared.record.Record.TheVariants.{ObjectEnd, Key}
 use Rattle.image.specs.Due.{Due, Fact, end, stop, seen, due, ◌>>=◌, based}
@@ -15,57 +13,53 @@ use Rattle.image.specs.Whole.{Whole, settled}
 use Rattle.image.proofs.Laws.{based_zero}
 use Rattle.image.proofs.Settle.{settled_stop}
 use Rattle.amf0.specs.declared.read.Follow.{Follow}
-use Rattle.amf0.specs.declared.read.Fields.{Fields}
-use Rattle.amf0.specs.declared.read.Fields.TheVariants.{Got, Stop}
 use Rattle.amf0.specs.declared.type_marker.TypeMarker.{TypeMarker}
-use Rattle.amf0.specs.declared.type_marker.Marked.TheVariants.{Value, Refused}
 use Rattle.amf0.specs.Marker.{marker_of}
-use Rattle.amf0.specs.Fields.{fields_at, based_fields, got_fields}
+use Rattle.amf0.specs.Fields.{fields_at, based_fields, got_fields, Fields, fields_to}
 use Rattle.amf0.specs.Reading.{value, top_value, pair, pairs, items, follow, own_at, value_in, read_of}
-use Rattle.amf0.specs.Code.{FieldsWithin}
+use Rattle.wire.specs.Answer.{denied}
+use Rattle.image.specs.Record.{moved}
 
 -- a number that is at least k and is not k
 pub up : {k m : ℕ} → k ≤ m → (m ≡ k → ⊥) → suc k ≤ m
 up {k} {m} h n = omega arith
 
 -- the cursor behind a byte that was read
-pub u8_whole : (s : List ℕ) (at : ℕ) {m : ℕ} {c : Cursor} → u8_at s at ≡ U8.Got m c → u8_at s at ≡ U8.Got m (to (at + 1))
-u8_whole s at {m} {c} e = e ∙ ap (λ (n : ℕ). U8.Got m (to n)) (u8_next s at m c e).next
+pub u8_whole : (s : List ℕ) (at : ℕ) {m : ℕ} {c : Cursor} → u8_at s at ≡ got_to m c → u8_at s at ≡ got_to m (to (at + 1))
+u8_whole s at {m} {c} e = e ∙ ap (λ (n : ℕ). got_to m (to n)) (u8_next s at m c e).next
 
 -- ---- the fields of a value
 
-pub fields_got : {r : Record} {f : Follow} {c : Cursor} {low high : ℕ} → low ≤ c.at → c.at ≤ high → FieldsWithin (Got r f c) low high
-fields_got {r} {f} {c} lo hi =
-    record { bounds = λ q g d e. let s : c.at ≡ d.at = ap (λ (x : Cursor). x.at) (cc) in omega arith }
-
-pub fields_stop : {a p low high : ℕ} → FieldsWithin (Stop a p) low high
-fields_stop = record { bounds = λ r f c e. let z : ◌≡◌ {A = ℕ} 0 1 = cc in absurd (omega arith) }
-
 -- what follows the fields of a part, by what they were read as
-pub fields_refused : (b at : ℕ) (look : ℕ → Fact) (more : Follow → ℕ → Due) (x : Fields) {a p : ℕ} → Stop a p ≡ based_fields b x
+pub fields_refused : (b at : ℕ) (look : ℕ → Fact) (more : Follow → ℕ → Due) (x : Fields) {a p : ℕ} → denied a p ≡ based_fields b x
     → based b (got_fields stop x (λ r f q. seen (look q) (due r at (more f q)))) ≡ stop a p
-fields_refused b at look more (Got r f c) {a} {p} e = let z : ◌≡◌ {A = ℕ} 0 1 = cc in absurd (omega arith)
-fields_refused b at look more (Stop w q) {a} {p} e =
-    let f : w ≡ a = cc in
-    let g : b + q ≡ p = cc in
+fields_refused b at look more (Ok x) {a} {p} e = let z : ◌≡◌ {A = ℕ} 0 1 = cc in absurd (omega arith)
+fields_refused b at look more (Err r) {a} {p} e =
+    let f : r.answer ≡ a = sym (same_answer e) in
+    let g : b + r.place ≡ p = sym (same_place e) in
     rw (f, g)
 
-pub fields_due : (b at : ℕ) (look : ℕ → Fact) (more : Follow → ℕ → Due) (x : Fields) {r : Record} {f : Follow} {c : Cursor} → Got r f c ≡ based_fields b x
+pub fields_due : (b at : ℕ) (look : ℕ → Fact) (more : Follow → ℕ → Due) (x : Fields) {r : Record} {f : Follow} {c : Cursor} → fields_to r f c ≡ based_fields b x
     → based b (got_fields stop x (λ r f q. seen (look q) (due r at (more f q)))) ≡ seen (look c.at) (due r (b + at) (based b (more f c.at)))
-fields_due b at look more (Got s g d) {r} {f} {c} e = cc
-fields_due b at look more (Stop w q) {r} {f} {c} e = let z : ◌≡◌ {A = ℕ} 0 1 = cc in absurd (omega arith)
+fields_due b at look more (Ok x) {r} {f} {c} e =
+    let w : (r, f, c) ≡ (moved b x.0, x.1, x.2) = same_ok e in
+    let i : moved b x.0 ≡ r = sym (ap (λ (y : Record × Follow × Cursor). y.0) w) in
+    let j : x.1 ≡ f = sym (ap (λ (y : Record × Follow × Cursor). y.1) w) in
+    let k : x.2 ≡ c = sym (ap (λ (y : Record × Follow × Cursor). y.2) w) in
+    rw (i, j, k)
+fields_due b at look more (Err x) {r} {f} {c} e = let z : ◌≡◌ {A = ℕ} 0 1 = cc in absurd (omega arith)
 
 -- ---- a value
 
 module _ (s : List ℕ) (at : ℕ) where
-  pub value_cut : (left : ℕ) {a p : ℕ} → u8_at s at ≡ U8.Stop a p → value left s at ≡ stop a p
+  pub value_cut : (left : ℕ) {a p : ℕ} → u8_at s at ≡ denied a p → value left s at ≡ stop a p
   unfolding value
   value_cut zero e = rw e
   value_cut (suc left) e = rw e
 
   -- by what its marker marks, and whether a level is left
   module _ (left m : ℕ) {c : Cursor} where
-    pub value_refused : marker_of m ≡ Refused → u8_at s at ≡ U8.Got m c → value left s at ≡ stop 3 at
+    pub value_refused : marker_of m ≡ None → u8_at s at ≡ got_to m c → value left s at ≡ stop 3 at
     unfolding value
     value_refused h e = go left
       where
@@ -73,12 +67,12 @@ module _ (s : List ℕ) (at : ℕ) where
         go zero = rw (e, h)
         go (suc l) = rw (e, h)
 
-    module _ {k : TypeMarker} (h : marker_of m ≡ Value k) where
-      pub value_deep : left ≡ 0 → u8_at s at ≡ U8.Got m c → value left s at ≡ stop 5 at
+    module _ {k : TypeMarker} (h : marker_of m ≡ Some k) where
+      pub value_deep : left ≡ 0 → u8_at s at ≡ got_to m c → value left s at ≡ stop 5 at
       unfolding value
       value_deep z e = rw (z, e, h)
 
-      pub value_fields : (left ≡ 0 → ⊥) → u8_at s at ≡ U8.Got m c
+      pub value_fields : (left ≡ 0 → ⊥) → u8_at s at ≡ got_to m c
           → value left s at ≡ got_fields stop (fields_at s c.at k) (λ r f q. seen (own_at (left - 1) s at q) (due r at (follow (value (left - 1) s) s f q)))
       unfolding value
       value_fields z e = go left z
@@ -91,19 +85,19 @@ module _ (s : List ℕ) (at : ℕ) where
   -- ---- pairs
 
   module _ (inner : ℕ → Due) (fuel : ℕ) (h : length s ≤ fuel + at) where
-    pub pairs_cut : {a p : ℕ} → text_at 2 s at ≡ Text.Stop a p → pairs inner s fuel at ≡ stop a p
+    pub pairs_cut : {a p : ℕ} → text_at 2 s at ≡ denied a p → pairs inner s fuel at ≡ stop a p
     unfolding pairs text_at
     pairs_cut {a} {p} e = go fuel h
       where
         go : (f : ℕ) → length s ≤ f + at → pairs inner s f at ≡ stop a p
         go zero h =
             let d = sym (pick_no (at + 2) (length s) _ _ (omega arith)) ∙ e in
-            let f : 2 ≡ a = cc in
-            let g : at ≡ p = cc in
+            let f : 2 ≡ a = same_answer d in
+            let g : at ≡ p = same_place d in
             rw (f, g)
         go (suc f) h = rw e
 
-    pub pairs_pair : {p n : ℕ} {c : Cursor} → text_at 2 s at ≡ Text.Got p n c → at < length s
+    pub pairs_pair : {p n : ℕ} {c : Cursor} → text_at 2 s at ≡ text_to p n c → at < length s
         → pairs inner s fuel at ≡ pair inner (pairs inner s (fuel - 1)) s at p n c.at
     unfolding pairs
     pairs_pair {p} {n} {c} e g = go fuel h
@@ -113,15 +107,15 @@ module _ (s : List ℕ) (at : ℕ) where
         go (suc f) h = rw (e, sub-one (suc f))
 
   module _ (inner more : ℕ → Due) (p n q : ℕ) where
-    pub pair_cut : {a w : ℕ} → u8_at s q ≡ U8.Stop a w → pair inner more s at p n q ≡ stop a w
+    pub pair_cut : {a w : ℕ} → u8_at s q ≡ denied a w → pair inner more s at p n q ≡ stop a w
     unfolding pair
     pair_cut e = rw e
 
-    pub pair_end : {m : ℕ} {c : Cursor} → u8_at s q ≡ U8.Got m c → m ≡ 9 → pair inner more s at p n q ≡ seen (dropped n) (due ObjectEnd q (end c.at))
+    pub pair_end : {m : ℕ} {c : Cursor} → u8_at s q ≡ got_to m c → m ≡ 9 → pair inner more s at p n q ≡ seen (dropped n) (due ObjectEnd q (end c.at))
     unfolding pair
     pair_end {m} e h = rw (e, eq-eqb m 9 h)
 
-    pub pair_key : {m : ℕ} {c : Cursor} → u8_at s q ≡ U8.Got m c → (m ≡ 9 → ⊥) → pair inner more s at p n q ≡ due (Key p n) at (inner q >>= more)
+    pub pair_key : {m : ℕ} {c : Cursor} → u8_at s q ≡ got_to m c → (m ≡ 9 → ⊥) → pair inner more s at p n q ≡ due (Key p n) at (inner q >>= more)
     unfolding pair
     pair_key {m} e h = rw (e, ne_eqb m 9 h)
 

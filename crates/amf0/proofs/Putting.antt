@@ -1,25 +1,20 @@
 -- The laws of the writing, step by step, that the functions' proofs cite.
-use Rattle.std.specs.Prelude.{◌+◌, ◌-◌, ◌*◌, ◌≤◌, ◌<◌, ◌≡◌, ◌∷◌}
+use Rattle.std.specs.Prelude.{◌+◌, ◌-◌, ◌*◌, ◌≤◌, ◌<◌, ◌≡◌, ◌∷◌, Some, None}
 use Rattle.wire.proofs.Kit.{ℕ, zero, suc, refl, sym, ap, ◌∙◌, List, [], Bool, true, false, sub-one, arith, length, get_or, leb, eqb}
 use Rattle.wire.proofs.Kit.{leb-true, leb-false, eq-eqb, ne_eqb}
 use Rattle.wire.specs.Choice.{pick}
 use Rattle.wire.specs.Number.{digits, Bytes}
 use Rattle.wire.specs.Bytes.{laid, decimal}
 use Rattle.wire.specs.Limit as limit
-use Rattle.wire.specs.Field.{u8_at}
+use Rattle.wire.specs.Field.{u8_at, got_to}
 use Rattle.wire.specs.declared.cursor.Cursor.{Cursor}
-use Rattle.wire.specs.declared.cursor.U8.TheVariants as U8
 use Rattle.wire.proofs.Laws.{pick_yes, pick_no, picked}
 use Rattle.image.specs.declared.record.Layout.{Layout}
 use Rattle.image.specs.declared.record.Record.{Record}
 use Rattle.image.specs.declared.record.Record.TheVariants.{Number, Boolean, Text, Object, Null, Undefined, Reference, EcmaArray, ObjectEnd, StrictArray, Date, Unsupported, Xml, TypedObject, Key, Packet, Header, Message, Lso}
-use Rattle.image.specs.declared.reading.Step.{Step}
-use Rattle.image.specs.declared.reading.Step.TheVariants.{Next, Stop}
-use Rattle.image.specs.declared.taking.Taken.{Taken}
-use Rattle.image.specs.declared.taking.Taken.TheVariants.{Found, Bad}
 use Rattle.image.specs.Kind as kind
 use Rattle.image.specs.Record.{layout_of}
-use Rattle.image.specs.Taking.{record_at}
+use Rattle.image.specs.Taking.{record_at, Taken, taken_to}
 use Rattle.image.specs.Out.{Out, end, stop, put, ◌>>=◌, pour, poured, Grown, bytes, settled, Written, written, unwritten}
 use Rattle.image.proofs.Laws.{size_some}
 use Rattle.image.proofs.Found.{found_stood, found_kind}
@@ -30,18 +25,18 @@ use Rattle.amf0.specs.Shape.{Shape}
 use Rattle.amf0.specs.Shape as S
 use Rattle.amf0.specs.Writing.{shape_of, kinds, among, taken, asked, indexed, value_at, items, pairs, dense, rest, value, top_value, before, value_in, whole, write_of}
 use Rattle.amf0.specs.Code.{Ahead, growth, opened, keyed}
+use Rattle.wire.specs.Answer.{denied}
+use Rattle.image.specs.Due.{Step, went_to}
+use Rattle.wire.proofs.Same.{ok_first, ok_second}
 
 -- ---- the places that a step goes on at
 
 pub ahead : {x : Step} {l h k l' h' k' : ℕ} → Ahead x l h k → l' ≤ l → h ≤ h' → k + growth * l' ≤ k' + growth * l → Ahead x l' h' k'
 ahead w lo hi gr = record { bounds = λ c n e. let b = w.bounds c n e in omega arith }
 
-pub ahead_stop : {a p l h k : ℕ} → Ahead (Stop a p) l h k
-ahead_stop = record { bounds = λ c n e. let z : ◌≡◌ {A = ℕ} 0 1 = cc in absurd (omega arith) }
-
-pub ahead_next : {c : Cursor} {n l h k : ℕ} → l ≤ c.at → c.at ≤ h → n + growth * l ≤ k + growth * c.at → Ahead (Next c n) l h k
+pub ahead_next : {c : Cursor} {n l h k : ℕ} → l ≤ c.at → c.at ≤ h → n + growth * l ≤ k + growth * c.at → Ahead (went_to c n) l h k
 ahead_next {c} {n} lo hi gr =
-    record { bounds = λ d m e. let f : c.at ≡ d.at = ap (λ (x : Cursor). x.at) (cc) in let g : n ≡ m = cc in omega arith }
+    record { bounds = λ d m e. let f : c.at ≡ d.at = ap (λ (x : Cursor). x.at) (ok_first e) in let g : n ≡ m = ok_second e in omega arith }
 
 pub ahead_grown : {x : Step} {next most l h k : ℕ} → Grown x next most → l ≤ next → next ≤ h → most + growth * l ≤ k + growth * next → Ahead x l h k
 ahead_grown w lo hi gr = record { bounds = λ c n e. let b = w.bounds c n e in omega arith }
@@ -60,7 +55,7 @@ pub record Past (image : List ℕ) (at : ℕ) (c : Cursor) : Type 0 where
   pub from : at + 1 ≤ c.at
   pub fits : c.at ≤ length image
 
-pub past : (image : List ℕ) → ((i : ℕ) → get_or image i 0 < 256) → (at : ℕ) {r : Record} {c : Cursor} → record_at image at ≡ Found r c → Past image at c
+pub past : (image : List ℕ) → ((i : ℕ) → get_or image i 0 < 256) → (at : ℕ) {r : Record} {c : Cursor} → record_at image at ≡ taken_to r c → Past image at c
 past image h at {r} {c} e =
     let k = found_stood image (known_bytes image h) at r c e in
     let z = size_some r in
@@ -87,15 +82,15 @@ module _ (image : List ℕ) (due at : ℕ) where
 
       go : (t : Taken) → P (taken at t λ r q. pick (eqb (layout_of r).kind due) (j (layout_of r) q) (stop 6 at))
           (taken at t λ r q. pick (eqb (layout_of r).kind due) (k (layout_of r) q) (stop 6 at))
-      go (Found r c) = by (eqb (layout_of r).kind due) (layout_of r) c.at
-      go Bad = none
+      go (Some x) = by (eqb (layout_of x.0).kind due) (layout_of x.0) x.1.at
+      go None = none
 
   module _ (k : Layout → ℕ → Out) where
-    pub asked_bad : record_at image at ≡ Bad → asked image due at k ≡ stop 6 at
+    pub asked_bad : record_at image at ≡ None → asked image due at k ≡ stop 6 at
     asked_bad e = rw e
 
     module _ (h : (i : ℕ) → get_or image i 0 < 256) where
-      pub asks : {r : Record} {c : Cursor} {l : Layout} → record_at image at ≡ Found r c → l ≡ layout_of r → Asked image due at k l c.at
+      pub asks : {r : Record} {c : Cursor} {l : Layout} → record_at image at ≡ taken_to r c → l ≡ layout_of r → Asked image due at k l c.at
       asks {r} {c} {l} e w =
           let p = past image h at e in
           let f : asked image due at k ≡ pick (eqb l.kind due) (k l c.at) (stop 6 at) =
@@ -103,12 +98,12 @@ module _ (image : List ℕ) (due at : ℕ) where
           record { from = p.from; fits = p.fits; same = λ n. f ∙ rw (eq-eqb l.kind due n); other = λ n. f ∙ rw (ne_eqb l.kind due n) }
 
       -- another kind's byte stands there
-      pub asked_none : (kind : ℕ) (d : Cursor) → u8_at image at ≡ U8.Got kind d → (kind ≡ due → ⊥) → asked image due at k ≡ stop 6 at
+      pub asked_none : (kind : ℕ) (d : Cursor) → u8_at image at ≡ got_to kind d → (kind ≡ due → ⊥) → asked image due at k ≡ stop 6 at
       asked_none kind d byte other = go (record_at image at) refl
         where
           go : (t : Taken) → record_at image at ≡ t → asked image due at k ≡ stop 6 at
-          go Bad e = asked_bad e
-          go (Found r c) e = (asks e refl).other λ f. other (found_kind image (known_bytes image h) at r c e kind d byte ∙ f)
+          go None e = asked_bad e
+          go (Some x) e = (asks e refl).other λ f. other (found_kind image (known_bytes image h) at x.0 x.1 e kind d byte ∙ f)
 
 -- ---- rows
 
@@ -147,13 +142,9 @@ known_shape r e = rw e at (shaped r)
 -- ---- a value
 
 module _ (image text : List ℕ) (at : ℕ) where
-  pub value_deep : (left : ℕ) → left ≡ 0 → value_at image at ≡ true → value left image text at ≡ stop 5 at
+  pub value_shut : (left : ℕ) → left ≡ 0 → value left image text at ≡ stop (pick (value_at image at) 5 6) at
   unfolding value
-  value_deep left z e = rw (z, e)
-
-  pub value_none : (left : ℕ) → left ≡ 0 → value_at image at ≡ false → value left image text at ≡ stop 6 at
-  unfolding value
-  value_none left z e = rw (z, e)
+  value_shut left z = rw z
 
   pub value_opened : (left : ℕ) → (left ≡ 0 → ⊥) → value left image text at ≡ opened (record_at image at) text at (rest (value (left - 1) image text) image text)
   unfolding value
@@ -240,32 +231,21 @@ module _ (inner : ℕ → Out) (image text : List ℕ) where
 -- ---- the calls
 
 module _ (image text : List ℕ) (count at : ℕ) where
-  pub in_text : limit.bytes < length text → value_in image text count at ≡ stop 1 0
+  pub in_over : (length text ≤ limit.bytes → length image ≤ limit.image → at ≤ length image → count ≤ before → ⊥) → value_in image text count at ≡ stop 1 0
   unfolding value_in
-  in_text h = pick_no (length text) limit.bytes _ _ h
+  in_over h =
+      let P : Out → Type 0 = λ (d : Out). d ≡ stop 1 0 in
+      picked P (leb (length text) limit.bytes) _ _
+      (λ t. picked P (leb (length image) limit.image) _ _
+      (λ i. picked P (leb at (length image)) _ _
+      (λ p. picked P (leb count before) _ _ (λ n. absurd (h (leb-true _ _ t) (leb-true _ _ i) (leb-true _ _ p) (leb-true _ _ n))) (λ n. refl)) (λ p. refl))
+      (λ i. refl))
+      (λ t. refl)
 
-  module _ (t : length text ≤ limit.bytes) where
-    pub in_image : limit.image < length image → value_in image text count at ≡ stop 1 0
-    unfolding value_in
-    in_image h = pick_yes (length text) limit.bytes _ _ t ∙ pick_no (length image) limit.image _ _ h
-
-    module _ (i : length image ≤ limit.image) where
-      pub in_place : length image < at → value_in image text count at ≡ stop 1 0
-      unfolding value_in
-      in_place h = pick_yes (length text) limit.bytes _ _ t ∙ pick_yes (length image) limit.image _ _ i ∙ pick_no at (length image) _ _ h
-
-      module _ (p : at ≤ length image) where
-        pub in_count : before < count → value_in image text count at ≡ stop 1 0
-        unfolding value_in
-        in_count h =
-            pick_yes (length text) limit.bytes _ _ t ∙ pick_yes (length image) limit.image _ _ i ∙ pick_yes at (length image) _ _ p
-            ∙ pick_no count before _ _ h
-
-        pub in_value : count ≤ before → value_in image text count at ≡ top_value image text at
-        unfolding value_in
-        in_value h =
-            pick_yes (length text) limit.bytes _ _ t ∙ pick_yes (length image) limit.image _ _ i ∙ pick_yes at (length image) _ _ p
-            ∙ pick_yes count before _ _ h
+  pub in_value : length text ≤ limit.bytes → length image ≤ limit.image → at ≤ length image → count ≤ before → value_in image text count at ≡ top_value image text at
+  unfolding value_in
+  in_value t i p h =
+      pick_yes (length text) limit.bytes _ _ t ∙ pick_yes (length image) limit.image _ _ i ∙ pick_yes at (length image) _ _ p ∙ pick_yes count before _ _ h
 
 -- the check for bytes past the end of the tree puts nothing out
 check_bytes : (image : List ℕ) (n : ℕ) → bytes (pick (leb (length image) n) (end n) (stop 6 n)) ≡ []
@@ -274,10 +254,10 @@ check_bytes image n = picked (λ (d : Out). bytes d ≡ []) (leb (length image) 
 
 -- a writing that has to come to the end of its image: the first of the two passes, on an output z, tells what it comes to
 module _ (image : List ℕ) (d : Out) (room : ℕ) (z : List ℕ) where
-  pub whole_halt : {a p : ℕ} {o : List ℕ} → poured (Stop a p) o ≡ pour d 0 z → settled (whole image d) room ≡ unwritten a
+  pub whole_halt : {a p : ℕ} {o : List ℕ} → poured (denied a p) o ≡ pour d 0 z → settled (whole image d) room ≡ unwritten a
   whole_halt e = settled_halt (whole image d) 0 z room (sym (pour_halt d _ 0 z e))
 
-  module _ {c : Cursor} {n : ℕ} {o : List ℕ} (e : poured (Next c n) o ≡ pour d 0 z) where
+  module _ {c : Cursor} {n : ℕ} {o : List ℕ} (e : poured (went_to c n) o ≡ pour d 0 z) where
     checked : pour (whole image d) 0 z ≡ pour (pick (leb (length image) c.at) (end c.at) (stop 6 c.at)) n o
     checked = pour_then d _ 0 z e
 
@@ -287,7 +267,7 @@ module _ (image : List ℕ) (d : Out) (room : ℕ) (z : List ℕ) where
         (sym (checked ∙ ap (λ (x : Out). pour x n o) (pick_no (length image) c.at _ _ h) ∙ pour_stop n o 6 c.at))
 
     module _ (h : length image ≤ c.at) where
-      through : poured (Next c n) o ≡ pour (whole image d) 0 z
+      through : poured (went_to c n) o ≡ pour (whole image d) 0 z
       through = sym (checked ∙ ap (λ (x : Out). pour x n o) (pick_yes (length image) c.at _ _ h) ∙ pour_end n o c.at)
 
       pub whole_over : limit.bytes < n → settled (whole image d) room ≡ unwritten 1
@@ -312,15 +292,15 @@ module _ (image text : List ℕ) (room : ℕ) where
       let h = leb-true (length text) limit.bytes t in
       picked P (leb (length image) limit.image) _ _
       (λ i. rw (in_value image text 0 0 h (leb-true (length image) limit.image i) (omega arith) (omega arith)))
-      (λ i. none (in_image image text 0 0 h (leb-false (length image) limit.image i))))
-      (λ t. none (in_text image text 0 0 (leb-false (length text) limit.bytes t)))
+      (λ i. none (in_over image text 0 0 (λ g f p n. omega (arith, leb-false (length image) limit.image i)))))
+      (λ t. none (in_over image text 0 0 (λ g f p n. omega (arith, leb-false (length text) limit.bytes t))))
 
   -- the first of the two passes, on an output z, tells what the call comes to
   module _ (z : List ℕ) where
-    pub write_halt : {a p : ℕ} {o : List ℕ} → poured (Stop a p) o ≡ pour (value_in image text 0 0) 0 z → write_of image text room ≡ unwritten a
+    pub write_halt : {a p : ℕ} {o : List ℕ} → poured (denied a p) o ≡ pour (value_in image text 0 0) 0 z → write_of image text room ≡ unwritten a
     write_halt e = sym whole_write ∙ whole_halt image (value_in image text 0 0) room z e
 
-    module _ {c : Cursor} {n : ℕ} {o : List ℕ} (e : poured (Next c n) o ≡ pour (value_in image text 0 0) 0 z) where
+    module _ {c : Cursor} {n : ℕ} {o : List ℕ} (e : poured (went_to c n) o ≡ pour (value_in image text 0 0) 0 z) where
       pub write_past : c.at < length image → write_of image text room ≡ unwritten 6
       write_past h = sym whole_write ∙ whole_past image (value_in image text 0 0) room z e h
 

@@ -1,6 +1,6 @@
 -- A reading goes forward and ends inside the input, lays at most three bytes for each byte that it reads, and is refused with 2, 3 or 5, at a
 -- place inside the input.
-use Rattle.std.specs.Prelude.{◌+◌, ◌*◌, ◌≤◌, ◌<◌, ◌≢◌}
+use Rattle.std.specs.Prelude.{◌+◌, ◌*◌, ◌≤◌, ◌<◌, ◌≢◌, Ok, Err, Some, None, Option}
 use Rattle.wire.proofs.Kit.{ℕ, zero, suc, List, le_refl, arith, length, get_or, leb, eqb}
 use Rattle.wire.specs.Number.{number}
 use Rattle.wire.specs.Field.{bytes_at, text_at, got_text}
@@ -13,14 +13,12 @@ use Rattle.image.specs.Due.{Due, Fact, stop, seen, due, ◌>>=◌}
 use Rattle.image.proofs.Kept.{Kept, fewer, bind_kept}
 use Rattle.amf0.specs.declared.read.Follow.{Follow}
 use Rattle.amf0.specs.declared.read.Follow.TheVariants.{Nothing, Pairs, Values}
-use Rattle.amf0.specs.declared.read.Fields.{Fields}
-use Rattle.amf0.specs.declared.read.Fields.TheVariants.{Got, Stop}
 use Rattle.amf0.specs.Marker.{markers, marker_of}
-use Rattle.amf0.specs.Fields.{fields_at, got_fields, gives, shut, behind}
+use Rattle.amf0.specs.Fields.{fields_at, got_fields, gives, shut, behind, Fields}
 use Rattle.amf0.specs.Reading.{items, pair, pairs, follow, own_at, value}
 use Rattle.amf0.proofs.Rows.{Each, ◌▸◌, each_marker}
-use Rattle.amf0.specs.declared.type_marker.Marked.{Marked}
-use Rattle.amf0.specs.declared.type_marker.Marked.TheVariants.{Value, Refused}
+use Rattle.wire.specs.Answer.{denied}
+use Rattle.amf0.specs.declared.type_marker.TypeMarker.{TypeMarker}
 
 -- an answer that refuses a reading: 2, 3 or 5
 pub record Named (a : ℕ) : Type 0 where
@@ -40,36 +38,36 @@ five = record { low = omega arith; high = omega arith; other = λ e. omega arith
 -- ---- the fields of a marker
 
 abbrev pub KeptFields : List ℕ → ℕ → Fields → Type 0
-KeptFields s at (Got r f c) = (3 * at + length (bytes_of r) ≤ 3 * c.at) × (c.at ≤ length s)
-KeptFields s at (Stop a p) = Named a × (p ≤ length s)
+KeptFields s at (Ok x) = (3 * at + length (bytes_of x.0) ≤ 3 * x.2.at) × (x.2.at ≤ length s)
+KeptFields s at (Err r) = Named r.answer × (r.place ≤ length s)
 
 module _ (s : List ℕ) (at : ℕ) (l : at < length s) where
-  Entry : ℕ → Marked → Type 0
+  Entry : ℕ → (Option TypeMarker) → Type 0
   Entry m t = KeptFields s at (behind s at (at + 1) t)
 
   text_kept : (w : ℕ) (q : ℕ → ℕ → Record) (f : Follow) → ((p n : ℕ) → length (bytes_of (q p n)) ≤ 3 + 3 * w)
-      → KeptFields s at (got_text Stop (text_at w s (at + 1)) λ p n e. gives (q p n) f e)
-  text_kept w q f h = go_text (KeptFields s at) Stop s (at + 1) w _
+      → KeptFields s at (got_text denied (text_at w s (at + 1)) λ p n e. gives (q p n) f e)
+  text_kept w q f h = go_text (KeptFields s at) denied s (at + 1) w _
       (λ n e i u. (omega (arith, h (at + 1 + w) n), i)) (λ i. (two, omega arith)) (λ n e i j. (two, i)) (λ n e i u. (three, omega arith))
 
   entries : Each Entry markers
   unfolding Entry fields_at bytes_of
   entries =
-      go64 (KeptFields s at) Stop s (at + 1) _ (λ i. (omega arith, i)) (λ i. (two, omega arith))
-      ▸ go8 (KeptFields s at) Stop s (at + 1) _ (λ i. (omega arith, omega arith)) (λ i. (two, omega arith))
+      go64 (KeptFields s at) denied s (at + 1) _ (λ i. (omega arith, i)) (λ i. (two, omega arith))
+      ▸ go8 (KeptFields s at) denied s (at + 1) _ (λ i. (omega arith, omega arith)) (λ i. (two, omega arith))
       ▸ text_kept 2 R.Text Nothing (λ p n. omega arith)
       ▸ (omega arith, omega arith)
       ▸ (three, omega arith)
       ▸ (omega arith, omega arith)
       ▸ (omega arith, omega arith)
-      ▸ go16 (KeptFields s at) Stop s (at + 1) _ (λ i. (omega arith, i)) (λ i. (two, omega arith))
-      ▸ go32 (KeptFields s at) Stop s (at + 1) _ (λ i. (omega arith, i)) (λ i. (two, omega arith))
+      ▸ go16 (KeptFields s at) denied s (at + 1) _ (λ i. (omega arith, i)) (λ i. (two, omega arith))
+      ▸ go32 (KeptFields s at) denied s (at + 1) _ (λ i. (omega arith, i)) (λ i. (two, omega arith))
       ▸ (three, omega arith)
-      ▸ go32 (KeptFields s at) Stop s (at + 1) _
+      ▸ go32 (KeptFields s at) denied s (at + 1) _
       (λ i. picked (KeptFields s at) (leb (at + 1 + 4 + number (bytes_at 4 s (at + 1))) (length s)) _ _ (λ j. (omega arith, i)) (λ j. (two, omega arith)))
       (λ i. (two, omega arith))
-      ▸ go64 (KeptFields s at) Stop s (at + 1) _
-      (λ i. go16 (KeptFields s at) Stop s (at + 1 + 8) _ (λ j. (omega arith, j)) (λ j. (two, i))) (λ i. (two, omega arith))
+      ▸ go64 (KeptFields s at) denied s (at + 1) _
+      (λ i. go16 (KeptFields s at) denied s (at + 1 + 8) _ (λ j. (omega arith, j)) (λ j. (two, i))) (λ i. (two, omega arith))
       ▸ text_kept 4 R.Text Nothing (λ p n. omega arith)
       ▸ (omega arith, omega arith)
       ▸ (three, omega arith)
@@ -113,13 +111,13 @@ module _ (s : List ℕ) (u : ℕ → Due) (g : (at : ℕ) → at ≤ length s �
 
   node_kept : (look : ℕ → Fact) (at : ℕ) (x : Fields) → at ≤ length s → KeptFields s at x
       → Kept Named s (3 * at) (got_fields stop x λ r f q. seen (look q) (due r at (follow u s f q)))
-  node_kept look at (Got r f c) h k = (h, fewer Named s (3 * at + length (bytes_of r)) (3 * c.at) (follow u s f c.at) k.0 (follow_kept f c.at k.1))
-  node_kept look at (Stop a p) h k = (omega arith, k.0, k.1)
+  node_kept look at (Ok x) h k = (h, fewer Named s (3 * at + length (bytes_of x.0)) (3 * x.2.at) (follow u s x.1 x.2.at) k.0 (follow_kept x.1 x.2.at k.1))
+  node_kept look at (Err r) h k = (omega arith, k.0, k.1)
 
 -- where no level is left
-shut_named : (t : Marked) → Named (shut t)
-shut_named (Value k) = five
-shut_named Refused = three
+shut_named : (t : (Option TypeMarker)) → Named (shut t)
+shut_named (Some k) = five
+shut_named None = three
 
 pub kept : (left : ℕ) (s : List ℕ) (at : ℕ) → at ≤ length s → Kept Named s (3 * at) (value left s at)
 unfolding value

@@ -1,11 +1,11 @@
 -- A marker and its fields are read as the standard's row, and what was read of them is a row.
-use Rattle.std.specs.Prelude.{◌+◌, ◌^◌, ◌≤◌, ◌<◌, ◌≡◌, ◌∷◌, ◌++◌}
+use Rattle.std.specs.Prelude.{◌+◌, ◌^◌, ◌≤◌, ◌<◌, ◌≡◌, ◌∷◌, ◌++◌, Ok, Err, Some, Option}
 use Rattle.wire.proofs.Kit.{ℕ, zero, suc, refl, sym, ap, ◌∙◌, List, [], Bool, true, false, arith, length, get_or}
 use Rattle.wire.proofs.Kit.{List·getD-eq-default, leb, ltb, eqb, le-leb, lt-ltb, ne_eqb, leb-true, leb-false}
 use Rattle.std.proofs.Common.{suc-le-suc, zero-le}
 use Rattle.wire.specs.Number.{digits, Bytes}
 use Rattle.wire.specs.Utf8.{utf8}
-use Rattle.wire.specs.Field.{u8_at, text_at, got8, got_text}
+use Rattle.wire.specs.Field.{u8_at, text_at, got, got_text}
 use Rattle.wire.proofs.Laws.{picked}
 use Rattle.wire.proofs.Stands.{Here, join, cut, skip, bytes_here, byte_at, u16_at_lem, u32_at_lem, u64_at_lem, text_at_lem, end8, end16, end32, end64, end_text}
 use Rattle.image.specs.declared.record.Record.{Record}
@@ -13,19 +13,17 @@ use Rattle.image.specs.declared.record.Record.TheVariants as R
 use Rattle.amf0.specs.declared.type_marker.TypeMarker.TheVariants as M
 use Rattle.amf0.specs.declared.read.Follow.{Follow}
 use Rattle.amf0.specs.declared.read.Follow.TheVariants.{Nothing, Pairs, Values}
-use Rattle.amf0.specs.declared.read.Fields.{Fields}
-use Rattle.amf0.specs.declared.read.Fields.TheVariants.{Got, Stop}
 use Rattle.amf0.specs.Marker.{markers, marker_of}
-use Rattle.amf0.specs.Fields.{fields_at, gives, behind}
+use Rattle.amf0.specs.Fields.{fields_at, gives, behind, Fields}
 use Rattle.amf0.specs.Standard.{Item, Content, content, follows, many, short_most, Row}
 use Rattle.amf0.specs.Standard.UTF-8.{short}
 use Rattle.amf0.specs.Standard.UTF-8-long.{long}
-use Rattle.amf0.specs.declared.type_marker.Marked.{Marked}
-use Rattle.amf0.specs.declared.type_marker.Marked.TheVariants.{Value}
+use Rattle.wire.specs.Answer.{denied}
+use Rattle.amf0.specs.declared.type_marker.TypeMarker.{TypeMarker}
 
 -- a marker and its fields, from the marker's place on
 unfoldable pub item_at : List ℕ → ℕ → Fields
-item_at s at = got8 Stop (u8_at s at) λ m p. behind s at p (marker_of m)
+item_at s at = got denied (u8_at s at) λ m p. behind s at p (marker_of m)
 
 -- the record of a row that stands at a place, and what is then to follow
 unfoldable pub mark : {i : Item} {x : List ℕ} → Row i x → ℕ → Record
@@ -94,16 +92,16 @@ row_begins (Row.departure_unknown m h l) = begins m _ (ne_eqb m 9 λ e. omega ar
 -- ---- a row that stands there is read
 
 module _ (s r : List ℕ) (at n : ℕ) where
-  marker_at : (m : ℕ) (y : List ℕ) {t : Marked} {f : Fields} → marker_of m ≡ t → Here s at (m ∷ y) r → behind s at (at + 1) t ≡ f → item_at s at ≡ f
+  marker_at : (m : ℕ) (y : List ℕ) {t : (Option TypeMarker)} {f : Fields} → marker_of m ≡ t → Here s at (m ∷ y) r → behind s at (at + 1) t ≡ f → item_at s at ≡ f
   unfolding item_at
   marker_at m y e h g = rw (byte_at m (cut (m ∷ []) y h), e) g
 
-  bare_at : (m : ℕ) {t : Marked} {q : Record} {f : Follow} → marker_of m ≡ t → Here s at (m ∷ []) r → behind s at (at + 1) t ≡ gives q f (at + 1) → n ≡ at + 1
+  bare_at : (m : ℕ) {t : (Option TypeMarker)} {q : Record} {f : Follow} → marker_of m ≡ t → Here s at (m ∷ []) r → behind s at (at + 1) t ≡ gives q f (at + 1) → n ≡ at + 1
       → item_at s at ≡ gives q f n
   bare_at m {q} {f} e h g l = marker_at m [] e h (g ∙ ap (gives q f) (sym l))
 
-  text_row : (m w : ℕ) (t : List ℕ) {k : Marked} (q : ℕ → ℕ → Record) (f : Follow) → marker_of m ≡ k
-      → behind s at (at + 1) k ≡ got_text Stop (text_at w s (at + 1)) (λ p c e. gives (q p c) f e) → 1 ≤ w
+  text_row : (m w : ℕ) (t : List ℕ) {k : (Option TypeMarker)} (q : ℕ → ℕ → Record) (f : Follow) → marker_of m ≡ k
+      → behind s at (at + 1) k ≡ got_text denied (text_at w s (at + 1)) (λ p c e. gives (q p c) f e) → 1 ≤ w
       → Here s at (m ∷ digits w (length t) ++ t) r → length t < 256 ^ w → utf8 t ≡ true → n ≡ at + 1 + w + length t
       → item_at s at ≡ gives (q (at + 1 + w) (length t)) f n
   text_row m w t q f e g p h b u l =
@@ -146,7 +144,7 @@ module _ (s r : List ℕ) (at n : ℕ) where
   item_at_lem (Row.xml_document (long t b u)) h l f = text_row 15 4 t R.Xml Nothing refl refl (omega arith) h b u (omega arith)
   item_at_lem (Row.typed_object (short t b u)) h l f = text_row 16 2 t R.TypedObject Pairs refl refl (omega arith) h b u (omega arith)
   item_at_lem Row.departure_avmplus h l f = bare_at 17 refl h refl l
-  item_at_lem (Row.departure_unknown m b k) h l f = bare_at m (List·getD-eq-default markers (Value M.Unsupported) b) h refl l
+  item_at_lem (Row.departure_unknown m b k) h l f = bare_at m (List·getD-eq-default markers (Some M.Unsupported) b) h refl l
 
 -- ---- what was read is a row
 
@@ -162,14 +160,14 @@ pub record IsRow (s : List ℕ) (at : ℕ) (r : Record) (f : Follow) (q : ℕ) :
   pub follows : f ≡ next what
 
 abbrev pub IsRead : List ℕ → ℕ → Fields → Type 0
-IsRead s at (Got r f c) = IsRow s at r f c.at
-IsRead s at (Stop a p) = Unit {0}
+IsRead s at (Ok x) = IsRow s at x.0 x.1 x.2.at
+IsRead s at (Err r) = Unit {0}
 
 is_row : {s x r : List ℕ} {at q : ℕ} {i : Item} {m : Record} (row : Row i x) → Here s at x r → q ≡ at + length x → m ≡ mark row at → IsRow s at m (next i) q
 is_row {x} {r} {i} row h l e = record { what = i; row = x; rest = r; grammar = row; here = h; long = l; marks = e; follows = refl }
 
 -- a fact of each marker, with its number
-abbrev pub Each : (ℕ → Marked → Type 0) → List Marked → Type 0
+abbrev pub Each : (ℕ → (Option TypeMarker) → Type 0) → List (Option TypeMarker) → Type 0
 Each P [] = Unit {0}
 Each P (t ∷ ts) = P 0 t × Each (λ i. P (suc i)) ts
 
@@ -177,17 +175,17 @@ infixr 5 ◌▸◌
 pub ◌▸◌ : {A B : Type 0} → A → B → A × B
 a ▸ b = (a, b)
 
-each : (P : ℕ → Marked → Type 0) (d : Marked) (ts : List Marked) → Each P ts → ((m : ℕ) → length ts ≤ m → P m d) → (m : ℕ) → P m (get_or ts m d)
+each : (P : ℕ → (Option TypeMarker) → Type 0) (d : (Option TypeMarker)) (ts : List (Option TypeMarker)) → Each P ts → ((m : ℕ) → length ts ≤ m → P m d) → (m : ℕ) → P m (get_or ts m d)
 each P d [] e out m = out m zero-le
 each P d (t ∷ ts) e out zero = e.0
 each P d (t ∷ ts) e out (suc m) = each (λ i. P (suc i)) d ts e.1 (λ j h. out (suc j) (suc-le-suc h)) m
 
-pub each_marker : (P : ℕ → Marked → Type 0) → Each P markers → ((m : ℕ) → 18 ≤ m → P m (Value M.Unsupported)) → (m : ℕ) → P m (marker_of m)
+pub each_marker : (P : ℕ → (Option TypeMarker) → Type 0) → Each P markers → ((m : ℕ) → 18 ≤ m → P m (Some M.Unsupported)) → (m : ℕ) → P m (marker_of m)
 unfolding marker_of
-each_marker P = each P (Value M.Unsupported) markers
+each_marker P = each P (Some M.Unsupported) markers
 
 module _ (s : List ℕ) (bs : Bytes s) (at : ℕ) where
-  Entry : ℕ → Marked → Type 0
+  Entry : ℕ → (Option TypeMarker) → Type 0
   Entry m t = (r : List ℕ) → Here s at (m ∷ []) r → IsRead s at (behind s at (at + 1) t)
 
   boolean_row : {r z : List ℕ} (b : ℕ) → Here s at (1 ∷ []) r → Here s (at + 1) (b ∷ []) z → IsRow s at (R.Boolean (ltb 0 b)) Nothing (at + 1 + 1)
@@ -217,28 +215,28 @@ module _ (s : List ℕ) (bs : Bytes s) (at : ℕ) where
   entries : Each Entry markers
   unfolding Entry fields_at mark
   entries =
-      (λ r h. end64 (IsRead s at) Stop (λ a p. tt) s bs (at + 1) _ λ n d. is_row (Row.number n d.bound) (join h refl d.here) (omega arith) refl)
-      ▸ (λ r h. end8 (IsRead s at) Stop (λ a p. tt) s bs (at + 1) _ λ b d. boolean_row b h d)
-      ▸ (λ r h. end_text (IsRead s at) Stop (λ a p. tt) s bs (at + 1) 2 _ λ t x g b u. is_row (Row.string (short t b u)) (join h refl g) (omega arith) refl)
+      (λ r h. end64 (IsRead s at) denied (λ a p. tt) s bs (at + 1) _ λ n d. is_row (Row.number n d.bound) (join h refl d.here) (omega arith) refl)
+      ▸ (λ r h. end8 (IsRead s at) denied (λ a p. tt) s bs (at + 1) _ λ b d. boolean_row b h d)
+      ▸ (λ r h. end_text (IsRead s at) denied (λ a p. tt) s bs (at + 1) 2 _ λ t x g b u. is_row (Row.string (short t b u)) (join h refl g) (omega arith) refl)
       ▸ (λ r h. is_row Row.object h refl refl)
       ▸ (λ r h. tt)
       ▸ (λ r h. is_row Row.null h refl refl)
       ▸ (λ r h. is_row Row.undefined h refl refl)
-      ▸ (λ r h. end16 (IsRead s at) Stop (λ a p. tt) s bs (at + 1) _ λ n d. is_row (Row.departure_any_index n d.bound) (join h refl d.here) (omega arith) refl)
-      ▸ (λ r h. end32 (IsRead s at) Stop (λ a p. tt) s bs (at + 1) _ λ n d. is_row (Row.departure_any_count n d.bound) (join h refl d.here) (omega arith) refl)
+      ▸ (λ r h. end16 (IsRead s at) denied (λ a p. tt) s bs (at + 1) _ λ n d. is_row (Row.departure_any_index n d.bound) (join h refl d.here) (omega arith) refl)
+      ▸ (λ r h. end32 (IsRead s at) denied (λ a p. tt) s bs (at + 1) _ λ n d. is_row (Row.departure_any_count n d.bound) (join h refl d.here) (omega arith) refl)
       ▸ (λ r h. tt)
-      ▸ (λ r h. end32 (IsRead s at) Stop (λ a p. tt) s bs (at + 1) _ λ n d. picked (IsRead s at) (leb (at + 1 + 4 + n) (length s)) _ _
+      ▸ (λ r h. end32 (IsRead s at) denied (λ a p. tt) s bs (at + 1) _ λ n d. picked (IsRead s at) (leb (at + 1 + 4 + n) (length s)) _ _
       (λ e. is_row (Row.strict_array n d.bound) (join h refl d.here) (omega arith) refl) (λ e. tt))
-      ▸ (λ r h. end64 (IsRead s at) Stop (λ a p. tt) s bs (at + 1) _ λ n d. end16 (IsRead s at) Stop (λ a p. tt) s bs (at + 1 + 8) _ λ z e.
+      ▸ (λ r h. end64 (IsRead s at) denied (λ a p. tt) s bs (at + 1) _ λ n d. end16 (IsRead s at) denied (λ a p. tt) s bs (at + 1 + 8) _ λ z e.
       date_row n z (join h refl (join d.here refl e.here)) d.bound e.bound)
-      ▸ (λ r h. end_text (IsRead s at) Stop (λ a p. tt) s bs (at + 1) 4 _ λ t x g b u. long_row t (join h refl g) b u)
+      ▸ (λ r h. end_text (IsRead s at) denied (λ a p. tt) s bs (at + 1) 4 _ λ t x g b u. long_row t (join h refl g) b u)
       ▸ (λ r h. is_row Row.unsupported h refl refl)
       ▸ (λ r h. tt)
-      ▸ (λ r h. end_text (IsRead s at) Stop (λ a p. tt) s bs (at + 1) 4 _ λ t x g b u. is_row (Row.xml_document (long t b u)) (join h refl g) (omega arith) refl)
-      ▸ (λ r h. end_text (IsRead s at) Stop (λ a p. tt) s bs (at + 1) 2 _ λ t x g b u. is_row (Row.typed_object (short t b u)) (join h refl g) (omega arith) refl)
+      ▸ (λ r h. end_text (IsRead s at) denied (λ a p. tt) s bs (at + 1) 4 _ λ t x g b u. is_row (Row.xml_document (long t b u)) (join h refl g) (omega arith) refl)
+      ▸ (λ r h. end_text (IsRead s at) denied (λ a p. tt) s bs (at + 1) 2 _ λ t x g b u. is_row (Row.typed_object (short t b u)) (join h refl g) (omega arith) refl)
       ▸ (λ r h. is_row Row.departure_avmplus h refl refl)
       ▸ tt
 
   pub item_ends : IsRead s at (item_at s at)
   unfolding item_at Entry fields_at mark
-  item_ends = end8 (IsRead s at) Stop (λ a p. tt) s bs at _ λ m h. each_marker Entry entries (λ m l r h. is_row (Row.departure_unknown m l (bytes_here h bs).0) h refl refl) m _ h
+  item_ends = end8 (IsRead s at) denied (λ a p. tt) s bs at _ λ m h. each_marker Entry entries (λ m l r h. is_row (Row.departure_unknown m l (bytes_here h bs).0) h refl refl) m _ h

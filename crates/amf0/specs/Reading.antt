@@ -1,7 +1,7 @@
 -- What reading a value finds, from a place of an input on: the rule "Reading one value" (docs/DEMANDS.md). `left` is how many levels are left.
 use Rattle.std.specs.Prelude.{ℕ, zero, suc, ◌+◌, ◌-◌, List, length, leb, eqb}
 use Rattle.wire.specs.Choice.{pick}
-use Rattle.wire.specs.Field.{bytes_at, u8_at, text_at, got8, got_text}
+use Rattle.wire.specs.Field.{bytes_at, u8_at, text_at, got, got_text}
 use Rattle.wire.specs.Limit as limit
 use Rattle.image.specs.declared.record.Record.TheVariants.{ObjectEnd, Key}
 use Rattle.image.specs.Due.{Due, Fact, end, stop, seen, due, ◌>>=◌, based}
@@ -21,7 +21,7 @@ items value (suc n) at = value at >>= items value n
 -- what comes after it
 unfoldable pub pair : (ℕ → Due) → (ℕ → Due) → List ℕ → ℕ → ℕ → ℕ → ℕ → Due
 pair value more s at p n q =
-    got8 stop (u8_at s q) λ m e.
+    got stop (u8_at s q) λ m e.
     pick (eqb m 9) (seen (dropped n) (due ObjectEnd q (end e))) (due (Key p n) at (value q >>= more))
 
 -- pairs up to the end marker; each takes bytes, so the input's length bounds their number
@@ -41,9 +41,9 @@ own_at left s at q = own left (bytes_at (q - at) s at)
 
 -- a value: its marker, its own fields, its record, and what follows
 unfoldable pub value : ℕ → List ℕ → ℕ → Due
-value zero s at = got8 stop (u8_at s at) λ m p. stop (shut (marker_of m)) at
+value zero s at = got stop (u8_at s at) λ m p. stop (shut (marker_of m)) at
 value (suc left) s at =
-    got8 stop (u8_at s at) λ m p.
+    got stop (u8_at s at) λ m p.
     got_fields stop (behind s at p (marker_of m)) λ r f q.
     seen (own_at left s at q) (due r at (follow (value left s) s f q))
 

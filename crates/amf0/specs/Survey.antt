@@ -1,35 +1,43 @@
 -- A reading without records: how it ends, and counts of what no record keeps.
-use Rattle.std.specs.Prelude.{ℕ, ◌+◌, ◌-◌, ◌≤◌, ◌^◌, ◌%◌, ◌≡◌, List, Bool, false, length, get_or, leb, ltb, eqb, slice_set}
+use Rattle.std.specs.Prelude.{ℕ, ◌+◌, ◌-◌, ◌≤◌, ◌^◌, ◌%◌, ◌≡◌, List, Bool, false, length, get_or, leb, ltb, eqb, slice_set, Result, Ok, Err}
 use Rattle.wire.specs.Choice.{pick}
-use Rattle.wire.specs.Field.{to, whole, got_text}
+use Rattle.wire.specs.Answer.{Verdict, denied}
+use Rattle.wire.specs.Field.{to, Parsed, got_to, got_at, got_text}
 use Rattle.wire.specs.Limit as limit
 use Rattle.wire.specs.declared.cursor.Cursor.{Cursor}
-use Rattle.wire.specs.declared.cursor.Text.{Text}
+use Rattle.wire.specs.declared.cursor.Span.{Span}
 use Rattle.image.specs.Due.{Due, Fact, end, stop, seen, due, on_end}
 use Rattle.image.specs.Due.Fact.{own, dropped}
 use Rattle.amf0.specs.declared.read.Follow.{Follow}
-use Rattle.amf0.specs.declared.read.Fields.{Fields}
-use Rattle.amf0.specs.declared.survey.Passed.{Passed}
-use Rattle.amf0.specs.declared.survey.Ended.{Ended}
-use Rattle.amf0.specs.declared.survey.Ended.TheVariants.{Next, Stop}
+use Rattle.amf0.specs.Fields.{Fields}
+
+-- how a reading ends: behind what it read, or refused
+abbrev pub Ended : Type 0
+Ended = Result Cursor Verdict
+
+abbrev pub ends_at : Cursor → Ended
+ends_at c = Ok c
 
 -- how a reading ends, whatever falls due and is seen on the way
 abbrev pub end_of : Due → Ended
-end_of d = on_end d (λ n. Next (to n)) Stop
+end_of d = on_end d (λ n. ends_at (to n)) denied
 
 -- ---- a value's own fields, with no word of their record
 
+abbrev pub Passed : Type 0
+Passed = Parsed Follow
+
 abbrev pub passed : Fields → Passed
-passed (Fields.Got r f c) = Passed.Got f c
-passed (Fields.Stop a p) = Passed.Stop a p
+passed (Ok x) = got_to x.1 x.2
+passed (Err r) = Err r
 
 -- those that end with n bytes, in a part that begins at the place b of a whole
 abbrev pub bytes_passed : ℕ → ℕ → List ℕ → ℕ → Follow → Passed
-bytes_passed b n s at f = whole (λ a p. Passed.Stop a (b + p)) n s at (Passed.Got f (to (at + n)))
+bytes_passed b n s at f = pick (leb (at + n) (length s)) (got_at f (at + n)) (denied 2 (b + at))
 
 -- those that end with a text
-abbrev pub text_passed : ℕ → Text → Follow → Passed
-text_passed b x f = got_text (λ a p. Passed.Stop a (b + p)) x (λ p n q. Passed.Got f (to q))
+abbrev pub text_passed : ℕ → Parsed Span → Follow → Passed
+text_passed b x f = got_text (λ a p. denied a (b + p)) x (λ p n q. got_at f q)
 
 -- ---- the counters
 
@@ -76,11 +84,11 @@ told x t = record { ended = x; counts = t }
 
 -- The reading carried out with no record laid: each fact is counted.
 unfoldable pub count : Due → List ℕ → Told
-count (end n) t = told (Next (to n)) t
-count (stop a p) t = told (Stop a p) t
+count (end n) t = told (ends_at (to n)) t
+count (stop a p) t = told (denied a p) t
 count (seen f d) t = count d (noted f t)
 count (due r p d) t = count d t
 
 -- a reading that goes on does so at a place from `low` to `high`
 pub record Onward (x : Ended) (low high : ℕ) : Type 0 where
-  pub bounds : (c : Cursor) → x ≡ Next c → (low ≤ c.at) × (c.at ≤ high)
+  pub bounds : (c : Cursor) → x ≡ ends_at c → (low ≤ c.at) × (c.at ≤ high)

@@ -1,21 +1,19 @@
 -- What writing a value puts out, from a place of an image on: the rules "Writing checks first" and "What is written" (docs/DEMANDS.md). `left` is how many
 -- levels are left.
-use Rattle.std.specs.Prelude.{ℕ, zero, suc, ◌+◌, List, [], ◌∷◌, Bool, true, false, length, leb, eqb}
+use Rattle.std.specs.Prelude.{ℕ, zero, suc, ◌+◌, List, [], ◌∷◌, Bool, true, false, length, leb, eqb, Some, None}
 use Rattle.wire.specs.Choice.{pick}
 use Rattle.wire.specs.Number.{digits}
 use Rattle.wire.specs.Bytes.{decimal}
-use Rattle.wire.specs.Field.{u8_at, got8}
+use Rattle.wire.specs.Field.{u8_at, got}
 use Rattle.wire.specs.Limit as limit
 use Rattle.image.specs.declared.record.Field.{Field}
 use Rattle.image.specs.declared.record.Layout.{Layout}
 use Rattle.image.specs.declared.record.Record.{Record}
 use Rattle.image.specs.declared.record.Record.TheVariants.{Number, Boolean, Text, Object, Null, Undefined, Reference, EcmaArray, ObjectEnd, StrictArray, Date, Unsupported, Xml, TypedObject, Key, Packet, Header, Message, Lso}
-use Rattle.image.specs.declared.taking.Taken.{Taken}
-use Rattle.image.specs.declared.taking.Taken.TheVariants.{Found, Bad}
 use Rattle.image.specs.declared.writing.Row.{Row}
 use Rattle.image.specs.Kind as kind
 use Rattle.image.specs.Record.{◌bytes◌, none, bit_of, layout_of}
-use Rattle.image.specs.Taking.{record_at}
+use Rattle.image.specs.Taking.{Taken, record_at}
 use Rattle.image.specs.Out.{Out, end, stop, put, ◌>>=◌, row, Written, unwritten, settled}
 use Rattle.amf0.specs.declared.write.Rest.{Rest}
 use Rattle.amf0.specs.declared.write.Rest.TheVariants.{Nothing, Pairs, Dense, Values}
@@ -71,12 +69,12 @@ among (j ∷ js) k = pick (eqb k j) true (among js k)
 
 -- a value's record begins at a place
 unfoldable pub value_at : List ℕ → ℕ → Bool
-value_at image at = got8 (λ a p. false) (u8_at image at) λ k p. among kinds k
+value_at image at = got (λ a p. false) (u8_at image at) λ k p. among kinds k
 
 -- the record at a place, whole and right, or 6
 abbrev pub taken : ℕ → Taken → (Record → ℕ → Out) → Out
-taken at (Found r c) k = k r c.at
-taken at Bad k = stop 6 at
+taken at (Some x) k = k x.0 x.1.at
+taken at None k = stop 6 at
 
 -- the record at a place, where it is of the kind that is due there, or 6
 abbrev pub asked : List ℕ → (due at : ℕ) → (Layout → ℕ → Out) → Out

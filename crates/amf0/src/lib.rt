@@ -1,6 +1,7 @@
 // AMF0 values: read into a tree image, and written from one.
 #![tactic(auto)]
 
+mod part;
 pub mod read;
 pub mod survey;
 pub mod type_marker;

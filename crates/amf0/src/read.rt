@@ -1,100 +1,96 @@
 // Reading one value: its marker, its own fields, its record, and what follows them.
 ghost use Rattle.std.specs.Prelude.{◌≡◌, ◌+◌, ◌<◌, ◌≤◌, length};
 ghost use Rattle.wire.specs.Limit.{bytes};
-ghost use Rattle.wire.specs.Field.{u8_at, to};
-ghost use Rattle.wire.specs.declared.cursor.U8.TheVariants.{Got};
+ghost use Rattle.wire.specs.Field.{got_at, u8_at};
 ghost use Rattle.image.specs.Due.{run, ran, based, Within};
 ghost use Rattle.image.specs.Whole.{padded};
 ghost use Rattle.amf0.specs.Fields.{fields_at, based_fields};
 ghost use Rattle.amf0.specs.Reading.{value, pairs, items, value_in, read_of};
 ghost use Rattle.amf0.specs.Survey.{end_of, Onward};
-ghost use Rattle.amf0.specs.Code.{FieldsWithin};
 
-use crate::survey::{COUNTERS, Ended, survey_value};
-use crate::type_marker::{Marked, TypeMarker, type_marker};
+use crate::part::of_whole;
+use crate::survey::{COUNTERS, survey_value};
+use crate::type_marker::{TypeMarker, type_marker};
 use image::reading::{Reading, Step, finish, put, put_end, put_key};
 use image::record::Record;
-use wire::answer::{NOT_RIGHT, NOT_WHOLE, OVER_LIMIT, TOO_DEEP};
-use wire::cursor::{Cursor, Text, U8, U16, U32, U64};
+use wire::answer::{Answer, Refusal};
+use wire::cursor::Cursor;
 use wire::limit;
 
 // What follows a value's own fields.
-#[derive(Clone, Copy)]
+#[derive(Clone, Copy, Debug, PartialEq, Eq)]
 pub enum Follow {
     Nothing,
     Pairs,
     Values(u32),
 }
 
-// A value's own fields: its record, what follows them, and where.
-#[derive(Clone, Copy)]
-pub enum Fields {
-    Got(Record, Follow, Cursor),
-    Stop(u8, usize),
-}
+// A value's own fields: its record, what follows them, and where; or their refusal.
+pub type Fields = Result<(Record, Follow, Cursor), Refusal>;
 
-// The fields from a cursor on, behind the marker of a value. The input is a part that begins at the place `base` of a whole: every reader hands that on.
+// The fields from a cursor on, behind the marker of a value. The input is a part that begins at the place `base` of a whole: every reader hands that on. They are
+// no struct: its type would name a lifetime, and each `ensures` would say `s.entry.bytes.now` for `s.now` and `s.entry.base` for `base`.
+#[tactic(auto, unfolding(crate::specs::Fields::fields_at), using(crate::proofs::Parts::within8, crate::proofs::Parts::within16, crate::proofs::Parts::within32, crate::proofs::Parts::within64, crate::proofs::Parts::within_text, crate::proofs::Parts::ends32, crate::proofs::Parts::ends64, crate::proofs::Parts::ends_text))]
 fn parse_fields(s: &[u8], base: usize, c: Cursor, k: TypeMarker) -> Fields
     requires { (base + length s.now ≤ bytes) × (c.at ≤ length s.now) }
-    ensures value { result ≡ based_fields base (fields_at s.now c.at k) }
-    ensures fields_within { FieldsWithin result c.at (length s.now) }
+    ensures { result ≡ based_fields base (fields_at s.now c.at k) }
 {
     match k {
-        TypeMarker::Number => match c.be_u64(s) {
-            U64::Got(n, d) => Fields::Got(Record::Number(n), Follow::Nothing, d),
-            U64::Stop(a, p) => Fields::Stop(a, base + p),
-        },
-        TypeMarker::Boolean => match c.be_u8(s) {
-            U8::Got(b, d) => Fields::Got(Record::Boolean(0 < b), Follow::Nothing, d),
-            U8::Stop(a, p) => Fields::Stop(a, base + p),
-        },
-        TypeMarker::String => match c.parse_string(s) {
-            Text::Got(p, n, d) => Fields::Got(Record::Text(base + p, n), Follow::Nothing, d),
-            Text::Stop(a, p) => Fields::Stop(a, base + p),
-        },
-        TypeMarker::Object => Fields::Got(Record::Object, Follow::Pairs, c),
-        TypeMarker::Null => Fields::Got(Record::Null, Follow::Nothing, c),
-        TypeMarker::Undefined => Fields::Got(Record::Undefined, Follow::Nothing, c),
-        TypeMarker::Reference => match c.be_u16(s) {
-            U16::Got(n, d) => Fields::Got(Record::Reference(n), Follow::Nothing, d),
-            U16::Stop(a, p) => Fields::Stop(a, base + p),
-        },
-        TypeMarker::EcmaArray => match c.be_u32(s) {
-            U32::Got(n, d) => Fields::Got(Record::EcmaArray(n), Follow::Pairs, d),
-            U32::Stop(a, p) => Fields::Stop(a, base + p),
-        },
-        TypeMarker::StrictArray => match c.be_u32(s) {
-            U32::Got(n, d) => {
-                // Each value takes a byte, so a count above the bytes left can't be met.
-                if (n as usize) <= s.len() - d.at {
-                    Fields::Got(Record::StrictArray(n), Follow::Values(n), d)
-                } else {
-                    Fields::Stop(NOT_WHOLE, base + c.at)
-                }
+        TypeMarker::Number => {
+            let (n, d) = of_whole(base, c.be_u64(s))?;
+            Ok((Record::Number(n), Follow::Nothing, d))
+        }
+        TypeMarker::Boolean => {
+            let (b, d) = of_whole(base, c.be_u8(s))?;
+            Ok((Record::Boolean(0 < b), Follow::Nothing, d))
+        }
+        TypeMarker::String => {
+            let (t, d) = of_whole(base, c.parse_string(s))?;
+            Ok((Record::Text(base + t.place, t.length), Follow::Nothing, d))
+        }
+        TypeMarker::Object => Ok((Record::Object, Follow::Pairs, c)),
+        TypeMarker::Null => Ok((Record::Null, Follow::Nothing, c)),
+        TypeMarker::Undefined => Ok((Record::Undefined, Follow::Nothing, c)),
+        TypeMarker::Reference => {
+            let (n, d) = of_whole(base, c.be_u16(s))?;
+            Ok((Record::Reference(n), Follow::Nothing, d))
+        }
+        TypeMarker::EcmaArray => {
+            let (n, d) = of_whole(base, c.be_u32(s))?;
+            Ok((Record::EcmaArray(n), Follow::Pairs, d))
+        }
+        TypeMarker::StrictArray => {
+            let (n, d) = of_whole(base, c.be_u32(s))?;
+            // Each value takes a byte, so a count above the bytes left can't be met.
+            if (n as usize) <= s.len() - d.at {
+                Ok((Record::StrictArray(n), Follow::Values(n), d))
+            } else {
+                Answer::NotWhole.refuse(base + c.at)
             }
-            U32::Stop(a, p) => Fields::Stop(a, base + p),
-        },
-        TypeMarker::Date => match c.be_u64(s) {
-            U64::Got(n, d) => match d.be_u16(s) {
-                U16::Got(z, e) => Fields::Got(Record::Date(n, true, z), Follow::Nothing, e),
-                U16::Stop(a, p) => Fields::Stop(a, base + p),
-            },
-            U64::Stop(a, p) => Fields::Stop(a, base + p),
-        },
-        TypeMarker::LongString => match c.parse_long_string(s) {
-            Text::Got(p, n, d) => Fields::Got(Record::Text(base + p, n), Follow::Nothing, d),
-            Text::Stop(a, p) => Fields::Stop(a, base + p),
-        },
-        TypeMarker::Unsupported => Fields::Got(Record::Unsupported, Follow::Nothing, c),
-        TypeMarker::Xml => match c.parse_long_string(s) {
-            Text::Got(p, n, d) => Fields::Got(Record::Xml(base + p, n), Follow::Nothing, d),
-            Text::Stop(a, p) => Fields::Stop(a, base + p),
-        },
-        TypeMarker::TypedObject => match c.parse_string(s) {
-            Text::Got(p, n, d) => Fields::Got(Record::TypedObject(base + p, n), Follow::Pairs, d),
-            Text::Stop(a, p) => Fields::Stop(a, base + p),
-        },
-        TypeMarker::Amf3 => Fields::Got(Record::Unsupported, Follow::Nothing, c),
+        }
+        TypeMarker::Date => {
+            let (n, d) = of_whole(base, c.be_u64(s))?;
+            let (z, e) = of_whole(base, d.be_u16(s))?;
+            Ok((Record::Date(n, true, z), Follow::Nothing, e))
+        }
+        TypeMarker::LongString => {
+            let (t, d) = of_whole(base, c.parse_long_string(s))?;
+            Ok((Record::Text(base + t.place, t.length), Follow::Nothing, d))
+        }
+        TypeMarker::Unsupported => Ok((Record::Unsupported, Follow::Nothing, c)),
+        TypeMarker::Xml => {
+            let (t, d) = of_whole(base, c.parse_long_string(s))?;
+            Ok((Record::Xml(base + t.place, t.length), Follow::Nothing, d))
+        }
+        TypeMarker::TypedObject => {
+            let (t, d) = of_whole(base, c.parse_string(s))?;
+            Ok((
+                Record::TypedObject(base + t.place, t.length),
+                Follow::Pairs,
+                d,
+            ))
+        }
+        TypeMarker::Amf3 => Ok((Record::Unsupported, Follow::Nothing, c)),
     }
 }
 
@@ -109,35 +105,33 @@ fn value(
     made: usize,
     left: usize,
 ) -> Step
-    requires { (base + length s.now ≤ bytes) × (u8_at s.now c.at ≡ Got m (to (c.at + 1))) }
+    requires { (base + length s.now ≤ bytes) × (u8_at s.now c.at ≡ got_at m (c.at + 1)) }
     ensures image_after { ran result image.new ≡ run (based base (value left s.now c.at)) made image.old }
     ensures within { Within result (c.at + 1) (length s.now) (length image.old) }
 {
     let at = c.at;
     let place = base + at;
     match type_marker(m) {
-        Marked::Refused => Step::Stop(NOT_RIGHT, place),
-        Marked::Value(k) => {
+        None => Answer::NotRight.refuse(place),
+        Some(k) => {
             if left == 0 {
-                return Step::Stop(TOO_DEEP, place);
+                return Answer::TooDeep.refuse(place);
             }
-            match parse_fields(s, base, Cursor { at: at + 1 }, k) {
-                Fields::Stop(a, p) => Step::Stop(a, p),
-                Fields::Got(r, f, d) => match put(image, made, r, place, d) {
-                    Step::Stop(a, p) => Step::Stop(a, p),
-                    Step::Next(e, laid) => match f {
-                        Follow::Nothing => Step::Next(e, laid),
-                        Follow::Pairs => pairs(image, s, base, e, laid, left - 1),
-                        Follow::Values(n) => items(image, s, base, e, laid, left - 1, n),
-                    },
-                },
+            let (r, f, d) = parse_fields(s, base, Cursor { at: at + 1 }, k)?;
+            let (e, laid) = put(image, made, r, place, d)?;
+            match f {
+                Follow::Nothing => Ok((e, laid)),
+                Follow::Pairs => pairs(image, s, base, e, laid, left - 1),
+                Follow::Values(n) => items(image, s, base, e, laid, left - 1, n),
             }
         }
     }
 }
 
-// Pairs up to the end marker. A key is read once, and the marker behind it is handed on.
+// Pairs up to the end marker. A key is read once, and the marker behind it is handed on. A level has one frame on the stack, `value`'s, with this in it.
 #[cycle(items_pairs_value)]
+#[inline(always)]
+#[tactic(auto, using(crate::proofs::Parts::within8, crate::proofs::Parts::ends8, crate::proofs::Parts::within_text, crate::proofs::Parts::ends_text))]
 fn pairs(image: &mut [u8], s: &[u8], base: usize, start: Cursor, done: usize, left: usize) -> Step
     requires { (base + length s.now ≤ bytes) × (start.at ≤ length s.now) × (done ≤ length image.old) }
     ensures image_after { ran result image.new ≡ run (based base (pairs (value left s.now) s.now (length s.now) start.at)) done image.old }
@@ -146,40 +140,22 @@ fn pairs(image: &mut [u8], s: &[u8], base: usize, start: Cursor, done: usize, le
     let mut c = start;
     let mut made = done;
     loop {
-        match c.parse_string(s) {
-            Text::Stop(a, p) => {
-                return Step::Stop(a, base + p);
-            }
-            Text::Got(p, n, q) => match q.be_u8(s) {
-                U8::Stop(a, w) => {
-                    return Step::Stop(a, base + w);
-                }
-                U8::Got(m, e) => {
-                    if m == 0x09 {
-                        return put_end(image, made, base + q.at, e);
-                    }
-                    match put_key(image, made, base + p, n, base + c.at, q) {
-                        Step::Stop(a, w) => {
-                            return Step::Stop(a, w);
-                        }
-                        Step::Next(v, laid) => match value(image, s, base, v, m, laid, left) {
-                            Step::Stop(a, w) => {
-                                return Step::Stop(a, w);
-                            }
-                            Step::Next(d, total) => {
-                                c = d;
-                                made = total;
-                            }
-                        },
-                    }
-                }
-            },
+        let (t, q) = of_whole(base, c.parse_string(s))?;
+        let (m, e) = of_whole(base, q.be_u8(s))?;
+        if m == 0x09 {
+            return put_end(image, made, base + q.at, e);
         }
+        let (v, laid) = put_key(image, made, base + t.place, t.length, base + c.at, q)?;
+        let (d, total) = value(image, s, base, v, m, laid, left)?;
+        c = d;
+        made = total;
     }
 }
 
 // n values in a row.
 #[cycle(items_pairs_value)]
+#[inline(always)]
+#[tactic(auto, using(crate::proofs::Parts::within8, crate::proofs::Parts::ends8))]
 fn items(
     image: &mut [u8],
     s: &[u8],
@@ -195,50 +171,37 @@ fn items(
 {
     let mut c = start;
     let mut made = done;
-    let mut k = n;
-    while 0 < k {
-        match c.be_u8(s) {
-            U8::Stop(a, p) => {
-                return Step::Stop(a, base + p);
-            }
-            U8::Got(m, _) => match value(image, s, base, c, m, made, left) {
-                Step::Stop(a, p) => {
-                    return Step::Stop(a, p);
-                }
-                Step::Next(d, total) => {
-                    c = d;
-                    made = total;
-                }
-            },
-        }
-        k -= 1;
+    for _ in 0..n {
+        let (m, _) = of_whole(base, c.be_u8(s))?;
+        let (d, total) = value(image, s, base, c, m, made, left)?;
+        c = d;
+        made = total;
     }
-    Step::Next(c, made)
+    Ok((c, made))
 }
 
 // The value at a cursor of a part of an input, laid behind what is made of the image: for the layers above.
+#[tactic(auto, using(crate::proofs::Parts::within8, crate::proofs::Parts::ends8))]
 pub fn parse_value(image: &mut [u8], input: &[u8], base: usize, c: Cursor, made: usize) -> Step
     ensures image_after { ran result image.new ≡ run (value_in base input.now c.at) made image.old }
     ensures within { Within result (c.at + 1) (length input.now) (length image.old) }
 {
     let at = c.at;
     if limit::BYTES < input.len() {
-        return Step::Stop(OVER_LIMIT, 0);
+        return Answer::OverLimit.refuse(0);
     }
     if limit::BYTES - input.len() < base {
-        return Step::Stop(OVER_LIMIT, 0);
+        return Answer::OverLimit.refuse(0);
     }
     if input.len() < at {
-        return Step::Stop(OVER_LIMIT, 0);
+        return Answer::OverLimit.refuse(0);
     }
-    match c.be_u8(input) {
-        U8::Stop(a, p) => Step::Stop(a, base + p),
-        U8::Got(m, _) => value(image, input, base, c, m, made, limit::LEVELS),
-    }
+    let (m, _) = of_whole(base, c.be_u8(input))?;
+    value(image, input, base, c, m, made, limit::LEVELS)
 }
 
 // The value at a cursor of a part of an input, measured: where it ends, or why it is refused. It makes no records, so it needs no room: for the layers above.
-pub fn measure(input: &[u8], base: usize, c: Cursor) -> Ended
+pub fn measure(input: &[u8], base: usize, c: Cursor) -> Result<Cursor, Refusal>
     ensures value { result ≡ end_of (value_in base input.now c.at) }
     ensures onward { Onward result (c.at + 1) (length input.now) }
 {

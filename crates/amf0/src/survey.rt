@@ -1,8 +1,7 @@
 // Reading a value without records: how that ends, and counts of what no record keeps.
 ghost use Rattle.std.specs.Prelude.{◌≡◌, ◌+◌, ◌<◌, ◌≤◌, length, slice_index};
 ghost use Rattle.wire.specs.Limit.{bytes, levels};
-ghost use Rattle.wire.specs.Field.{u8_at, text_at, to, bytes_at};
-ghost use Rattle.wire.specs.declared.cursor.U8.TheVariants.{Got};
+ghost use Rattle.wire.specs.Field.{got_at, u8_at, text_at, bytes_at};
 ghost use Rattle.image.specs.Due.{based};
 ghost use Rattle.image.specs.Due.Fact.{dropped};
 ghost use Rattle.amf0.specs.declared.read.Follow.TheVariants.{Nothing};
@@ -10,25 +9,18 @@ ghost use Rattle.amf0.specs.Fields.{fields_at, based_fields};
 ghost use Rattle.amf0.specs.Reading.{value, pairs, items, own_at, value_in};
 ghost use Rattle.amf0.specs.Survey.{bytes_passed, text_passed, passed, more, more_if, deepened, counter_of, shortens as shortens_of, uneven as uneven_of, noted, told, count, Onward};
 
+use crate::part::of_whole;
 use crate::read::Follow;
-use crate::type_marker::{Marked, TypeMarker, type_marker};
-use wire::answer::{NOT_RIGHT, NOT_WHOLE, OVER_LIMIT, TOO_DEEP};
-use wire::cursor::{Cursor, Text, U8, U32};
+use crate::type_marker::{TypeMarker, type_marker};
+use wire::answer::{Answer, Refusal};
+use wire::cursor::{Cursor, Parsed};
 use wire::limit;
 
 // How a reading without records ends: behind what it read, or refused.
-#[derive(Clone, Copy)]
-pub enum Ended {
-    Next(Cursor),
-    Stop(u8, usize),
-}
+pub type Ended = Result<Cursor, Refusal>;
 
 // A value's own fields, passed over: what follows them, and where.
-#[derive(Clone, Copy)]
-pub enum Passed {
-    Got(Follow, Cursor),
-    Stop(u8, usize),
-}
+pub type Passed = Parsed<Follow>;
 
 // The counters: one for each marker up to 11 hex, and then those below.
 pub const COUNTERS: usize = 23;
@@ -132,36 +124,35 @@ fn pass_bytes(s: &[u8], base: usize, c: Cursor, n: usize, f: Follow) -> Passed
     ensures { result ≡ bytes_passed base n s.now c.at f }
 {
     if n <= s.len() - c.at {
-        Passed::Got(f, Cursor { at: c.at + n })
+        Ok((f, Cursor { at: c.at + n }))
     } else {
-        Passed::Stop(NOT_WHOLE, base + c.at)
+        Answer::NotWhole.refuse(base + c.at)
     }
 }
 
 // Short text that they end with.
+#[tactic(auto, using(crate::proofs::Parts::within_text))]
 fn pass_string(s: &[u8], base: usize, c: Cursor, f: Follow) -> Passed
     requires { (base + length s.now ≤ bytes) × (c.at ≤ length s.now) }
     ensures { result ≡ text_passed base (text_at 2 s.now c.at) f }
 {
-    match c.parse_string(s) {
-        Text::Got(_, _, d) => Passed::Got(f, d),
-        Text::Stop(a, p) => Passed::Stop(a, base + p),
-    }
+    let (_, d) = of_whole(base, c.parse_string(s))?;
+    Ok((f, d))
 }
 
 // Long text that they end with.
+#[tactic(auto, using(crate::proofs::Parts::within_text))]
 fn pass_long_string(s: &[u8], base: usize, c: Cursor) -> Passed
     requires { (base + length s.now ≤ bytes) × (c.at ≤ length s.now) }
     ensures { result ≡ text_passed base (text_at 4 s.now c.at) Nothing }
 {
-    match c.parse_long_string(s) {
-        Text::Got(_, _, d) => Passed::Got(Follow::Nothing, d),
-        Text::Stop(a, p) => Passed::Stop(a, base + p),
-    }
+    let (_, d) = of_whole(base, c.parse_long_string(s))?;
+    Ok((Follow::Nothing, d))
 }
 
 // The fields from a cursor on, behind the marker of a value, with no record made of them. It doesn't call `parse_fields`: that is compiled into the reader
 // with records only while nothing else calls it, and reading takes up to 40 in a hundred more instructions otherwise.
+#[tactic(auto, unfolding(crate::specs::Fields::fields_at, wire::specs::Field::u8_at, wire::specs::Field::u16_at, wire::specs::Field::u32_at, wire::specs::Field::u64_at), using(crate::proofs::Parts::within32, crate::proofs::Parts::ends32))]
 fn pass_fields(s: &[u8], base: usize, c: Cursor, k: TypeMarker) -> Passed
     requires { (base + length s.now ≤ bytes) × (c.at ≤ length s.now) }
     ensures { result ≡ passed (based_fields base (fields_at s.now c.at k)) }
@@ -170,58 +161,53 @@ fn pass_fields(s: &[u8], base: usize, c: Cursor, k: TypeMarker) -> Passed
         TypeMarker::Number => pass_bytes(s, base, c, 8, Follow::Nothing),
         TypeMarker::Boolean => pass_bytes(s, base, c, 1, Follow::Nothing),
         TypeMarker::String => pass_string(s, base, c, Follow::Nothing),
-        TypeMarker::Object => Passed::Got(Follow::Pairs, c),
-        TypeMarker::Null => Passed::Got(Follow::Nothing, c),
-        TypeMarker::Undefined => Passed::Got(Follow::Nothing, c),
+        TypeMarker::Object => Ok((Follow::Pairs, c)),
+        TypeMarker::Null => Ok((Follow::Nothing, c)),
+        TypeMarker::Undefined => Ok((Follow::Nothing, c)),
         TypeMarker::Reference => pass_bytes(s, base, c, 2, Follow::Nothing),
         TypeMarker::EcmaArray => pass_bytes(s, base, c, 4, Follow::Pairs),
-        TypeMarker::StrictArray => match c.be_u32(s) {
-            U32::Got(n, d) => {
-                if (n as usize) <= s.len() - d.at {
-                    Passed::Got(Follow::Values(n), d)
-                } else {
-                    Passed::Stop(NOT_WHOLE, base + c.at)
-                }
+        TypeMarker::StrictArray => {
+            let (n, d) = of_whole(base, c.be_u32(s))?;
+            if (n as usize) <= s.len() - d.at {
+                Ok((Follow::Values(n), d))
+            } else {
+                Answer::NotWhole.refuse(base + c.at)
             }
-            U32::Stop(a, p) => Passed::Stop(a, base + p),
-        },
-        TypeMarker::Date => match pass_bytes(s, base, c, 8, Follow::Nothing) {
-            Passed::Got(f, d) => pass_bytes(s, base, d, 2, f),
-            Passed::Stop(a, p) => Passed::Stop(a, p),
-        },
+        }
+        TypeMarker::Date => {
+            let (f, d) = pass_bytes(s, base, c, 8, Follow::Nothing)?;
+            pass_bytes(s, base, d, 2, f)
+        }
         TypeMarker::LongString => pass_long_string(s, base, c),
-        TypeMarker::Unsupported => Passed::Got(Follow::Nothing, c),
+        TypeMarker::Unsupported => Ok((Follow::Nothing, c)),
         TypeMarker::Xml => pass_long_string(s, base, c),
         TypeMarker::TypedObject => pass_string(s, base, c, Follow::Pairs),
-        TypeMarker::Amf3 => Passed::Got(Follow::Nothing, c),
+        TypeMarker::Amf3 => Ok((Follow::Nothing, c)),
     }
 }
 
 // The value at a cursor, whose marker m was read there.
 #[cycle(items_pairs_value)]
+#[tactic(auto, using(crate::proofs::Parts::within8, crate::proofs::Parts::ends8))]
 fn value(t: &mut [u32; COUNTERS], s: &[u8], base: usize, c: Cursor, m: u8, left: usize) -> Ended
-    requires { (base + length s.now ≤ bytes) × (left ≤ levels) × (u8_at s.now c.at ≡ Got m (to (c.at + 1))) }
+    requires { (base + length s.now ≤ bytes) × (left ≤ levels) × (u8_at s.now c.at ≡ got_at m (c.at + 1)) }
     ensures t_after { told result t.new ≡ count (based base (value left s.now c.at)) t.old }
     ensures onward { Onward result (c.at + 1) (length s.now) }
 {
     let at = c.at;
     let place = base + at;
     match type_marker(m) {
-        Marked::Refused => Ended::Stop(NOT_RIGHT, place),
-        Marked::Value(k) => {
+        None => Answer::NotRight.refuse(place),
+        Some(k) => {
             if left == 0 {
-                return Ended::Stop(TOO_DEEP, place);
+                return Answer::TooDeep.refuse(place);
             }
-            match pass_fields(s, base, Cursor { at: at + 1 }, k) {
-                Passed::Stop(a, p) => Ended::Stop(a, p),
-                Passed::Got(f, d) => {
-                    note(t, s, at, m, d.at, left - 1);
-                    match f {
-                        Follow::Nothing => Ended::Next(d),
-                        Follow::Pairs => pairs(t, s, base, d, left - 1),
-                        Follow::Values(n) => items(t, s, base, d, left - 1, n),
-                    }
-                }
+            let (f, d) = pass_fields(s, base, Cursor { at: at + 1 }, k)?;
+            note(t, s, at, m, d.at, left - 1);
+            match f {
+                Follow::Nothing => Ok(d),
+                Follow::Pairs => pairs(t, s, base, d, left - 1),
+                Follow::Values(n) => items(t, s, base, d, left - 1, n),
             }
         }
     }
@@ -229,6 +215,7 @@ fn value(t: &mut [u32; COUNTERS], s: &[u8], base: usize, c: Cursor, m: u8, left:
 
 // Pairs up to the end marker. A key is read once, and the marker behind it is handed on.
 #[cycle(items_pairs_value)]
+#[tactic(auto, using(crate::proofs::Parts::within8, crate::proofs::Parts::ends8, crate::proofs::Parts::within_text, crate::proofs::Parts::ends_text))]
 fn pairs(t: &mut [u32; COUNTERS], s: &[u8], base: usize, start: Cursor, left: usize) -> Ended
     requires { (base + length s.now ≤ bytes) × (left ≤ levels) × (start.at ≤ length s.now) }
     ensures t_after { told result t.new ≡ count (based base (pairs (value left s.now) s.now (length s.now) start.at)) t.old }
@@ -236,35 +223,19 @@ fn pairs(t: &mut [u32; COUNTERS], s: &[u8], base: usize, start: Cursor, left: us
 {
     let mut c = start;
     loop {
-        match c.parse_string(s) {
-            Text::Stop(a, p) => {
-                return Ended::Stop(a, base + p);
-            }
-            Text::Got(_, n, q) => match q.be_u8(s) {
-                U8::Stop(a, w) => {
-                    return Ended::Stop(a, base + w);
-                }
-                U8::Got(m, e) => {
-                    if m == 0x09 {
-                        note_dropped(t, n);
-                        return Ended::Next(e);
-                    }
-                    match value(t, s, base, q, m, left) {
-                        Ended::Stop(a, w) => {
-                            return Ended::Stop(a, w);
-                        }
-                        Ended::Next(d) => {
-                            c = d;
-                        }
-                    }
-                }
-            },
+        let (key, q) = of_whole(base, c.parse_string(s))?;
+        let (m, e) = of_whole(base, q.be_u8(s))?;
+        if m == 0x09 {
+            note_dropped(t, key.length);
+            return Ok(e);
         }
+        c = value(t, s, base, q, m, left)?;
     }
 }
 
 // n values in a row.
 #[cycle(items_pairs_value)]
+#[tactic(auto, using(crate::proofs::Parts::within8, crate::proofs::Parts::ends8))]
 fn items(
     t: &mut [u32; COUNTERS],
     s: &[u8],
@@ -278,43 +249,29 @@ fn items(
     ensures onward { Onward result start.at (length s.now) }
 {
     let mut c = start;
-    let mut k = n;
-    while 0 < k {
-        match c.be_u8(s) {
-            U8::Stop(a, p) => {
-                return Ended::Stop(a, base + p);
-            }
-            U8::Got(m, _) => match value(t, s, base, c, m, left) {
-                Ended::Stop(a, p) => {
-                    return Ended::Stop(a, p);
-                }
-                Ended::Next(d) => {
-                    c = d;
-                }
-            },
-        }
-        k -= 1;
+    for _ in 0..n {
+        let (m, _) = of_whole(base, c.be_u8(s))?;
+        c = value(t, s, base, c, m, left)?;
     }
-    Ended::Next(c)
+    Ok(c)
 }
 
 // The value at a cursor of a part of an input, with what no record keeps counted: for the layers above.
+#[tactic(auto, unfolding(crate::specs::Reading::value_in, crate::specs::Survey::count), using(crate::proofs::Parts::within8, crate::proofs::Parts::ends8, crate::proofs::Laws::value_cut))]
 pub fn survey_value(t: &mut [u32; COUNTERS], input: &[u8], base: usize, c: Cursor) -> Ended
     ensures t_after { told result t.new ≡ count (value_in base input.now c.at) t.old }
     ensures onward { Onward result (c.at + 1) (length input.now) }
 {
     let at = c.at;
     if limit::BYTES < input.len() {
-        return Ended::Stop(OVER_LIMIT, 0);
+        return Answer::OverLimit.refuse(0);
     }
     if limit::BYTES - input.len() < base {
-        return Ended::Stop(OVER_LIMIT, 0);
+        return Answer::OverLimit.refuse(0);
     }
     if input.len() < at {
-        return Ended::Stop(OVER_LIMIT, 0);
+        return Answer::OverLimit.refuse(0);
     }
-    match c.be_u8(input) {
-        U8::Stop(a, p) => Ended::Stop(a, base + p),
-        U8::Got(m, _) => value(t, input, base, c, m, limit::LEVELS),
-    }
+    let (m, _) = of_whole(base, c.be_u8(input))?;
+    value(t, input, base, c, m, limit::LEVELS)
 }

@@ -5,24 +5,26 @@ ghost use Rattle.wire.specs.Bytes.{laid, decimal};
 ghost use Rattle.wire.specs.Limit.{bytes as most_bytes, «image» as most_image};
 ghost use Rattle.image.specs.declared.record.Record.{Record};
 ghost use Rattle.image.specs.declared.record.Record.TheVariants.{ObjectEnd};
-ghost use Rattle.image.specs.declared.taking.Taken.TheVariants.{Found};
 ghost use Rattle.image.specs.Record.{none as no_field};
-ghost use Rattle.image.specs.Taking.{body_at, record_at};
+ghost use Rattle.image.specs.Taking.{body_at, record_at, taken_to};
 ghost use Rattle.image.specs.Out.{most, pour, poured, onto};
 ghost use Rattle.amf0.specs.Shape.{Value};
 ghost use Rattle.amf0.specs.Writing.{shape_of, plain as plain_of, among, kinds, value_at, value, rest as rest_of, value_in, write_of};
-ghost use Rattle.amf0.specs.Code.{Ahead, longest, room, then_of, Owned, Paired, due_at, owed};
+ghost use Rattle.amf0.specs.Code.{Ahead, longest, room, then_of, of_record, Owned, Paired, due_at, owed};
 
 use image::kind;
 use image::reading::Step;
 use image::record::bit;
-use image::taking::{Flag, flag_at, long_at, short_at, zone_fits};
-use image::writing::{Writing, emit_numbers, emit_text, refused};
-use wire::answer::{ACCEPTED, NO_ROOM, NO_TREE, OVER_LIMIT, TOO_DEEP};
+use image::taking::{flag_at, long_at, short_at, zone_fits};
+use image::writing::{Writing, emit_numbers, emit_text, refused_by};
+use wire::answer::{ACCEPTED, Answer, Refusal};
 use wire::bytes::{decimal_width, write_decimal};
-use wire::cursor::{Cursor, Text, U8, U16, U32, U64};
+use wire::cursor::Cursor;
 use wire::limit;
 use wire::number::write_number;
+
+// An output, an image and its text are handed on one by one, as an input and its place are in read.rt, and for the same reason: of a struct the clauses would
+// say `s.entry.image.now` where these say `image.now`. So it is in the writers of lso and packet.
 
 // The most bytes of a string whose length has two bytes.
 const SHORT: usize = 0xFFFF;
@@ -30,7 +32,7 @@ const SHORT: usize = 0xFFFF;
 const BEFORE: usize = 0x1000_0000_0000_0000;
 
 // What follows a value's own bytes: nothing, pairs up to the end, values without a key before such pairs, or so many values.
-#[derive(Clone, Copy)]
+#[derive(Clone, Copy, Debug, PartialEq, Eq)]
 pub enum Rest {
     Nothing,
     Pairs,
@@ -42,31 +44,32 @@ pub enum Rest {
 fn is_value(kind: u8) -> bool
     ensures { result ≡ among kinds kind }
 {
-    match kind {
-        kind::NUMBER => true,
-        kind::BOOLEAN => true,
-        kind::TEXT => true,
-        kind::OBJECT => true,
-        kind::NULL => true,
-        kind::UNDEFINED => true,
-        kind::REFERENCE => true,
-        kind::ECMA_ARRAY => true,
-        kind::STRICT_ARRAY => true,
-        kind::DATE => true,
-        kind::UNSUPPORTED => true,
-        kind::XML => true,
-        kind::TYPED_OBJECT => true,
-        _ => false,
-    }
+    matches!(
+        kind,
+        kind::NUMBER
+            | kind::BOOLEAN
+            | kind::TEXT
+            | kind::OBJECT
+            | kind::NULL
+            | kind::UNDEFINED
+            | kind::REFERENCE
+            | kind::ECMA_ARRAY
+            | kind::STRICT_ARRAY
+            | kind::DATE
+            | kind::UNSUPPORTED
+            | kind::XML
+            | kind::TYPED_OBJECT
+    )
 }
 
 // Whether a value's record begins at a cursor.
+#[tactic(auto, unfolding(crate::specs::Writing::value_at))]
 pub fn value_at(image: &[u8], c: Cursor) -> bool
     ensures { result ≡ value_at image.now c.at }
 {
     match c.be_u8(image) {
-        U8::Got(kind, _) => is_value(kind),
-        U8::Stop(_, _) => false,
+        Ok((kind, _)) => is_value(kind),
+        Err(_) => false,
     }
 }
 
@@ -81,19 +84,23 @@ fn index(out: &mut [u8], count: usize, k: u32) -> usize
     count + 2 + n
 }
 
-// How far a value's own bytes were put out: up to a cursor, with so many bytes put out, and then this follows; or refused by an answer at a place.
-#[derive(Clone, Copy)]
-pub enum Begun {
-    Next(Cursor, usize, Rest),
-    Stop(u8, usize),
-}
+// How far a value's own bytes were put out: up to a cursor, with so many bytes put out, and then this follows; or refused.
+pub type Begun = Result<(Cursor, usize, Rest), Refusal>;
 
 fn then(x: Step, rest: Rest) -> Begun
     ensures { result ≡ then_of x rest }
 {
-    match x {
-        Step::Next(c, n) => Begun::Next(c, n, rest),
-        Step::Stop(a, p) => Begun::Stop(a, p),
+    let (c, n) = x?;
+    Ok((c, n, rest))
+}
+
+// What was read of a record's body: where it could not be, no record stands at that place.
+fn of_record<T>(at: usize, body: Option<T>) -> Result<T, Refusal>
+    ensures { result ≡ of_record at body }
+{
+    match body {
+        Some(x) => Ok(x),
+        None => Answer::NoTree.refuse(at),
     }
 }
 
@@ -102,47 +109,39 @@ fn number(out: &mut [u8], image: &[u8], c: Cursor, at: usize, count: usize) -> B
     requires { count ≤ most }
     ensures { (text : List ℕ) → Owned result out.new (body_at 0x00 image.now c.at) text at count out.old }
 {
-    match c.be_u64(image) {
-        U64::Got(n, e) => then(
-            emit_numbers(out, count, 1, 0x00, 8, n, 0, 0, e),
-            Rest::Nothing,
-        ),
-        U64::Stop(_, _) => Begun::Stop(NO_TREE, at),
-    }
+    let (n, e) = of_record(at, c.be_u64(image).ok())?;
+    then(
+        emit_numbers(out, count, 1, 0x00, 8, n, 0, 0, e),
+        Rest::Nothing,
+    )
 }
 
 fn boolean(out: &mut [u8], image: &[u8], c: Cursor, at: usize, count: usize) -> Begun
     requires { count ≤ most }
     ensures { (text : List ℕ) → Owned result out.new (body_at 0x01 image.now c.at) text at count out.old }
 {
-    match flag_at(image, c) {
-        Flag::Got(b, e) => then(
-            emit_numbers(out, count, 1, 0x01, 1, bit(b), 0, 0, e),
-            Rest::Nothing,
-        ),
-        Flag::Bad => Begun::Stop(NO_TREE, at),
-    }
+    let (b, e) = of_record(at, flag_at(image, c))?;
+    then(
+        emit_numbers(out, count, 1, 0x01, 1, bit(b), 0, 0, e),
+        Rest::Nothing,
+    )
 }
 
 fn string(out: &mut [u8], image: &[u8], text: &[u8], c: Cursor, at: usize, count: usize) -> Begun
     requires { (length text.now ≤ most_bytes) × (count ≤ most) }
     ensures { Owned result out.new (body_at 0x02 image.now c.at) text.now at count out.old }
 {
-    match long_at(image, c) {
-        Text::Got(p, n, e) => {
-            if n <= SHORT {
-                then(
-                    emit_text(out, text, count, 1, 0x02, 2, p, n, at, e),
-                    Rest::Nothing,
-                )
-            } else {
-                then(
-                    emit_text(out, text, count, 1, 0x0C, 4, p, n, at, e),
-                    Rest::Nothing,
-                )
-            }
-        }
-        Text::Stop(_, _) => Begun::Stop(NO_TREE, at),
+    let (t, e) = of_record(at, long_at(image, c).ok())?;
+    if t.length <= SHORT {
+        then(
+            emit_text(out, text, count, 1, 0x02, 2, t.place, t.length, at, e),
+            Rest::Nothing,
+        )
+    } else {
+        then(
+            emit_text(out, text, count, 1, 0x0C, 4, t.place, t.length, at, e),
+            Rest::Nothing,
+        )
     }
 }
 
@@ -150,62 +149,49 @@ fn reference(out: &mut [u8], image: &[u8], c: Cursor, at: usize, count: usize) -
     requires { count ≤ most }
     ensures { (text : List ℕ) → Owned result out.new (body_at 0x07 image.now c.at) text at count out.old }
 {
-    match c.be_u16(image) {
-        U16::Got(n, e) => then(
-            emit_numbers(out, count, 1, 0x07, 2, n as u64, 0, 0, e),
-            Rest::Nothing,
-        ),
-        U16::Stop(_, _) => Begun::Stop(NO_TREE, at),
-    }
+    let (n, e) = of_record(at, c.be_u16(image).ok())?;
+    then(
+        emit_numbers(out, count, 1, 0x07, 2, n as u64, 0, 0, e),
+        Rest::Nothing,
+    )
 }
 
 fn ecma_array(out: &mut [u8], image: &[u8], c: Cursor, at: usize, count: usize) -> Begun
     requires { count ≤ most }
     ensures { (text : List ℕ) → Owned result out.new (body_at 0x08 image.now c.at) text at count out.old }
 {
-    match c.be_u32(image) {
-        U32::Got(n, e) => then(
-            emit_numbers(out, count, 1, 0x08, 4, n as u64, 0, 0, e),
-            Rest::Dense,
-        ),
-        U32::Stop(_, _) => Begun::Stop(NO_TREE, at),
-    }
+    let (n, e) = of_record(at, c.be_u32(image).ok())?;
+    then(
+        emit_numbers(out, count, 1, 0x08, 4, n as u64, 0, 0, e),
+        Rest::Dense,
+    )
 }
 
 fn strict_array(out: &mut [u8], image: &[u8], c: Cursor, at: usize, count: usize) -> Begun
     requires { count ≤ most }
     ensures { (text : List ℕ) → Owned result out.new (body_at 0x0A image.now c.at) text at count out.old }
 {
-    match c.be_u32(image) {
-        U32::Got(n, e) => then(
-            emit_numbers(out, count, 1, 0x0A, 4, n as u64, 0, 0, e),
-            Rest::Values(n),
-        ),
-        U32::Stop(_, _) => Begun::Stop(NO_TREE, at),
-    }
+    let (n, e) = of_record(at, c.be_u32(image).ok())?;
+    then(
+        emit_numbers(out, count, 1, 0x0A, 4, n as u64, 0, 0, e),
+        Rest::Values(n),
+    )
 }
 
 fn date(out: &mut [u8], image: &[u8], c: Cursor, at: usize, count: usize) -> Begun
     requires { count ≤ most }
     ensures { (text : List ℕ) → Owned result out.new (body_at 0x0B image.now c.at) text at count out.old }
 {
-    match c.be_u64(image) {
-        U64::Got(n, d) => match flag_at(image, d) {
-            Flag::Got(present, e) => match e.be_u16(image) {
-                U16::Got(zone, f) => {
-                    if zone_fits(present, zone) {
-                        return then(
-                            emit_numbers(out, count, 1, 0x0B, 8, n, 2, zone as u64, f),
-                            Rest::Nothing,
-                        );
-                    }
-                    Begun::Stop(NO_TREE, at)
-                }
-                U16::Stop(_, _) => Begun::Stop(NO_TREE, at),
-            },
-            Flag::Bad => Begun::Stop(NO_TREE, at),
-        },
-        U64::Stop(_, _) => Begun::Stop(NO_TREE, at),
+    let (n, d) = of_record(at, c.be_u64(image).ok())?;
+    let (present, e) = of_record(at, flag_at(image, d))?;
+    let (zone, f) = of_record(at, e.be_u16(image).ok())?;
+    if zone_fits(present, zone) {
+        then(
+            emit_numbers(out, count, 1, 0x0B, 8, n, 2, zone as u64, f),
+            Rest::Nothing,
+        )
+    } else {
+        Answer::NoTree.refuse(at)
     }
 }
 
@@ -213,13 +199,11 @@ fn xml(out: &mut [u8], image: &[u8], text: &[u8], c: Cursor, at: usize, count: u
     requires { (length text.now ≤ most_bytes) × (count ≤ most) }
     ensures { Owned result out.new (body_at 0x0F image.now c.at) text.now at count out.old }
 {
-    match long_at(image, c) {
-        Text::Got(p, n, e) => then(
-            emit_text(out, text, count, 1, 0x0F, 4, p, n, at, e),
-            Rest::Nothing,
-        ),
-        Text::Stop(_, _) => Begun::Stop(NO_TREE, at),
-    }
+    let (t, e) = of_record(at, long_at(image, c).ok())?;
+    then(
+        emit_text(out, text, count, 1, 0x0F, 4, t.place, t.length, at, e),
+        Rest::Nothing,
+    )
 }
 
 fn typed_object(
@@ -233,97 +217,95 @@ fn typed_object(
     requires { (length text.now ≤ most_bytes) × (count ≤ most) }
     ensures { Owned result out.new (body_at 0x10 image.now c.at) text.now at count out.old }
 {
-    match short_at(image, c) {
-        Text::Got(p, n, e) => then(
-            emit_text(out, text, count, 1, 0x10, 2, p, n, at, e),
-            Rest::Pairs,
-        ),
-        Text::Stop(_, _) => Begun::Stop(NO_TREE, at),
-    }
+    let (t, e) = of_record(at, short_at(image, c).ok())?;
+    then(
+        emit_text(out, text, count, 1, 0x10, 2, t.place, t.length, at, e),
+        Rest::Pairs,
+    )
 }
 
 // A marker alone.
 fn bare(out: &mut [u8], count: usize, marker: u64, next: Cursor, rest: Rest) -> Begun
     requires { count ≤ most }
-    ensures { (text : List ℕ) → (x : Record) → (at : ℕ) → shape_of x ≡ Value (plain_of marker no_field no_field) rest → Owned result out.new (Found x next) text at count out.old }
+    ensures { (text : List ℕ) → (x : Record) → (at : ℕ) → shape_of x ≡ Value (plain_of marker no_field no_field) rest → Owned result out.new (taken_to x next) text at count out.old }
 {
     then(emit_numbers(out, count, 1, marker, 0, 0, 0, 0, next), rest)
 }
 
 // The own bytes of the value whose record stands at a cursor.
+#[tactic(auto, unfolding(image::specs::Taking::record_at))]
 fn own(out: &mut [u8], image: &[u8], text: &[u8], c: Cursor, count: usize) -> Begun
     requires { (length text.now ≤ most_bytes) × (count ≤ most) }
     ensures { Owned result out.new (record_at image.now c.at) text.now c.at count out.old }
 {
     let at = c.at;
-    match c.be_u8(image) {
-        U8::Stop(_, _) => Begun::Stop(NO_TREE, at),
-        U8::Got(kind, d) => match kind {
-            kind::NUMBER => number(out, image, d, at, count),
-            kind::BOOLEAN => boolean(out, image, d, at, count),
-            kind::TEXT => string(out, image, text, d, at, count),
-            kind::OBJECT => bare(out, count, 0x03, d, Rest::Pairs),
-            kind::NULL => bare(out, count, 0x05, d, Rest::Nothing),
-            kind::UNDEFINED => bare(out, count, 0x06, d, Rest::Nothing),
-            kind::REFERENCE => reference(out, image, d, at, count),
-            kind::ECMA_ARRAY => ecma_array(out, image, d, at, count),
-            kind::STRICT_ARRAY => strict_array(out, image, d, at, count),
-            kind::DATE => date(out, image, d, at, count),
-            kind::UNSUPPORTED => bare(out, count, 0x0D, d, Rest::Nothing),
-            kind::XML => xml(out, image, text, d, at, count),
-            kind::TYPED_OBJECT => typed_object(out, image, text, d, at, count),
-            _ => Begun::Stop(NO_TREE, at),
-        },
+    let (kind, d) = of_record(at, c.be_u8(image).ok())?;
+    match kind {
+        kind::NUMBER => number(out, image, d, at, count),
+        kind::BOOLEAN => boolean(out, image, d, at, count),
+        kind::TEXT => string(out, image, text, d, at, count),
+        kind::OBJECT => bare(out, count, 0x03, d, Rest::Pairs),
+        kind::NULL => bare(out, count, 0x05, d, Rest::Nothing),
+        kind::UNDEFINED => bare(out, count, 0x06, d, Rest::Nothing),
+        kind::REFERENCE => reference(out, image, d, at, count),
+        kind::ECMA_ARRAY => ecma_array(out, image, d, at, count),
+        kind::STRICT_ARRAY => strict_array(out, image, d, at, count),
+        kind::DATE => date(out, image, d, at, count),
+        kind::UNSUPPORTED => bare(out, count, 0x0D, d, Rest::Nothing),
+        kind::XML => xml(out, image, text, d, at, count),
+        kind::TYPED_OBJECT => typed_object(out, image, text, d, at, count),
+        _ => Answer::NoTree.refuse(at),
     }
 }
 
-// What stands before a value of a pair: its key, or the end of the pairs.
-#[derive(Clone, Copy)]
+// What stood before a value of a pair, and was put out: its key, or the end of the pairs.
+#[derive(Clone, Copy, Debug, PartialEq, Eq)]
 pub enum Before {
     Key(Cursor, usize),
     End(Cursor, usize),
-    Stop(u8, usize),
 }
 
-fn key(out: &mut [u8], image: &[u8], text: &[u8], c: Cursor, at: usize, count: usize) -> Before
+fn key(
+    out: &mut [u8],
+    image: &[u8],
+    text: &[u8],
+    c: Cursor,
+    at: usize,
+    count: usize,
+) -> Result<Before, Refusal>
     requires { (length text.now ≤ most_bytes) × (count ≤ most) }
     ensures { Paired result out.new (body_at 0x20 image.now c.at) text.now at count out.old }
 {
-    match short_at(image, c) {
-        Text::Got(p, n, e) => match emit_text(out, text, count, 0, 0, 2, p, n, at, e) {
-            Step::Next(g, m) => Before::Key(g, m),
-            Step::Stop(a, q) => Before::Stop(a, q),
-        },
-        Text::Stop(_, _) => Before::Stop(NO_TREE, at),
-    }
+    let (t, e) = of_record(at, short_at(image, c).ok())?;
+    let (g, m) = emit_text(out, text, count, 0, 0, 2, t.place, t.length, at, e)?;
+    Ok(Before::Key(g, m))
 }
 
-fn end(out: &mut [u8], count: usize, next: Cursor) -> Before
+fn end(out: &mut [u8], count: usize, next: Cursor) -> Result<Before, Refusal>
     requires { count ≤ most }
-    ensures { (text : List ℕ) → (at : ℕ) → Paired result out.new (Found ObjectEnd next) text at count out.old }
+    ensures { (text : List ℕ) → (at : ℕ) → Paired result out.new (taken_to ObjectEnd next) text at count out.old }
 {
-    match emit_numbers(out, count, 3, 0x09, 0, 0, 0, 0, next) {
-        Step::Next(g, m) => Before::End(g, m),
-        Step::Stop(a, q) => Before::Stop(a, q),
-    }
+    let (g, m) = emit_numbers(out, count, 3, 0x09, 0, 0, 0, 0, next)?;
+    Ok(Before::End(g, m))
 }
 
-fn pair(out: &mut [u8], image: &[u8], text: &[u8], c: Cursor, count: usize) -> Before
+#[tactic(auto, unfolding(image::specs::Taking::record_at))]
+fn pair(
+    out: &mut [u8],
+    image: &[u8],
+    text: &[u8],
+    c: Cursor,
+    count: usize,
+) -> Result<Before, Refusal>
     requires { (length text.now ≤ most_bytes) × (count ≤ most) }
     ensures { Paired result out.new (record_at image.now c.at) text.now c.at count out.old }
 {
     let at = c.at;
-    match c.be_u8(image) {
-        U8::Stop(_, _) => Before::Stop(NO_TREE, at),
-        U8::Got(kind, d) => {
-            if kind == kind::KEY {
-                return key(out, image, text, d, at, count);
-            }
-            if kind == kind::OBJECT_END {
-                return end(out, count, d);
-            }
-            Before::Stop(NO_TREE, at)
-        }
+    let (kind, d) = of_record(at, c.be_u8(image).ok())?;
+    match kind {
+        kind::KEY => key(out, image, text, d, at, count),
+        kind::OBJECT_END => end(out, count, d),
+        _ => Answer::NoTree.refuse(at),
     }
 }
 
@@ -332,16 +314,8 @@ fn due_at(image: &[u8], c: Cursor, due: Rest) -> Rest
     ensures { result ≡ due_at (value_at image.now c.at) due }
 {
     match due {
-        Rest::Nothing => Rest::Nothing,
-        Rest::Pairs => Rest::Pairs,
-        Rest::Values(n) => Rest::Values(n),
-        Rest::Dense => {
-            if value_at(image, c) {
-                Rest::Dense
-            } else {
-                Rest::Pairs
-            }
-        }
+        Rest::Dense if !value_at(image, c) => Rest::Pairs,
+        _ => due,
     }
 }
 
@@ -353,21 +327,18 @@ fn value(out: &mut [u8], image: &[u8], text: &[u8], c: Cursor, count: usize, lef
     ensures ahead { Ahead result (c.at + 1) (length image.now) (count + longest) }
 {
     if left == 0 {
-        let at = c.at;
-        if value_at(image, c) {
-            return Step::Stop(TOO_DEEP, at);
-        }
-        return Step::Stop(NO_TREE, at);
+        let reason = if value_at(image, c) {
+            Answer::TooDeep
+        } else {
+            Answer::NoTree
+        };
+        return reason.refuse(c.at);
     }
-    match own(out, image, text, c, count) {
-        Begun::Stop(a, p) => Step::Stop(a, p),
-        Begun::Next(e, n, f) => {
-            if let Rest::Nothing = f {
-                return Step::Next(e, n);
-            }
-            values(out, image, text, e, n, left - 1, f)
-        }
+    let (e, n, f) = own(out, image, text, c, count)?;
+    if let Rest::Nothing = f {
+        return Ok((e, n));
     }
+    values(out, image, text, e, n, left - 1, f)
 }
 
 // Values as they follow a value's own bytes: pairs up to the end, values without a key, numbered from 0 as their keys, before such pairs, or so many values.
@@ -394,23 +365,20 @@ fn values(
         due = due_at(image, c, due);
         match due {
             Rest::Nothing => {
-                return Step::Next(c, count);
+                return Ok((c, count));
             }
             Rest::Dense => {
                 count = index(out, count, k);
             }
             Rest::Values(n) => {
                 if n == 0 {
-                    return Step::Next(c, count);
+                    return Ok((c, count));
                 }
                 due = Rest::Values(n - 1);
             }
-            Rest::Pairs => match pair(out, image, text, c, count) {
-                Before::Stop(a, p) => {
-                    return Step::Stop(a, p);
-                }
+            Rest::Pairs => match pair(out, image, text, c, count)? {
                 Before::End(e, n) => {
-                    return Step::Next(e, n);
+                    return Ok((e, n));
                 }
                 Before::Key(e, n) => {
                     c = e;
@@ -418,15 +386,9 @@ fn values(
                 }
             },
         }
-        match value(out, image, text, c, count, left) {
-            Step::Stop(a, p) => {
-                return Step::Stop(a, p);
-            }
-            Step::Next(g, m) => {
-                c = g;
-                count = m;
-            }
-        }
+        let (g, m) = value(out, image, text, c, count, left)?;
+        c = g;
+        count = m;
         k += 1;
     }
 }
@@ -436,17 +398,12 @@ pub fn pour_value(out: &mut [u8], image: &[u8], text: &[u8], c: Cursor, count: u
     ensures out_after { poured result out.new ≡ pour (value_in image.now text.now count c.at) count out.old }
     ensures ahead { Ahead result (c.at + 1) (length image.now) (count + longest) }
 {
-    if limit::BYTES < text.len() {
-        return Step::Stop(OVER_LIMIT, 0);
-    }
-    if limit::IMAGE < image.len() {
-        return Step::Stop(OVER_LIMIT, 0);
-    }
-    if image.len() < c.at {
-        return Step::Stop(OVER_LIMIT, 0);
-    }
-    if BEFORE < count {
-        return Step::Stop(OVER_LIMIT, 0);
+    if limit::BYTES < text.len()
+        || limit::IMAGE < image.len()
+        || image.len() < c.at
+        || BEFORE < count
+    {
+        return Answer::OverLimit.refuse(0);
     }
     values(out, image, text, c, count, limit::LEVELS, Rest::Values(1))
 }
@@ -456,20 +413,14 @@ pub fn write_value(image: &[u8], text: &[u8], out: &mut [u8]) -> Writing
     ensures value { result ≡ (write_of image.now text.now (length out.old)).writing }
     ensures out_after { out.new ≡ onto (write_of image.now text.now (length out.old)).bytes out.old }
 {
-    let empty: usize = 0;
-    match pour_value(&mut out[..empty], image, text, Cursor { at: 0 }, 0) {
-        Step::Stop(a, _) => refused(a),
-        Step::Next(c, n) => {
-            if c.at < image.len() {
-                return refused(NO_TREE);
-            }
-            if limit::BYTES < n {
-                return refused(OVER_LIMIT);
-            }
-            if out.len() < n {
-                return refused(NO_ROOM);
-            }
-            pour_value(out, image, text, Cursor { at: 0 }, 0);
+    match pour_value(&mut out[..0], image, text, Cursor { at: 0 }, 0) {
+        Err(r) => refused_by(r.answer()),
+        Ok((c, _)) if c.at < image.len() => refused_by(Answer::NoTree),
+        Ok((_, n)) if limit::BYTES < n => refused_by(Answer::OverLimit),
+        Ok((_, n)) if out.len() < n => refused_by(Answer::NoRoom),
+        Ok((_, n)) => {
+            // What was measured is not refused.
+            let _ = pour_value(out, image, text, Cursor { at: 0 }, 0);
             Writing {
                 answer: ACCEPTED,
                 count: n,

@@ -1,26 +1,25 @@
 -- What the standard calls a value is read as that value.
-use Rattle.std.specs.Prelude.{◌+◌, ◌-◌, ◌^◌, ◌≤◌, ◌<◌, ◌≡◌, ◌∷◌, ◌++◌}
+use Rattle.std.specs.Prelude.{◌+◌, ◌-◌, ◌^◌, ◌≤◌, ◌<◌, ◌≡◌, ◌∷◌, ◌++◌, Ok, Err}
 use Rattle.wire.proofs.Kit.{ℕ, zero, suc, refl, sym, ap, ap₂, ◌∙◌, List, [], true, arith, length, length-append, length-drop}
 use Rattle.wire.proofs.Kit.{eqb, lit<}
 use Prim.Native.Nat.{pred}
 use Rattle.wire.specs.Choice.{pick}
 use Rattle.wire.specs.Number.{digits}
 use Rattle.wire.specs.Utf8.{utf8, ends}
-use Rattle.wire.specs.Field.{bytes_at, u8_at, got8}
-use Rattle.wire.specs.declared.cursor.U8.{U8}
+use Rattle.wire.specs.Field.{bytes_at, u8_at, got, Parsed}
 use Rattle.wire.proofs.Stands.{Here, cut, skip, inside, there, byte_at, text_at_lem}
 use Rattle.image.specs.declared.record.Record.{Record}
 use Rattle.image.specs.declared.record.Record.TheVariants.{Key, ObjectEnd}
 use Rattle.image.specs.Due.{Due, end, stop, seen, due, ◌>>=◌}
 use Rattle.image.specs.Due.Fact.{own, dropped}
 use Rattle.amf0.specs.declared.read.Follow.{Follow}
-use Rattle.amf0.specs.declared.read.Fields.TheVariants.{Stop}
 use Rattle.amf0.specs.Marker.{marker_of}
 use Rattle.amf0.specs.Fields.{gives, got_fields, behind}
 use Rattle.amf0.specs.Reading.{items, pair, pairs, follow, own_at, value}
 use Rattle.amf0.specs.Standard.{Sort, many, Content, content, sort_of, Tree, depth, Encodes}
 use Rattle.amf0.specs.Standard.UTF-8.{short}
 use Rattle.amf0.proofs.Rows.{item_at, mark, next_of, Begins, row_begins, item_at_lem}
+use Rattle.wire.specs.Answer.{denied}
 
 -- a row of bytes that stands at a place, with so many levels left, before another reading: what is seen of it, and its records, each with the place that a
 -- refusal for room would name
@@ -71,11 +70,11 @@ pub value_item : (left : ℕ) (s : List ℕ) (at : ℕ)
 unfolding value item_at
 value_item left s at = go (u8_at s at)
   where
-    go : (u : U8)
-        → got8 stop u (λ m p. got_fields stop (behind s at p (marker_of m)) λ r f q. seen (own_at left s at q) (due r at (follow (value left s) s f q)))
-        ≡ got_fields stop (got8 Stop u λ m p. behind s at p (marker_of m)) λ r f q. seen (own_at left s at q) (due r at (follow (value left s) s f q))
-    go (U8.Got m c) = refl
-    go (U8.Stop a p) = refl
+    go : (u : Parsed ℕ)
+        → got stop u (λ m p. got_fields stop (behind s at p (marker_of m)) λ r f q. seen (own_at left s at q) (due r at (follow (value left s) s f q)))
+        ≡ got_fields stop (got denied u λ m p. behind s at p (marker_of m)) λ r f q. seen (own_at left s at q) (due r at (follow (value left s) s f q))
+    go (Ok x) = refl
+    go (Err r) = refl
 
 pub value_at_lem : (s : List ℕ) (at left : ℕ) {r : Record} {f : Follow} {q : ℕ} → item_at s at ≡ gives r f q → 1 ≤ left
     → value left s at ≡ seen (own_at (pred left) s at q) (due r at (follow (value (pred left) s) s f q))

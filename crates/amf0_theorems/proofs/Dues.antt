@@ -1,5 +1,5 @@
 -- What stands where a record of a value's reading is due.
-use Rattle.std.specs.Prelude.{◌+◌, ◌++◌}
+use Rattle.std.specs.Prelude.{◌+◌, ◌++◌, Ok, Err}
 use Rattle.wire.proofs.Kit.{ℕ, zero, suc, refl, ap, List, length, eqb, eqb-true}
 use Rattle.wire.specs.Number.{digits, Bytes}
 use Rattle.wire.proofs.Laws.{picked}
@@ -10,9 +10,7 @@ use Rattle.image.specs.Due.{Due, Fact, stop, seen, due, Lacks}
 use Rattle.image.proofs.Settle.{AllDue, due_bind, due_lacks}
 use Rattle.amf0.specs.declared.read.Follow.{Follow}
 use Rattle.amf0.specs.declared.read.Follow.TheVariants.{Nothing, Pairs, Values}
-use Rattle.amf0.specs.declared.read.Fields.{Fields}
-use Rattle.amf0.specs.declared.read.Fields.TheVariants.{Got, Stop}
-use Rattle.amf0.specs.Fields.{got_fields}
+use Rattle.amf0.specs.Fields.{got_fields, Fields}
 use Rattle.amf0.specs.Reading.{items, pair, pairs, follow, own_at, value, top_value}
 use Rattle.amf0.specs.Shown.Word.{name}
 use Rattle.amf0.specs.Standard.{UTF-8}
@@ -57,9 +55,9 @@ module _ (s : List ℕ) (bs : Bytes s) where
 
     node_due : (look : ℕ → Fact) (at : ℕ) (x : Fields) → IsRead s at x
         → AllDue (DueAt s) (got_fields stop x λ r f q. seen (look q) (due r at (follow inner s f q)))
-    node_due look at (Got r f c) g =
-        (DueAt.value g.rest g.grammar g.here.same (rw g.marks ((marked g.grammar).tells s g.rest at g.here)), follow_due f c.at)
-    node_due look at (Stop a p) g = tt
+    node_due look at (Ok x) g =
+        (DueAt.value g.rest g.grammar g.here.same (rw g.marks ((marked g.grammar).tells s g.rest at g.here)), follow_due x.1 x.2.at)
+    node_due look at (Err r) g = tt
 
 -- Every record of a value's reading is due where the value, the name or the end marker stands that it says.
 pub value_due : (s : List ℕ) → Bytes s → (left at : ℕ) → AllDue (DueAt s) (value left s at)

@@ -8,9 +8,8 @@ use Rattle.wire.specs.Utf8.{ends}
 use Rattle.wire.proofs.Stands.{Here, cut, skip, byte_at}
 use Rattle.image.specs.declared.record.Record.{Record}
 use Rattle.image.specs.declared.record.Field.{Field}
-use Rattle.image.specs.declared.taking.Taken.TheVariants.{Found}
 use Rattle.image.specs.Record.{layout_of, bytes_of, field_bytes, size}
-use Rattle.image.specs.Taking.{record_at, Fits}
+use Rattle.image.specs.Taking.{record_at, Fits, taken_to}
 use Rattle.image.specs.Out.{Out, end, stop, put, ◌>>=◌, row_of, row, named_of}
 use Rattle.image.proofs.Laws.{size_bytes, size_some}
 use Rattle.image.proofs.Found.{found_here}
@@ -105,7 +104,7 @@ module _ (s image : List ℕ) where
   rest_part v (Content.ordered n) q = refl
 
   module _ {at : ℕ} (r : Record) (rs : List Record) (z : List ℕ) (h : Here image at (laid (r ∷ rs)) z) where
-    pub first : Fits r → record_at image at ≡ Found r (to (at + size r))
+    pub first : Fits r → record_at image at ≡ taken_to r (to (at + size r))
     first f = found_here image (laid rs ++ z) at r f (cut (bytes_of r) (laid rs) h)
 
     pub others : Here image (at + size r) (laid rs) z

@@ -6,7 +6,6 @@ use lib.Seq.{take-nil}
 use Rattle.wire.specs.Number.{digits, number, Bytes}
 use Rattle.wire.specs.Utf8.{utf8, ends}
 use Rattle.wire.specs.Field.{bytes_at, str_at, text_at, got_text}
-use Rattle.wire.specs.declared.cursor.Text.TheVariants as Text
 use Rattle.wire.proofs.Laws.{false_true, length_digits, number_digits}
 use Rattle.wire.proofs.Stands.{Here, after, join, behind, inside, there, number_stood, text_stood, go_text}
 use Rattle.image.specs.Due.{Due, end, stop, seen, due, ◌>>=◌, Ends, Stops}
@@ -15,6 +14,7 @@ use Rattle.wire.specs.Choice.{pick}
 use Rattle.amf0.specs.Marker.{marker_of}
 use Rattle.amf0.specs.Fields.{shut}
 use Rattle.amf0.proofs.Rows.{◌▸◌, each_marker}
+use Rattle.wire.specs.Answer.{denied}
 
 -- where no level is left, by a marker's number
 pub shut_number : (m : ℕ) → shut (marker_of m) ≡ pick (eqb m 4) 3 (pick (eqb m 9) 3 (pick (eqb m 14) 3 5))
@@ -113,17 +113,17 @@ module _ {A : Type 0} (P : A → Type 0) (stop : ℕ → ℕ → A) (s : List �
           refuse d.here (omega (arith, length_digits w (number (bytes_at w s at)))) (InText.letters d.bound) (rw e at r)
 
 -- the letters of a text are refused
-letters_stop : {n a : ℕ} (s : List ℕ) (at : ℕ) → Refuses (Field.text n) (drop at s) a → at ≤ length s → str_at n s at ≡ Text.Stop a at
+letters_stop : {n a : ℕ} (s : List ℕ) (at : ℕ) → Refuses (Field.text n) (drop at s) a → at ≤ length s → str_at n s at ≡ denied a at
 unfolding str_at
 letters_stop {n} s at (Refuses.short i) l = rw (lt-leb (at + n) (length s) (omega (arith, length-drop at s)))
 letters_stop {n} s at (Refuses.not_utf8 i u) l = rw (le-leb (at + n) (length s) (omega (arith, length-drop at s)), u)
 
 -- a text is refused by one of its two fields
 pub text_stops : {w a : ℕ} {s x r : List ℕ} {at : ℕ} {f : Field} → 1 ≤ w → InText w x f → Refuses f r a → Here s at x r
-    → text_at w s at ≡ Text.Stop a (at + length x)
+    → text_at w s at ≡ denied a (at + length x)
 unfolding text_at
 text_stops {w} {s} {r} {at} one InText.size (Refuses.short i) h =
-    rw (lt-leb (at + w) (length s) (omega (arith, length-drop at s, ap length h.same))) (ap (Text.Stop 2) (omega arith))
+    rw (lt-leb (at + w) (length s) (omega (arith, length-drop at s, ap length h.same))) (ap (denied 2) (omega arith))
 text_stops {w} {s} {at} one (InText.letters {n} b) u h =
     let d = length_digits w n in
     let i = inside h (omega arith) in

@@ -1,23 +1,20 @@
 -- Where a field refuses the input, the reading of a value stops.
-use Rattle.std.specs.Prelude.{◌+◌, ◌^◌, ◌≤◌, ◌<◌, ◌≡◌, ◌≢◌, ◌∷◌, ◌++◌}
+use Rattle.std.specs.Prelude.{◌+◌, ◌^◌, ◌≤◌, ◌<◌, ◌≡◌, ◌≢◌, ◌∷◌, ◌++◌, Option}
 use Rattle.wire.proofs.Kit.{ℕ, zero, suc, refl, sym, ap, ◌∙◌, List, [], true, arith, length, drop, get_or, length-append}
 use Rattle.wire.proofs.Kit.{eqb, le-leb, lt-leb, eqb-true, ne_eqb}
 use Prim.Native.Nat.{pred}
 use Rattle.wire.specs.Number.{digits, number}
 use Rattle.wire.specs.Utf8.{utf8}
-use Rattle.wire.specs.Field.{bytes_at, u8_at, u16_at, u32_at, u64_at, text_at, got_text}
+use Rattle.wire.specs.Field.{bytes_at, u8_at, u16_at, u32_at, u64_at, text_at, got_text, got_to}
 use Rattle.wire.specs.declared.cursor.Cursor.{Cursor}
-use Rattle.wire.specs.declared.cursor.U8.TheVariants as U8
 use Rattle.wire.proofs.Laws.{picked}
 use Rattle.wire.proofs.Stands.{Here, cut, skip, after, byte_at, u64_at_lem, text_at_lem, byte_stood, go8}
 use Rattle.image.specs.declared.record.Record.{Record}
 use Rattle.image.specs.Due.{Due, stop, Stops}
 use Rattle.amf0.specs.declared.read.Follow.{Follow}
 use Rattle.amf0.specs.declared.read.Follow.TheVariants.{Nothing, Pairs}
-use Rattle.amf0.specs.declared.read.Fields.{Fields}
-use Rattle.amf0.specs.declared.read.Fields.TheVariants.{Stop}
 use Rattle.amf0.specs.Marker.{marker_of}
-use Rattle.amf0.specs.Fields.{fields_at, gives, shut, behind}
+use Rattle.amf0.specs.Fields.{fields_at, gives, shut, behind, Fields}
 use Rattle.image.proofs.Settle.{stops_behind}
 use Rattle.amf0.specs.Reading.{items, pair, pairs, value}
 use Rattle.amf0.specs.Standard.{Sort, content}
@@ -29,7 +26,8 @@ use Rattle.amf0_theorems.specs.Refusal.Bars.{movie_clip, object_end, record_set}
 use Rattle.amf0_theorems.proofs.Refused.{stops_first, left_over, text_stops, shut_number}
 use Rattle.amf0_theorems.proofs.Complete.{part, follow_next, value_item, value_at_lem, past, pairs_at, begun, within}
 use Rattle.amf0_theorems.proofs.Telling.{reads}
-use Rattle.amf0.specs.declared.type_marker.Marked.{Marked}
+use Rattle.wire.specs.Answer.{denied}
+use Rattle.amf0.specs.declared.type_marker.TypeMarker.{TypeMarker}
 
 -- a marker that is not there
 value_short : (left : ℕ) (s : List ℕ) (at : ℕ) → length s ≤ at → value left s at ≡ stop 2 at
@@ -37,7 +35,7 @@ unfolding u8_at
 value_short left s at h = value_cut s at left (rw (lt-leb (at + 1) (length s) (omega arith)))
 
 -- a marker that marks no value
-pub value_bars : {m : ℕ} {c : Cursor} (left : ℕ) (s : List ℕ) (at : ℕ) → Bars m → u8_at s at ≡ U8.Got m c → value left s at ≡ stop 3 at
+pub value_bars : {m : ℕ} {c : Cursor} (left : ℕ) (s : List ℕ) (at : ℕ) → Bars m → u8_at s at ≡ got_to m c → value left s at ≡ stop 3 at
 unfolding value fields_at marker_of
 value_bars zero s at movie_clip e = rw e
 value_bars zero s at object_end e = rw e
@@ -60,18 +58,18 @@ marker_stops s at (Refuses.too_deep {m} d) h l = rw (byte_at m (record { same = 
 
 module _ {s r : List ℕ} {at : ℕ} (l : at ≤ length s) where
   -- what the fields behind a marker come to, the item comes to
-  behind_marker : (m : ℕ) (y : List ℕ) {t : Marked} {f : Fields} → marker_of m ≡ t → Here s at (m ∷ y) r → behind s at (at + 1) t ≡ f → item_at s at ≡ f
+  behind_marker : (m : ℕ) (y : List ℕ) {t : Option TypeMarker} {f : Fields} → marker_of m ≡ t → Here s at (m ∷ y) r → behind s at (at + 1) t ≡ f → item_at s at ≡ f
   unfolding item_at
   behind_marker m y e h g = rw (byte_at m (cut (m ∷ []) y h), e) g
 
   -- a text behind a marker
-  text_behind : {w a : ℕ} {f : Field} (m : ℕ) (x : List ℕ) {t : Marked} (q : ℕ → ℕ → Record) (g : Follow) → marker_of m ≡ t
-      → behind s at (at + 1) t ≡ got_text Stop (text_at w s (at + 1)) (λ p n e. gives (q p n) g e) → 1 ≤ w → InText w x f → Refuses f r a → Here s at (m ∷ x) r
-      → item_at s at ≡ Stop a (at + suc (length x))
-  text_behind {a} m x q g e i o t u h = behind_marker m x e h (i ∙ rw (text_stops o t u (skip (m ∷ []) x h)) (ap (Stop a) (omega arith)))
+  text_behind : {w a : ℕ} {f : Field} (m : ℕ) (x : List ℕ) {t : Option TypeMarker} (q : ℕ → ℕ → Record) (g : Follow) → marker_of m ≡ t
+      → behind s at (at + 1) t ≡ got_text denied (text_at w s (at + 1)) (λ p n e. gives (q p n) g e) → 1 ≤ w → InText w x f → Refuses f r a → Here s at (m ∷ x) r
+      → item_at s at ≡ denied a (at + suc (length x))
+  text_behind {a} m x q g e i o t u h = behind_marker m x e h (i ∙ rw (text_stops o t u (skip (m ∷ []) x h)) (ap (denied a) (omega arith)))
 
   -- a field of a value's own that refuses the input
-  own_stops : {a : ℕ} {x : List ℕ} {f : Field} → Own x f → Refuses f r a → Here s at x r → item_at s at ≡ Stop a (at + length x)
+  own_stops : {a : ℕ} {x : List ℕ} {f : Field} → Own x f → Refuses f r a → Here s at x r → item_at s at ≡ denied a (at + length x)
   unfolding fields_at marker_of u8_at u16_at u32_at u64_at
   own_stops Own.number (Refuses.short i) h = behind_marker 0 [] refl h (rw (lt-leb (at + 1 + 8) (length s) (omega (arith, left_over h l))))
   own_stops Own.boolean (Refuses.short i) h = behind_marker 1 [] refl h (rw (lt-leb (at + 1 + 1) (length s) (omega (arith, left_over h l))))
@@ -88,7 +86,7 @@ module _ {s r : List ℕ} {at : ℕ} (l : at ≤ length s) where
   own_stops Own.date (Refuses.short i) h = behind_marker 11 [] refl h (rw (lt-leb (at + 1 + 8) (length s) (omega (arith, left_over h l))))
   own_stops (Own.time_zone {n} b) (Refuses.short i) h =
       behind_marker 11 (digits 8 n) refl h
-      (rw (u64_at_lem n (skip (11 ∷ []) (digits 8 n) h) b, lt-leb (at + 1 + 8 + 2) (length s) (omega (arith, left_over h l))) (ap (Stop 2) (omega arith)))
+      (rw (u64_at_lem n (skip (11 ∷ []) (digits 8 n) h) b, lt-leb (at + 1 + 8 + 2) (length s) (omega (arith, left_over h l))) (ap (denied 2) (omega arith)))
   own_stops (Own.long_string {x} t) u h = text_behind 12 x _ Nothing refl refl (omega arith) t u h
   own_stops (Own.xml_document {x} t) u h = text_behind 15 x _ Nothing refl refl (omega arith) t u h
   own_stops (Own.typed_object {x} t) u h = text_behind 16 x _ Pairs refl refl (omega arith) t u h
@@ -111,7 +109,7 @@ value_stops left k s r at (suc fuel) a p h b u f other t =
     (λ i. rw (value_short left s q i) at t))
 
 -- a value whose marker or fields are refused
-item_stops : {a p : ℕ} (left : ℕ) (s : List ℕ) (at : ℕ) → item_at s at ≡ Stop a p → Stops (value (suc left) s at) a p
+item_stops : {a p : ℕ} (left : ℕ) (s : List ℕ) (at : ℕ) → item_at s at ≡ denied a p → Stops (value (suc left) s at) a p
 item_stops left s at e = rw (value_item left s at, e) (refl, refl)
 
 -- a name is refused by one of its two fields

@@ -1,5 +1,5 @@
 -- What stands at a place of an image, as a writing sees it: the record that is due there, or none.
-use Rattle.std.specs.Prelude.{◌+◌, ◌≤◌, ◌≡◌, ◌∷◌}
+use Rattle.std.specs.Prelude.{◌+◌, ◌≤◌, ◌≡◌, ◌∷◌, Some, None}
 use Rattle.wire.proofs.Kit.{ℕ, refl, sym, ap, ◌∙◌, List, [], Bool, true, false, arith, length, drop, length-drop, leb, eqb, leb-true}
 use Rattle.wire.proofs.Kit.{eq-eqb, eqb-true}
 use Rattle.wire.specs.Choice.{pick}
@@ -13,11 +13,9 @@ use Rattle.image.specs.declared.record.Field.{Field}
 use Rattle.image.specs.declared.record.Layout.{Layout}
 use Rattle.image.specs.declared.record.Record.{Record}
 use Rattle.image.specs.declared.record.Record.TheVariants as R
-use Rattle.image.specs.declared.taking.Taken.{Taken}
-use Rattle.image.specs.declared.taking.Taken.TheVariants.{Found, Bad}
 use Rattle.image.specs.declared.writing.Row.{Row}
 use Rattle.image.specs.Record.{◌bytes◌, layout_of, bytes_of, size}
-use Rattle.image.specs.Taking.{record_at, Fits}
+use Rattle.image.specs.Taking.{record_at, Fits, Taken, taken_to}
 use Rattle.image.specs.Out.{Out, stop, put, row, row_bytes, named_of}
 use Rattle.image.proofs.Laws.{size_bytes}
 use Rattle.image.proofs.Found.{found_here, found_stood}
@@ -144,7 +142,7 @@ module _ (s image : List ℕ) (bs : Bytes image) where
     pub here : Here image at (bytes_of r) rest
     pub next : q ≡ at + length (bytes_of r)
 
-  took_found : {at : ℕ} {r : Record} {c : Cursor} → record_at image at ≡ Found r c → Took at r c.at
+  took_found : {at : ℕ} {r : Record} {c : Cursor} → record_at image at ≡ taken_to r c → Took at r c.at
   took_found {at} {r} {c} h =
       let o = found_stood image bs at r c h in
       record {
@@ -161,15 +159,15 @@ module _ (s image : List ℕ) (bs : Bytes image) (at : ℕ) where
     bad : ((t : Record) → Fronts s t (drop at image) → ⊥) → Taking k (stop 6 at)
 
   -- a right record that stands first is found
-  found : (r : Record) → Fronts s r (drop at image) → record_at image at ≡ Found r (to (at + size r))
+  found : (r : Record) → Fronts s r (drop at image) → record_at image at ≡ taken_to r (to (at + size r))
   found r f = found_here image f.rest at r f.fits (record { same = f.same })
 
   pub taking : (k : Record → ℕ → Out) → Taking k (taken at (record_at image at) k)
   taking k = go (record_at image at) refl
     where
       go : (t : Taken) → record_at image at ≡ t → Taking k (taken at t k)
-      go (Found r c) h = Taking.takes (took_found s image bs h) λ t f. let e = found t f in cc
-      go Bad h = Taking.bad λ t f. let e = found t f in clash (cc)
+      go (Some x) h = Taking.takes (took_found s image bs h) λ t f. let e = found t f in cc
+      go None h = Taking.bad λ t f. let e = found t f in clash (cc)
 
   -- a record of the kind that is due is taken, and no other is right there; or none of that kind is, and 6
   pub data Asking (due : ℕ) (k : Layout → ℕ → Out) : Out → Type 0 where

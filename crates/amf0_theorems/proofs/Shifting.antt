@@ -1,5 +1,5 @@
 -- What is read of a part that stands further on in an input is what is read of the part alone, moved there.
-use Rattle.std.specs.Prelude.{◌+◌, ◌-◌, ◌*◌, ◌≤◌, ◌≡◌, ◌++◌}
+use Rattle.std.specs.Prelude.{◌+◌, ◌-◌, ◌*◌, ◌≤◌, ◌≡◌, ◌++◌, Ok, Err, Some, None, Option}
 use Rattle.wire.proofs.Kit.{ℕ, zero, suc, refl, sym, ap, ap₂, ◌∙◌, List, Bool, true, false, arith, length, get_or, length-append, leb, eqb}
 use Rattle.wire.specs.Choice.{pick}
 use Rattle.wire.specs.Number.{number}
@@ -9,19 +9,16 @@ use Rattle.image.specs.declared.record.Record.TheVariants.{Key}
 use Rattle.image.specs.Record.{moved}
 use Rattle.image.specs.Due.{Due, end, stop, seen, due, ◌>>=◌, based, shifted, Ends}
 use Rattle.image.specs.Due.Fact.{own}
-use Rattle.amf0.specs.declared.type_marker.Marked.{Marked}
-use Rattle.amf0.specs.declared.type_marker.Marked.TheVariants.{Value, Refused}
 use Rattle.amf0.specs.declared.type_marker.TypeMarker.{TypeMarker}
 use Rattle.amf0.specs.declared.type_marker.TypeMarker.TheVariants as M
 use Rattle.amf0.specs.declared.read.Follow.{Follow}
 use Rattle.amf0.specs.declared.read.Follow.TheVariants.{Nothing, Pairs, Values}
-use Rattle.amf0.specs.declared.read.Fields.{Fields}
-use Rattle.amf0.specs.declared.read.Fields.TheVariants.{Got, Stop}
 use Rattle.amf0.specs.Marker.{marker_of}
-use Rattle.amf0.specs.Fields.{fields_at, behind, got_fields}
+use Rattle.amf0.specs.Fields.{fields_at, behind, got_fields, Fields, fields_to}
 use Rattle.amf0.specs.Reading.{items, pair, pairs, follow, own_at, value}
 use Rattle.image.proofs.Kept.{ends_kept}
 use Rattle.amf0.proofs.Reasons.{Named, kept}
+use Rattle.wire.specs.Answer.{denied}
 
 bind_moves : (a : ℕ) (d : Due) (k l : ℕ → Due) → ((n : ℕ) → Ends d n → k (a + n) ≡ shifted a (l n)) → shifted a d >>= k ≡ shifted a (d >>= l)
 bind_moves a (end n) k l h = h n refl
@@ -34,8 +31,8 @@ pick_both P true h i = h
 pick_both P false h i = i
 
 moved_fields : ℕ → Fields → Fields
-moved_fields a (Got r f c) = Got (moved a r) f (to (a + c.at))
-moved_fields a (Stop w p) = Stop w (a + p)
+moved_fields a (Ok x) = fields_to (moved a x.0) x.1 (to (a + x.2.at))
+moved_fields a (Err r) = denied r.answer (a + r.place)
 
 module _ (x s : List ℕ) where
   Same : Fields → Fields → Type 0
@@ -43,29 +40,29 @@ module _ (x s : List ℕ) where
 
   fields_move : (p : ℕ) (k : TypeMarker) → fields_at (x ++ s) (length x + p) k ≡ moved_fields (length x) (fields_at s p k)
   unfolding fields_at moved_fields Same
-  fields_move p M.Number = both64 Same Stop Stop x s p _ _ (λ h. refl) (λ h. refl)
-  fields_move p M.Boolean = both8 Same Stop Stop x s p _ _ (λ h. refl) (λ h. refl)
-  fields_move p M.String = both_text Same Stop Stop x s p 2 _ _ (λ n h. refl) (λ a q. refl)
+  fields_move p M.Number = both64 Same denied denied x s p _ _ (λ h. refl) (λ h. refl)
+  fields_move p M.Boolean = both8 Same denied denied x s p _ _ (λ h. refl) (λ h. refl)
+  fields_move p M.String = both_text Same denied denied x s p 2 _ _ (λ n h. refl) (λ a q. refl)
   fields_move p M.Object = refl
   fields_move p M.Null = refl
   fields_move p M.Undefined = refl
-  fields_move p M.Reference = both16 Same Stop Stop x s p _ _ (λ h. refl) (λ h. refl)
-  fields_move p M.EcmaArray = both32 Same Stop Stop x s p _ _ (λ h. refl) (λ h. refl)
+  fields_move p M.Reference = both16 Same denied denied x s p _ _ (λ h. refl) (λ h. refl)
+  fields_move p M.EcmaArray = both32 Same denied denied x s p _ _ (λ h. refl) (λ h. refl)
   fields_move p M.StrictArray =
-      both32 Same Stop Stop x s p _ _
+      both32 Same denied denied x s p _ _
       (λ h. rw (fits_both x s (p + 4)) (pick_both Same (leb (p + 4 + number (bytes_at 4 s p)) (length s)) refl refl)) (λ h. refl)
   fields_move p M.Date =
-      both64 Same Stop Stop x s p _ _ (λ h. both16 Same Stop Stop x s (p + 8) _ _ (λ h. refl) (λ h. refl)) (λ h. refl)
-  fields_move p M.LongString = both_text Same Stop Stop x s p 4 _ _ (λ n h. refl) (λ a q. refl)
+      both64 Same denied denied x s p _ _ (λ h. both16 Same denied denied x s (p + 8) _ _ (λ h. refl) (λ h. refl)) (λ h. refl)
+  fields_move p M.LongString = both_text Same denied denied x s p 4 _ _ (λ n h. refl) (λ a q. refl)
   fields_move p M.Unsupported = refl
-  fields_move p M.Xml = both_text Same Stop Stop x s p 4 _ _ (λ n h. refl) (λ a q. refl)
-  fields_move p M.TypedObject = both_text Same Stop Stop x s p 2 _ _ (λ n h. refl) (λ a q. refl)
+  fields_move p M.Xml = both_text Same denied denied x s p 4 _ _ (λ n h. refl) (λ a q. refl)
+  fields_move p M.TypedObject = both_text Same denied denied x s p 2 _ _ (λ n h. refl) (λ a q. refl)
   fields_move p M.Amf3 = refl
 
-  behind_moves : (at p : ℕ) (t : Marked) → behind (x ++ s) (length x + at) (length x + p) t ≡ moved_fields (length x) (behind s at p t)
+  behind_moves : (at p : ℕ) (t : Option TypeMarker) → behind (x ++ s) (length x + at) (length x + p) t ≡ moved_fields (length x) (behind s at p t)
   unfolding moved_fields
-  behind_moves at p (Value k) = fields_move p k
-  behind_moves at p Refused = refl
+  behind_moves at p (Some k) = fields_move p k
+  behind_moves at p None = refl
 
   -- the bytes from one place to another
   row_moves : (at q : ℕ) → bytes_at (length x + q - (length x + at)) (x ++ s) (length x + at) ≡ bytes_at (q - at) s at
@@ -114,9 +111,9 @@ module _ (x s : List ℕ) where
         → got_fields stop (moved_fields (length x) y) (λ r f q. seen (own_at left (x ++ s) (length x + at) q) (due r (length x + at) (follow v (x ++ s) f q)))
         ≡ shifted (length x) (got_fields stop y λ r f q. seen (own_at left s at q) (due r at (follow u s f q)))
     unfolding moved_fields
-    node_moves left at (Got r f c) =
-        ap₂ (λ w d. seen (own left w) (due (moved (length x) r) (length x + at) d)) (row_moves at c.at) (follow_moves f c.at)
-    node_moves left at (Stop a p) = refl
+    node_moves left at (Ok y) =
+        ap₂ (λ w d. seen (own left w) (due (moved (length x) y.0) (length x + at) d)) (row_moves at y.2.at) (follow_moves y.1 y.2.at)
+    node_moves left at (Err r) = refl
 
 pub shift : (left : ℕ) (x s : List ℕ) (at : ℕ) → value left (x ++ s) (length x + at) ≡ shifted (length x) (value left s at)
 unfolding value Moved

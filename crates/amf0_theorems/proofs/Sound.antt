@@ -1,13 +1,11 @@
 -- What is read as a value is one, by the standard.
-use Rattle.std.specs.Prelude.{◌+◌, ◌≤◌, ◌≡◌, ◌∷◌, ◌++◌}
+use Rattle.std.specs.Prelude.{◌+◌, ◌≤◌, ◌≡◌, ◌∷◌, ◌++◌, Ok, Err}
 use Rattle.wire.proofs.Kit.{ℕ, zero, suc, refl, List, [], arith, length, length-append, eqb, eqb-true}
 use Rattle.wire.specs.Number.{digits, Bytes}
 use Rattle.wire.proofs.Laws.{picked}
 use Rattle.wire.proofs.Stands.{Here, join, end8, end_text}
 use Rattle.image.specs.Due.{Due, Fact, end, stop, seen, due, ◌>>=◌, Ends}
-use Rattle.amf0.specs.declared.read.Fields.{Fields}
-use Rattle.amf0.specs.declared.read.Fields.TheVariants.{Got, Stop}
-use Rattle.amf0.specs.Fields.{got_fields}
+use Rattle.amf0.specs.Fields.{got_fields, Fields}
 use Rattle.amf0.specs.Reading.{items, pair, pairs, follow, own_at, value}
 use Rattle.amf0.specs.Standard.{Sort, content, Tree, depth, follows, UTF-8, Encodes}
 use Rattle.amf0.specs.Standard.UTF-8.{short}
@@ -90,10 +88,10 @@ module _ (s : List ℕ) (bs : Bytes s) (left : ℕ) (inner : ℕ → Due) (good 
 
   node_sound : (look : ℕ → Fact) (at n : ℕ) (x : Fields) → IsRead s at x
       → Ends (got_fields stop x λ r f q. seen (look q) (due r at (follow inner s f q))) n → Found Sort.value (suc left) s at n
-  node_sound look at n (Got r f c) g e =
-      let t = part_sound (follows g.what) (length s) c.at n (rw (g.follows, follow_next inner s (content g.what) c.at) at e) in
+  node_sound look at n (Ok x) g e =
+      let t = part_sound (follows g.what) (length s) x.2.at n (rw (g.follows, follow_next inner s (content g.what) x.2.at) at e) in
       found (Encodes.node g.grammar t.encodes) (ends_at g.here g.long t.here) (omega (arith, length-append g.row t.row)) (omega arith)
-  node_sound look at n (Stop a p) g e = absurd e
+  node_sound look at n (Err r) g e = absurd e
 
 pub sound : (left : ℕ) (s : List ℕ) (at n : ℕ) → Bytes s → Ends (value left s at) n → Found Sort.value left s at n
 unfolding value

@@ -1,5 +1,5 @@
 -- Where the reading of a value stops, a field refuses the input.
-use Rattle.std.specs.Prelude.{◌+◌, ◌≤◌, ◌<◌, ◌≡◌, ◌≢◌, ◌∷◌, ◌++◌}
+use Rattle.std.specs.Prelude.{◌+◌, ◌≤◌, ◌<◌, ◌≡◌, ◌≢◌, ◌∷◌, ◌++◌, Ok, Err, Option}
 use Rattle.wire.proofs.Kit.{ℕ, zero, suc, refl, ap, ◌∙◌, List, [], false, arith, length, drop, get_or, length-append}
 use Rattle.wire.proofs.Kit.{length-drop, leb, eqb, leb-true, leb-false, eqb-true, eqb-false}
 use Rattle.wire.specs.Number.{digits, number, Bytes}
@@ -10,10 +10,8 @@ use Rattle.image.specs.declared.record.Record.{Record}
 use Rattle.image.specs.Due.{Due, Fact, stop, seen, due, Ends}
 use Rattle.amf0.specs.declared.read.Follow.{Follow}
 use Rattle.amf0.specs.declared.read.Follow.TheVariants.{Nothing, Pairs, Values}
-use Rattle.amf0.specs.declared.read.Fields.{Fields}
-use Rattle.amf0.specs.declared.read.Fields.TheVariants.{Got, Stop}
 use Rattle.amf0.specs.Marker.{markers, marker_of}
-use Rattle.amf0.specs.Fields.{fields_at, gives, got_fields, shut, behind}
+use Rattle.amf0.specs.Fields.{fields_at, gives, got_fields, shut, behind, Fields}
 use Rattle.amf0.specs.Reading.{items, pair, pairs, follow, own_at, value}
 use Rattle.amf0.specs.Standard.{Sort, many, Content, content, sort_of, UTF-8}
 use Rattle.amf0.specs.Standard.UTF-8.{short}
@@ -24,7 +22,8 @@ use Rattle.amf0_theorems.proofs.Refused.{Told, told_map, told_bind, left_over, r
 use Rattle.amf0_theorems.proofs.Complete.{part, follow_next, value_item}
 use Rattle.amf0_theorems.proofs.Sound as soundness
 use Rattle.amf0_theorems.proofs.Sound.{Found}
-use Rattle.amf0.specs.declared.type_marker.Marked.{Marked}
+use Rattle.wire.specs.Answer.{denied}
+use Rattle.amf0.specs.declared.type_marker.TypeMarker.{TypeMarker}
 
 -- the refusals of a row of a sort, from a place on
 abbrev pub RefusedPart : ℕ → Sort → List ℕ → ℕ → ℕ → ℕ → Type 0
@@ -45,8 +44,8 @@ next_needs (Content.ordered n) = refl
 
 -- what comes of a marker and its fields: what follows has room in the input, or one of them refuses it
 abbrev ToldFields : ℕ → List ℕ → ℕ → Fields → Type 0
-ToldFields left s at (Got r f c) = c.at + needs f ≤ length s
-ToldFields left s at (Stop a p) = RefusedValue (suc left) s at a p
+ToldFields left s at (Ok x) = x.2.at + needs x.1 ≤ length s
+ToldFields left s at (Err r) = RefusedValue (suc left) s at r.answer r.place
 
 -- nothing is left where a marker is due
 no_marker : (left : ℕ) (s : List ℕ) (at : ℕ) → at ≤ length s → length s ≤ at → RefusedValue left s at 2 at
@@ -54,7 +53,7 @@ no_marker left s at l i = refuse {x = []} (record { same = refl }) (omega arith)
 
 module _ (left : ℕ) (s : List ℕ) (bs : Bytes s) (at : ℕ) (l : at < length s) where
   -- the fields behind a marker that stands there
-  abbrev Entry : ℕ → Marked → Type 0
+  abbrev Entry : ℕ → Option TypeMarker → Type 0
   Entry m t = (r : List ℕ) → Here s at (m ∷ []) r → ToldFields left s at (behind s at (at + 1) t)
 
   -- the first field behind a marker is not whole
@@ -67,9 +66,9 @@ module _ (left : ℕ) (s : List ℕ) (bs : Bytes s) (at : ℕ) (l : at < length 
 
   -- a text behind a marker
   text_told : {m w : ℕ} {r : List ℕ} (q : ℕ → ℕ → Record) (f : Follow) → needs f ≡ 0 → 1 ≤ w → ((x : List ℕ) (g : Field) → InText w x g → Own (m ∷ x) g)
-      → Here s at (m ∷ []) r → ToldFields left s at (got_text Stop (text_at w s (at + 1)) λ p n e. gives (q p n) f e)
+      → Here s at (m ∷ []) r → ToldFields left s at (got_text denied (text_at w s (at + 1)) λ p n e. gives (q p n) f e)
   text_told {w} q f z one o h =
-      text_case (ToldFields left s at) Stop s bs (at + 1) w one _
+      text_case (ToldFields left s at) denied s bs (at + 1) w one _
       (λ t r g b u. omega (arith, left_over g (omega arith), length-append (digits w (length t)) t, length_digits w (length t)))
       (λ a p. onward h refl λ r x f e i. Leads.own (o x f i))
 
@@ -77,22 +76,22 @@ module _ (left : ℕ) (s : List ℕ) (bs : Bytes s) (at : ℕ) (l : at < length 
   entries : Each Entry markers
   unfolding fields_at
   entries =
-      (λ r h. go64 (ToldFields left s at) Stop s (at + 1) _ (λ i. omega arith) (short_told Own.number h))
-      ▸ (λ r h. go8 (ToldFields left s at) Stop s (at + 1) _ (λ i. omega arith) (λ i. short_told Own.boolean h (omega arith)))
+      (λ r h. go64 (ToldFields left s at) denied s (at + 1) _ (λ i. omega arith) (short_told Own.number h))
+      ▸ (λ r h. go8 (ToldFields left s at) denied s (at + 1) _ (λ i. omega arith) (λ i. short_told Own.boolean h (omega arith)))
       ▸ (λ r h. text_told _ Nothing refl (omega arith) (λ x g. Own.string) h)
       ▸ (λ r h. omega arith)
       ▸ (λ r h. bar_told movie_clip h)
       ▸ (λ r h. omega arith)
       ▸ (λ r h. omega arith)
-      ▸ (λ r h. go16 (ToldFields left s at) Stop s (at + 1) _ (λ i. omega arith) (short_told Own.reference h))
-      ▸ (λ r h. go32 (ToldFields left s at) Stop s (at + 1) _ (λ i. omega arith) (short_told Own.ecma_array h))
+      ▸ (λ r h. go16 (ToldFields left s at) denied s (at + 1) _ (λ i. omega arith) (short_told Own.reference h))
+      ▸ (λ r h. go32 (ToldFields left s at) denied s (at + 1) _ (λ i. omega arith) (short_told Own.ecma_array h))
       ▸ (λ r h. bar_told object_end h)
-      ▸ (λ r h. go32 (ToldFields left s at) Stop s (at + 1) _
+      ▸ (λ r h. go32 (ToldFields left s at) denied s (at + 1) _
       (λ i. picked (ToldFields left s at) (leb (at + 1 + 4 + number (bytes_at 4 s (at + 1))) (length s)) _ _
       (λ j. leb-true _ _ j) (λ j. few_told h i (leb-false _ _ j)))
       (λ i. refuse h refl (Leads.own Own.strict_array) (Refuses.short (omega (arith, left_over h (omega arith))))))
-      ▸ (λ r h. go64 (ToldFields left s at) Stop s (at + 1) _
-      (λ i. go16 (ToldFields left s at) Stop s (at + 1 + 8) _ (λ j. omega arith) (λ j. zone_told h i j))
+      ▸ (λ r h. go64 (ToldFields left s at) denied s (at + 1) _
+      (λ i. go16 (ToldFields left s at) denied s (at + 1 + 8) _ (λ j. omega arith) (λ j. zone_told h i j))
       (short_told Own.date h))
       ▸ (λ r h. text_told _ Nothing refl (omega arith) (λ x g. Own.long_string) h)
       ▸ (λ r h. omega arith)
@@ -118,7 +117,7 @@ module _ (left : ℕ) (s : List ℕ) (bs : Bytes s) (at : ℕ) (l : at < length 
 item_told : (left : ℕ) (s : List ℕ) (at : ℕ) → Bytes s → at ≤ length s → ToldFields left s at (item_at s at)
 unfolding item_at fields_at
 item_told left s at bs l =
-    go8 (ToldFields left s at) Stop s at _
+    go8 (ToldFields left s at) denied s at _
     (λ i. each_marker (Entry left s bs at i) (entries left s bs at i) (λ m j r h. omega arith) (get_or s at 0) _ (byte_stood s at i))
     (λ i. no_marker (suc left) s at l i)
 
@@ -178,14 +177,14 @@ module _ (s : List ℕ) (bs : Bytes s) (left : ℕ) (inner : ℕ → Due) (good 
   -- a value whose fields were read, or refused
   node_told : (look : ℕ → Fact) (at : ℕ) (x : Fields) → at ≤ length s → IsRead s at x → ToldFields left s at x
       → Told (RefusedValue (suc left) s at) (got_fields stop x λ r f q. seen (look q) (due r at (follow inner s f q)))
-  node_told look at (Got r f c) l g t =
+  node_told look at (Ok y) l g t =
       let i : Content = content g.what in
-      let fits : c.at + many (sort_of i) ≤ length s = rw (← next_needs i, ← g.follows) t in
-      rw (g.follows, follow_next inner s i c.at)
-      (told_map (part inner s (length s) (sort_of i) c.at)
-      (λ a p. onward g.here g.long λ r x f e d. Leads.inside g.grammar (rw (← e) (omega (arith, length-drop c.at s))) d)
-      (part_told (sort_of i) c.at (omega arith)))
-  node_told look at (Stop a p) l g t = t
+      let fits : y.2.at + many (sort_of i) ≤ length s = rw (← next_needs i, ← g.follows) t in
+      rw (g.follows, follow_next inner s i y.2.at)
+      (told_map (part inner s (length s) (sort_of i) y.2.at)
+      (λ a p. onward g.here g.long λ r x f e d. Leads.inside g.grammar (rw (← e) (omega (arith, length-drop y.2.at s))) d)
+      (part_told (sort_of i) y.2.at (omega arith)))
+  node_told look at (Err r) l g t = t
 
 -- a marker that is none of the three marks a value
 no_bar : (m : ℕ) → eqb m 4 ≡ false → eqb m 9 ≡ false → eqb m 14 ≡ false → Bars m → ⊥

@@ -1,5 +1,5 @@
 -- What the public write comes to: a refusal is 5 or 6, or for a size or the room.
-use Rattle.std.specs.Prelude.{◌+◌, ◌≤◌, ◌<◌, ◌≡◌, ◌↔◌, ◌⊎◌}
+use Rattle.std.specs.Prelude.{◌+◌, ◌≤◌, ◌<◌, ◌≡◌, ◌↔◌, ◌⊎◌, Some, None}
 use Rattle.wire.proofs.Kit.{ℕ, zero, suc, refl, sym, ap, ◌∙◌, inl, inr, List, arith, length, leb, leb-true, leb-false}
 use Rattle.wire.specs.Choice.{pick}
 use Rattle.wire.specs.Number.{Bytes}
@@ -7,10 +7,8 @@ use Rattle.wire.specs.Limit as limit
 use Rattle.wire.proofs.Laws.{pick_yes, picked}
 use Rattle.image.specs.declared.record.Layout.{Layout}
 use Rattle.image.specs.declared.record.Record.{Record}
-use Rattle.image.specs.declared.taking.Taken.{Taken}
-use Rattle.image.specs.declared.taking.Taken.TheVariants.{Found, Bad}
 use Rattle.image.specs.declared.writing.Row.{Row}
-use Rattle.image.specs.Taking.{record_at}
+use Rattle.image.specs.Taking.{record_at, Taken}
 use Rattle.image.specs.Out.{Out, end, stop, put, ◌>>=◌, row, row_bytes, named_of, bytes, ended, settled, sized, Written, written, unwritten}
 use Rattle.amf0.specs.declared.write.Rest.{Rest}
 use Rattle.amf0.specs.declared.write.Rest.TheVariants.{Nothing, Pairs, Dense, Values}
@@ -48,8 +46,8 @@ bind_refuses (stop a p) k h g = h
 bind_refuses (put b d) k h g = bind_refuses d k h g
 
 pub taken_refuses : (at : ℕ) (t : Taken) (k : Record → ℕ → Out) → ((r : Record) (q : ℕ) → Refuses (k r q)) → Refuses (taken at t k)
-taken_refuses at (Found r c) k g = g r c.at
-taken_refuses at Bad k g = six
+taken_refuses at (Some x) k g = g x.0 x.1.at
+taken_refuses at None k g = six
 
 pub asked_refuses : (image : List ℕ) (due at : ℕ) (k : Layout → ℕ → Out) → ((l : Layout) (q : ℕ) → Refuses (k l q)) → Refuses (asked image due at k)
 asked_refuses image due at k g = asked_both image due at (λ x y. Refuses x) k k six g

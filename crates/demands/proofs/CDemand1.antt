@@ -1,5 +1,5 @@
 -- Demand 1 of the functions that go out to C: each comes to what its call does, and so answers, leaves and changes what that does.
-use Rattle.std.specs.Prelude.{◌/◌, ◌≤◌, ◌≡◌, ◌≢◌, ◌∷◌}
+use Rattle.std.specs.Prelude.{◌/◌, ◌≤◌, ◌≡◌, ◌≢◌, ◌∷◌, Ok, Err}
 use Rattle.wire.proofs.Kit.{ℕ, refl, ◌∙◌, inl, inr, List, [], Bool, length, replicate, sym, ap}
 use Rattle.image.specs.declared.building.Laying.{Laying}
 use Rattle.image.specs.declared.reading.Reading.{Reading}
@@ -22,10 +22,9 @@ use Rattle.lso_theorems.proofs.Reasons as files_why
 use Rattle.lso_theorems.proofs.Theorems as files
 use Rattle.lso_theorems.proofs.WriteTheorems as files_write
 use Rattle.packet.specs.declared.entry.Cutting.{Cutting}
-use Rattle.packet.specs.declared.entry.Found.{Found}
 use Rattle.packet.specs.Reading as packet
 use Rattle.packet.specs.Writing as packet_write
-use Rattle.packet.specs.Entry.{cut_of, list_of, found_in, read_span, read_entry}
+use Rattle.packet.specs.Entry.{cut_of, list_of, found_in, read_span, read_entry, Found}
 use Rattle.packet_theorems.specs.Why as packet_why
 use Rattle.packet_theorems.specs.Unwritten as packet_unwritten
 use Rattle.packet_theorems.proofs.Reasons as packets_why
@@ -244,8 +243,8 @@ pub nth_zeros : (s : List ℕ) (k answer : ℕ) (numbers : List ℕ) → CPacket
 nth_zeros _ _ _ _ (CPacketNth.call κs a o) ne = o.ensures.1 ∙ go (found_in (cut_of a.0.now) a.1.0) (λ z. ne (o.ensures.0 ∙ z))
   where
     go : (f : Found) → found_answer f ≢ 0 → found_numbers f ≡ replicate 8 0
-    go (Found.Is e) n = absurd (n refl)
-    go (Found.Stop b p) n = refl
+    go (Ok e) n = absurd (n refl)
+    go (Err r) n = refl
 
 -- A refused `riddoskam_index` counts 0, and leaves an index of zeros.
 pub index_zeros : (i t index : List ℕ) (r : Indexing) (left : List ℕ) → CIndex i t index r left → r.answer ≢ 0

@@ -5,7 +5,6 @@ use Rattle.image.specs.declared.reading.Reading.{Reading}
 use Rattle.image.specs.declared.writing.Writing.{Writing}
 use Rattle.packet.specs.declared.head.Entry.{Entry}
 use Rattle.packet.specs.declared.entry.Cutting.{Cutting}
-use Rattle.packet.specs.declared.entry.Found.{Found}
 use Rattle.index.specs.declared.make.Indexing.{Indexing}
 use Rattle.wire.proofs.text as text
 use Rattle.amf0.proofs.read as value_read
@@ -18,6 +17,7 @@ use Rattle.packet.proofs.entry as entry
 use Rattle.packet.proofs.row as row
 use Rattle.index.proofs.make as make
 use Rattle.demands.proofs.Call.{Returned}
+use Rattle.packet.specs.Entry.{Found}
 
 -- ---- a text
 

@@ -3,10 +3,9 @@ use Rattle.std.specs.Prelude.{◌/◌, ◌≤◌, ◌≡◌, ◌≢◌, ◌↔�
 use Rattle.wire.proofs.Kit.{ℕ, refl, sym, ap, ◌∙◌, List, [], sub-zero, arith, length, replicate, take-append_seam, ltb}
 use Rattle.wire.specs.Number.{Bytes}
 use Rattle.wire.specs.Limit as limit
-use Rattle.wire.proofs.Laws.{picked}
+use Rattle.wire.proofs.Laws.{picked, same_answer, same_place}
 use Rattle.packet.specs.declared.head.Entry.{Entry}
 use Rattle.packet.specs.declared.entry.Cutting.{Cutting}
-use Rattle.packet.specs.declared.entry.Found.{Found}
 use Rattle.packet.specs.Entry.{Cut as PacketCut, found, stops, cut_of, found_in, no_entry, uncut, Listed, list_of, filled}
 use Rattle.packet.specs.Row.{numbers_of, row_of}
 use Rattle.packet_theorems.proofs.Theorems as packets
@@ -31,6 +30,8 @@ use Rattle.demands.specs.Forms.{Cutter, listed, OneOf, CutAnswers, CutJust, CutJ
 use Rattle.demands.proofs.Calls.{Nth, Cut, RowCut, MakeIndex}
 use Rattle.demands.proofs.Told.{nth_told, cut_told, row_told, index_told}
 use Rattle.demands.proofs.Tight as tight
+use Rattle.wire.specs.Answer.{denied}
+use Rattle.packet.specs.Entry.{Found}
 
 -- ---- the cut, into a list or a row
 
@@ -122,7 +123,7 @@ row_tight s row c left bs a = rw (row_told a).0 (tight.cut_tight s (length row /
 -- ---- the lookup by number
 
 -- A refusal of `nth` is 1, for an input over the limit, or 2, 3, 5, 7 or 8.
-pub nth_answers : (s : List ℕ) (k answer place : ℕ) → Nth s k (Found.Stop answer place) → NthAnswer s answer
+pub nth_answers : (s : List ℕ) (k answer place : ℕ) → Nth s k (denied answer place) → NthAnswer s answer
 nth_answers s k answer place a = packets.nth_answers s k answer place (sym (nth_told a))
 
 -- What `nth` finds, or why it finds nothing.
@@ -130,30 +131,30 @@ pub nth_reasons : (s : List ℕ) (k : ℕ) (f : Found) → Bytes s → Nth s k f
 nth_reasons s k f bs a = rw (nth_told a) (why.nth_reasons s k bs)
 
 -- But for 8, it is refused just where a field refuses the packet,
-pub nth_refused : (s : List ℕ) (k a p : ℕ) (f : Found) → Bytes s → a ≢ 8 → Nth s k f → f ≡ Found.Stop a p ↔ RefusedCut s a p
+pub nth_refused : (s : List ℕ) (k a p : ℕ) (f : Found) → Bytes s → a ≢ 8 → Nth s k f → f ≡ denied a p ↔ RefusedCut s a p
 nth_refused s k a p f bs ne b = rw (nth_told b) (go (cut_of s) refl)
   where
-    go : (x : PacketCut) → cut_of s ≡ x → found_in x k ≡ Found.Stop a p ↔ RefusedCut s a p
+    go : (x : PacketCut) → cut_of s ≡ x → found_in x k ≡ denied a p ↔ RefusedCut s a p
     go (stops b q) e = (
-      λ z. let f : stops b q ≡ stops a p = cc in (cut_refused_exactly s a p bs).0 (e ∙ f),
+      λ z. let f : stops b q ≡ stops a p = rw (same_answer z, same_place z) refl in (cut_refused_exactly s a p bs).0 (e ∙ f),
       λ t. let f = (cut_refused_exactly s a p bs).1 t in cc,
     )
     go (found es n) e = (
-      picked (λ g. g ≡ Found.Stop a p → RefusedCut s a p) (ltb k (length es)) _ _ (λ h z. let o : ◌≡◌ {A = ℕ} 0 1 = cc in absurd (omega arith))
-          (λ h z. let o : a ≡ 8 = cc in absurd (ne o)),
+      picked (λ g. g ≡ denied a p → RefusedCut s a p) (ltb k (length es)) _ _ (λ h z. let o : ◌≡◌ {A = ℕ} 0 1 = cc in absurd (omega arith))
+          (λ h z. absurd (ne (sym (same_answer z)))),
       λ t. let f = (cut_refused_exactly s a p bs).1 t in let z : ◌≡◌ {A = ℕ} 0 1 = cc in absurd (omega arith),
     )
 
 -- with 7 just for version 3,
-pub nth_seven : (s : List ℕ) (k : ℕ) (f : Found) → Bytes s → Nth s k f → ((p : ℕ) × (f ≡ Found.Stop 7 p)) ↔ (length s ≤ limit.bytes) × Seven s
+pub nth_seven : (s : List ℕ) (k : ℕ) (f : Found) → Bytes s → Nth s k f → ((p : ℕ) × (f ≡ denied 7 p)) ↔ (length s ≤ limit.bytes) × Seven s
 nth_seven s k f bs a = rw (nth_told a) (why.nth_seven s k bs)
 
 -- at a place inside the packet,
-pub nth_inside : (s : List ℕ) (k a p : ℕ) → Bytes s → Nth s k (Found.Stop a p) → p ≤ length s
+pub nth_inside : (s : List ℕ) (k a p : ℕ) → Bytes s → Nth s k (denied a p) → p ≤ length s
 nth_inside s k a p bs c = why.nth_inside s k a p bs (sym (nth_told c))
 
 -- and with 2 for a proper beginning.
-pub nth_short : (s q : List ℕ) (k : ℕ) (f : Found) → Cuttable (s ++ q) → 1 ≤ length q → length s ≤ limit.bytes → Nth s k f → (p : ℕ) × (f ≡ Found.Stop 2 p)
+pub nth_short : (s q : List ℕ) (k : ℕ) (f : Found) → Cuttable (s ++ q) → 1 ≤ length q → length s ≤ limit.bytes → Nth s k f → (p : ℕ) × (f ≡ denied 2 p)
 nth_short s q k f i l h a = rw (nth_told a) (beginnings.nth_beginning s q i.0 i.3 l h k)
 
 -- ---- what the list has

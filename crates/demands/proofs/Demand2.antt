@@ -1,5 +1,5 @@
 -- Demand 2 of the calls, what each format says in its own way: what is accepted, and what is put out.
-use Rattle.std.specs.Prelude.{◌*◌, ◌≤◌, ◌≡◌, ◌++◌}
+use Rattle.std.specs.Prelude.{◌*◌, ◌≤◌, ◌≡◌, ◌++◌, Ok}
 use Rattle.wire.proofs.Kit.{ℕ, refl, sym, ap, ◌∙◌, List, arith, Bool, length}
 use Rattle.wire.specs.Number.{Bytes}
 use Rattle.wire.specs.Limit as limit
@@ -23,7 +23,6 @@ use Rattle.lso_theorems.proofs.Stopping.{Accepts}
 use Rattle.lso_theorems.proofs.Theorems as files
 use Rattle.lso_theorems.proofs.WriteTheorems as files_write
 use Rattle.packet.specs.declared.head.Entry.{Entry}
-use Rattle.packet.specs.declared.entry.Found.TheVariants as Found
 use Rattle.packet.specs.Packet.{Packet, Encoded}
 use Rattle.packet.specs.Shown.{Within}
 use Rattle.packet.specs.Reading as packet
@@ -82,7 +81,7 @@ pub record Means (s : List ℕ) (e : Entry) (v : Whole) : Type 0 where
   pub gives : packets.Gives s tree e.length v
 
 -- What `parse_entry` accepts is a value, and the image tells its tree.
-pub entry_sound : (s : List ℕ) (k : ℕ) (e : Entry) (i : List ℕ) (r : Reading) (left : List ℕ) → Bytes s → Nth s k (Found.Is e) → ParseEntry s k i r left
+pub entry_sound : (s : List ℕ) (k : ℕ) (e : Entry) (i : List ℕ) (r : Reading) (left : List ℕ) → Bytes s → Nth s k (Ok e) → ParseEntry s k i r left
     → r.answer ≡ 0 → Means s e (made r left)
 entry_sound s k e i r left bs f a z =
     let g = found_in_lem f in
@@ -96,7 +95,7 @@ entry_sound s k e i r left bs f a z =
     means v (t, x, d, g) = record { tree = t; encodes = x; deep = d; gives = g }
 
 -- An entry whose bytes encode a tree within the limit is accepted in a room of three times those bytes.
-pub entry_complete : (s : List ℕ) (k : ℕ) (e : Entry) (t : Tree Sort.value) (i : List ℕ) (r : Reading) (left : List ℕ) → Bytes s → Nth s k (Found.Is e)
+pub entry_complete : (s : List ℕ) (k : ℕ) (e : Entry) (t : Tree Sort.value) (i : List ℕ) (r : Reading) (left : List ℕ) → Bytes s → Nth s k (Ok e)
     → Encodes Sort.value t (span_of s e) → depth t ≤ limit.levels → 3 * length (span_of s e) ≤ length i → ParseEntry s k i r left
     → packets.Gives s t e.length (made r left)
 entry_complete s k e t i r left bs f x d l a =

@@ -1,5 +1,5 @@
 -- Demand 3 of the calls: two packets, and what the calls give for the one and for the other.
-use Rattle.std.specs.Prelude.{◌+◌, ◌/◌, ◌≤◌, ◌<◌, ◌≡◌, ◌≢◌, ◌⊎◌, ◌∷◌, ◌++◌}
+use Rattle.std.specs.Prelude.{◌+◌, ◌/◌, ◌≤◌, ◌<◌, ◌≡◌, ◌≢◌, ◌⊎◌, ◌∷◌, ◌++◌, Ok}
 use Rattle.wire.proofs.Kit.{ℕ, suc, refl, sym, ap, ◌∙◌, inl, inr, ⊎_elim, List, [], true, false, sub-zero, arith, length, get_or, take, replicate}
 use Rattle.wire.proofs.Kit.{length-take, ltb, le-ltb, ltb-true}
 use Rattle.wire.proofs.Laws.{picked}
@@ -13,7 +13,6 @@ use Rattle.image.specs.Whole.{Whole, refused}
 use Rattle.amf0.specs.Span.{Changed}
 use Rattle.packet.specs.declared.head.Entry.{Entry}
 use Rattle.packet.specs.declared.entry.Cutting.{Cutting}
-use Rattle.packet.specs.declared.entry.Found.{Found}
 use Rattle.packet.specs.Reading.{whole_of}
 use Rattle.packet.specs.Entry.{Cut as PacketCut, found, stops, cut_of, no_entry, Listed, list_of, found_in, span, span_of, read_span, read_entry}
 use Rattle.packet.specs.Change as change
@@ -33,6 +32,8 @@ use Rattle.demands.proofs.Calls.{Part, PacketParse, ParseEntry, ParseSpan, Nth, 
 use Rattle.demands.proofs.Told.{part_told, value_reads, packet_reads, entry_reads, span_reads, nth_told, cut_told, row_told}
 use Rattle.demands.proofs.Laws.{made_is, same_read}
 use Rattle.demands.proofs.Demand1.{listed_is}
+use Rattle.wire.specs.Answer.{denied}
+use Rattle.packet.specs.Entry.{Found}
 
 -- the parts of two rows, as long as each other, that are the same bytes
 same_part : (s t : List ℕ) (p n : ℕ) → length t ≡ length s → bytes_at n t p ≡ bytes_at n s p → part_of t p n ≡ part_of s p n
@@ -64,13 +65,13 @@ pub record Found-in (s : List ℕ) (k : ℕ) (e : Entry) : Type 0 where
   pub same : e ≡ get_or entries k no_entry
 
 -- what `nth` finds is one
-pub found_in_lem : {s : List ℕ} {k : ℕ} {e : Entry} → Nth s k (Found.Is e) → Found-in s k e
+pub found_in_lem : {s : List ℕ} {k : ℕ} {e : Entry} → Nth s k (Ok e) → Found-in s k e
 found_in_lem {s} {k} {e} a = go (cut_of s) refl (nth_told a)
   where
-    go : (x : PacketCut) → cut_of s ≡ x → Found.Is e ≡ found_in x k → Found-in s k e
+    go : (x : PacketCut) → cut_of s ≡ x → Ok e ≡ found_in x k → Found-in s k e
     go (stops b p) c = λ f. let z : ◌≡◌ {A = ℕ} 0 1 = cc in absurd (omega arith)
     go (found es n) c =
-        picked (λ (f : Found). Found.Is e ≡ f → Found-in s k e) (ltb k (length es)) _ _
+        picked (λ (f : Found). Ok e ≡ f → Found-in s k e) (ltb k (length es)) _ _
         (λ h f. record { entries = es; ends = n; cut = c; below = ltb-true _ _ h; same = cc })
         (λ h f. let z : ◌≡◌ {A = ℕ} 0 1 = cc in absurd (omega arith))
 
@@ -108,7 +109,7 @@ module _ (s t : List ℕ) (list left : List Entry) (c : Cutting) (bs : Bytes s) 
       (rw (l, e) at (row_told b).0 ∙ sym (row_told a).0, rw (l, e) at (row_told b).1 ∙ sym (row_told a).1)
 
   -- an entry that `nth` finds is one of the cut
-  found_at : {k : ℕ} {e : Entry} → Nth s k (Found.Is e) → (k < length es) × (e ≡ get_or es k no_entry)
+  found_at : {k : ℕ} {e : Entry} → Nth s k (Ok e) → (k < length es) × (e ≡ get_or es k no_entry)
   found_at {k} {e} a =
       let f = found_in_lem a in
       let g : found es n ≡ found f.entries f.ends = sym cut ∙ f.cut in
@@ -116,14 +117,14 @@ module _ (s t : List ℕ) (list left : List Entry) (c : Cutting) (bs : Bytes s) 
       (rw same at f.below, rw same at f.same)
 
   -- The texts of an entry, a header's name or a message's target and response, are the same.
-  pub same_first : (k : ℕ) (e : Entry) (x y : List ℕ) → Nth s k (Found.Is e) → Part s e.place1 e.length1 x → Part t e.place1 e.length1 y → y ≡ x
+  pub same_first : (k : ℕ) (e : Entry) (x y : List ℕ) → Nth s k (Ok e) → Part s e.place1 e.length1 x → Part t e.place1 e.length1 y → y ≡ x
   same_first k e x y a p q =
       let (h, f) = found_at a in
       let b : bytes_at e.length1 t e.place1 ≡ bytes_at e.length1 s e.place1 = rw f (packets.same_first s t es n bs cut change k h) in
       part_told q ∙ (same_part s t e.place1 e.length1 change.long b ∙ sym (part_told p))
 
   -- The second text is a message's response; a header has an empty one.
-  pub same_second : (k : ℕ) (e : Entry) (x y : List ℕ) → Nth s k (Found.Is e) → Part s e.place2 e.length2 x → Part t e.place2 e.length2 y → y ≡ x
+  pub same_second : (k : ℕ) (e : Entry) (x y : List ℕ) → Nth s k (Ok e) → Part s e.place2 e.length2 x → Part t e.place2 e.length2 y → y ≡ x
   same_second k e x y a p q =
       let (h, f) = found_at a in
       let b : bytes_at e.length2 t e.place2 ≡ bytes_at e.length2 s e.place2 = rw f (packets.same_second s t es n bs cut change k h) in
@@ -132,13 +133,13 @@ module _ (s t : List ℕ) (list left : List Entry) (c : Cutting) (bs : Bytes s) 
   -- ---- "every untouched value answers as before", in the same room
 
   -- By its number: `parse_entry` returns and leaves the same.
-  pub untouched : (k : ℕ) (e : Entry) → Nth s k (Found.Is e) → span_of t e ≡ span_of s e → Same (ParseEntry s k) (ParseEntry t k)
+  pub untouched : (k : ℕ) (e : Entry) → Nth s k (Ok e) → span_of t e ≡ span_of s e → Same (ParseEntry s k) (ParseEntry t k)
   untouched k e f u i j x y r q a b =
       same_read (λ room. packets.untouched s t es n bs cut change k room (rw (found_at f).1 at u)) i j x y r q
       ((entry_reads k).told s i r x a) ((entry_reads k).told t j q y b)
 
   -- A value whose length is not known is untouched.
-  pub unknown_same : (k : ℕ) (e : Entry) → Nth s k (Found.Is e) → known s e ≡ false → Same (ParseEntry s k) (ParseEntry t k)
+  pub unknown_same : (k : ℕ) (e : Entry) → Nth s k (Ok e) → known s e ≡ false → Same (ParseEntry s k) (ParseEntry t k)
   unknown_same k e f u i j x y r q a b =
       let (h, g) = found_at f in
       same_read (λ room. packets.unknown_same s t es n bs cut change k room h (rw g at u)) i j x y r q ((entry_reads k).told s i r x a)
@@ -152,13 +153,13 @@ module _ (s t : List ℕ) (list left : List Entry) (c : Cutting) (bs : Bytes s) 
   -- ---- "a changed value answers as the value reader does on those bytes alone, places shifted", in the same room
 
   -- By its number.
-  pub changed : (k : ℕ) (e : Entry) → Nth s k (Found.Is e) → Alone e.place (span_of t e) (ParseEntry t k)
+  pub changed : (k : ℕ) (e : Entry) → Nth s k (Ok e) → Alone e.place (span_of t e) (ParseEntry t k)
   changed k e f i j x y r q a b l =
       let (h, g) = found_at f in
       rw (made_is value_reads (span_of t e) i r x a, made_is (entry_reads k) t j q y b, l, g) (packets.changed s t es n bs cut change k (length i) h)
 
   -- By its place and length.
-  pub changed_span : (k : ℕ) (e : Entry) → Nth s k (Found.Is e) → Alone e.place (span_of t e) (ParseSpan t e.place e.length)
+  pub changed_span : (k : ℕ) (e : Entry) → Nth s k (Ok e) → Alone e.place (span_of t e) (ParseSpan t e.place e.length)
   changed_span k e f i j x y r q a b l =
       let h = entry_chosen s k 0 (cut_of s) {e = e} (cut_splits s) (nth_told f) in
       rw (made_is value_reads (span_of t e) i r x a, made_is (span_reads e.place e.length) t j q y b, l)
@@ -167,7 +168,7 @@ module _ (s t : List ℕ) (list left : List Entry) (c : Cutting) (bs : Bytes s) 
   -- ---- and there are no more entries
 
   -- By number, 8 is the answer,
-  pub past_nth : (k : ℕ) (g : Found) → c.count ≤ k → Nth t k g → g ≡ Found.Stop 8 0
+  pub past_nth : (k : ℕ) (g : Found) → c.count ≤ k → Nth t k g → g ≡ denied 8 0
   past_nth k g h a =
       let l : length es ≤ k = omega (arith, length-take c.count left) in
       nth_told a ∙ rw (packets.same_cut s t es n bs cut change, cut, le-ltb k (length es) l) refl
@@ -186,7 +187,7 @@ cut_into s list c left bs a z = cut_sound s (take c.count left) c.used bs (cut_e
 
 -- What an accepted `cut` leaves at a number below its count is what `nth` finds by that number,
 pub cut_nth : (s : List ℕ) (list : List Entry) (c : Cutting) (left : List Entry) (k : ℕ) (f : Found) → Cut s list c left → k < c.count → Nth s k f
-    → f ≡ Found.Is (get_or left k no_entry)
+    → f ≡ Ok (get_or left k no_entry)
 cut_nth s list c left k f a h b = nth_told b ∙ rw (cut_told a).1 (cuts.cut_nth s (length list) k (rw (cut_told a).0 at h))
 
 -- and read by its place and length it answers as it does by its number.
@@ -198,8 +199,8 @@ cut_span s list c left k a h i j x y r q b d =
     ((span_reads e.place e.length).told s j q y d)
 
 -- Where bytes inside one value with a known length alone are changed, one marker or all of it, every other entry answers as before.
-pub neighbours : (s t : List ℕ) (m k : ℕ) (d e : Entry) → Bytes s → Nth s m (Found.Is d) → known s d ≡ true → Changed (span d ∷ []) s t
-    → Nth s k (Found.Is e) → k ≢ m → Same (ParseEntry s k) (ParseEntry t k)
+pub neighbours : (s t : List ℕ) (m k : ℕ) (d e : Entry) → Bytes s → Nth s m (Ok d) → known s d ≡ true → Changed (span d ∷ []) s t
+    → Nth s k (Ok e) → k ≢ m → Same (ParseEntry s k) (ParseEntry t k)
 neighbours s t m k d e bs a told change b other i j x y r q u v =
     let f = found_in_lem a in
     let g = found_in_lem b in
@@ -211,7 +212,7 @@ neighbours s t m k d e bs a told change b other i j x y r q u v =
     ((entry_reads k).told s i r x u) ((entry_reads k).told t j q y v)
 
 -- An entry whose length is not known was measured: it is accepted, and uses the length that it was measured to have, or it is refused with 4.
-pub measured : (s : List ℕ) (k : ℕ) (e : Entry) (i : List ℕ) (r : Reading) (x : List ℕ) → Bytes s → Nth s k (Found.Is e) → known s e ≡ false
+pub measured : (s : List ℕ) (k : ℕ) (e : Entry) (i : List ℕ) (r : Reading) (x : List ℕ) → Bytes s → Nth s k (Ok e) → known s e ≡ false
     → ParseEntry s k i r x → ((r.answer ≡ 0) × (r.used ≡ e.length)) ⊎ (r.answer ≡ 4)
 measured s k e i r x bs a u b =
     let f = found_in_lem a in

@@ -2,7 +2,7 @@
 -- its arguments, its result and what it left: `ParseSingleElement s i r x` is a call of `parse_single_element` on the input s and the image i, which returned r
 -- and left x in the image (`Calls.antt`). What is said of every reader, or of every writer, has a form with a name (`specs/Forms.antt`). `Bytes s`
 -- says that s is a row of bytes, as what stands in a slice of bytes is.
-use Rattle.std.specs.Prelude.{◌*◌, ◌/◌, ◌≤◌, ◌<◌, ◌≡◌, ◌≢◌, ◌↔◌, ◌⊎◌, ◌∷◌, ◌++◌}
+use Rattle.std.specs.Prelude.{◌*◌, ◌/◌, ◌≤◌, ◌<◌, ◌≡◌, ◌≢◌, ◌↔◌, ◌⊎◌, ◌∷◌, ◌++◌, Ok}
 use Rattle.wire.proofs.Kit.{ℕ, ap, ◌∙◌, inl, List, [], Bool, true, false, arith, length, get_or, take, replicate}
 use Rattle.wire.specs.Number.{Bytes}
 use Rattle.wire.specs.Field.{bytes_at}
@@ -33,11 +33,10 @@ use Rattle.lso_theorems.proofs.Room as files_room
 use Rattle.amf0.specs.Span.{Changed}
 use Rattle.packet.specs.declared.head.Entry.{Entry}
 use Rattle.packet.specs.declared.entry.Cutting.{Cutting}
-use Rattle.packet.specs.declared.entry.Found.{Found}
 use Rattle.packet.specs.Packet.{Packet, Encoded}
 use Rattle.packet.specs.Shown.{Within}
 use Rattle.packet.specs.Reading.{packet_at}
-use Rattle.packet.specs.Entry.{no_entry, span, span_of}
+use Rattle.packet.specs.Entry.{no_entry, span, span_of, Found}
 use Rattle.packet.specs.Change.{known}
 use Rattle.packet_theorems.specs.Cuts.{CutInto, Exact}
 use Rattle.packet_theorems.specs.Refusal.{Seven, RefusedCut}
@@ -81,6 +80,7 @@ use Rattle.demands.proofs.Demand2 as two
 use Rattle.demands.proofs.Demand2.{Means}
 use Rattle.demands.proofs.Demand3 as three
 use Rattle.amf0_theorems.proofs.SpanTrip as span_trips
+use Rattle.wire.specs.Answer.{denied}
 
 -- ---- 1. "Every public call ends on every input; readers and writers answer from [the table of answers]. None relies on a check made by the caller. A refused
 -- read leaves the tree buffer all zeros; a refused write leaves the output as it was found." The table is the rule "Answers" (docs/DEMANDS.md).
@@ -100,7 +100,7 @@ pub record Demand1 : Type 0 where
   -- of a cut 0 to 5 or 7, of a lookup that finds nothing 1, 2, 3, 5, 7 or 8,
   pub cut_answers : CutAnswers CutAnswer Cut
   pub row_answers : CutAnswers CutAnswer RowCut
-  pub nth_answers : (s : List ℕ) (k answer place : ℕ) → Nth s k (Found.Stop answer place) → calls.NthAnswer s answer
+  pub nth_answers : (s : List ℕ) (k answer place : ℕ) → Nth s k (denied answer place) → calls.NthAnswer s answer
   -- of the writers, and of the making of an index.
   pub value_write_answers : WriteAnswers (OneOf 0 (1 ∷ 4 ∷ 5 ∷ 6 ∷ [])) WriteValue
   pub file_write_answers : WriteAnswers (OneOf 0 (1 ∷ 4 ∷ 5 ∷ 6 ∷ [])) LsoWrite
@@ -152,7 +152,7 @@ pub record Demand1 : Type 0 where
   pub packet_roomy : Roomy PacketParse
   pub packet_incomplete_roomy : Roomy PacketParseIncomplete
   pub span_roomy : (p n : ℕ) (s i : List ℕ) (r : Reading) (x : List ℕ) → ParseSpan s p n i r x → 3 * n ≤ length i → r.answer ≢ 4
-  pub entry_roomy : (k : ℕ) (e : Entry) (s i : List ℕ) (r : Reading) (x : List ℕ) → Nth s k (Found.Is e) → ParseEntry s k i r x → 3 * e.length ≤ length i
+  pub entry_roomy : (k : ℕ) (e : Entry) (s i : List ℕ) (r : Reading) (x : List ℕ) → Nth s k (Ok e) → ParseEntry s k i r x → 3 * e.length ≤ length i
       → r.answer ≢ 4
   -- A value that is not refused for room is refused with an answer at a place just where a field there refuses it so, and with 5 just where the marker of a value
   -- stands there and no level is left. A proper beginning of a value is 2, and a value deeper than the limit is 5.
@@ -188,13 +188,13 @@ pub record Demand1 : Type 0 where
   pub row_refused : (a : ℕ) → a ≢ 0 → a ≢ 4 → CutJustAt a (λ s. RefusedCut s a) RowCut
   pub entry_refused : (k a : ℕ) → (AfterCut a → ⊥) → JustAt a (λ s room. RefusedCut s a) λ s. ParseEntry s k
   pub entry_not_cut : (s i : List ℕ) (k a p : ℕ) (r : Reading) (x : List ℕ) → Bytes s → RefusedCut s a p → ParseEntry s k i r x → (r.answer ≡ a) × (r.used ≡ p)
-  pub nth_refused : (s : List ℕ) (k a p : ℕ) (f : Found) → Bytes s → a ≢ 8 → Nth s k f → f ≡ Found.Stop a p ↔ RefusedCut s a p
+  pub nth_refused : (s : List ℕ) (k a p : ℕ) (f : Found) → Bytes s → a ≢ 8 → Nth s k f → f ≡ denied a p ↔ RefusedCut s a p
   pub cut_seven : CutJust 7 (λ s. (length s ≤ limit.bytes) × Seven s) Cut
   pub row_seven : CutJust 7 (λ s. (length s ≤ limit.bytes) × Seven s) RowCut
-  pub nth_seven : (s : List ℕ) (k : ℕ) (f : Found) → Bytes s → Nth s k f → ((p : ℕ) × (f ≡ Found.Stop 7 p)) ↔ (length s ≤ limit.bytes) × Seven s
+  pub nth_seven : (s : List ℕ) (k : ℕ) (f : Found) → Bytes s → Nth s k f → ((p : ℕ) × (f ≡ denied 7 p)) ↔ (length s ≤ limit.bytes) × Seven s
   pub cut_short : CutShort Cuttable Cut
   pub row_short : CutShort Cuttable RowCut
-  pub nth_short : (s q : List ℕ) (k : ℕ) (f : Found) → Cuttable (s ++ q) → 1 ≤ length q → length s ≤ limit.bytes → Nth s k f → (p : ℕ) × (f ≡ Found.Stop 2 p)
+  pub nth_short : (s q : List ℕ) (k : ℕ) (f : Found) → Cuttable (s ++ q) → 1 ≤ length q → length s ≤ limit.bytes → Nth s k f → (p : ℕ) × (f ≡ denied 2 p)
   -- A write within the limits is 5 or 6 just where a record of the image is refused so, which tells the two apart.
   pub value_write_refused : WriteJust value_unwritten.Refused WriteValue
   pub file_write_refused : WriteJust file_unwritten.Refused LsoWrite
@@ -209,7 +209,7 @@ pub record Demand1 : Type 0 where
   pub span_inside : (p n : ℕ) → Inside λ s. ParseSpan s p n
   pub cut_inside : CutInside Cut
   pub row_inside : CutInside RowCut
-  pub nth_inside : (s : List ℕ) (k a p : ℕ) → Bytes s → Nth s k (Found.Stop a p) → p ≤ length s
+  pub nth_inside : (s : List ℕ) (k a p : ℕ) → Bytes s → Nth s k (denied a p) → p ≤ length s
   -- A refused read leaves the tree buffer all zeros, and makes no image bytes; so does a refused cut with the list or the row of numbers, and the index.
   pub value_zeros : Zeros ParseSingleElement
   pub file_zeros : Zeros LsoParse
@@ -457,9 +457,9 @@ pub record Demand2 : Type 0 where
   pub packet_exactly : Exactly IsPacket PacketParse
   pub packet_unique : (p q : Packet) (x y r t : List ℕ) → Encoded p x → Encoded q y → x ++ r ≡ y ++ t → (p ≡ q) × (x ≡ y)
   -- and with the value of an entry.
-  pub entry_sound : (s : List ℕ) (k : ℕ) (e : Entry) (i : List ℕ) (r : Reading) (left : List ℕ) → Bytes s → Nth s k (Found.Is e) → ParseEntry s k i r left
+  pub entry_sound : (s : List ℕ) (k : ℕ) (e : Entry) (i : List ℕ) (r : Reading) (left : List ℕ) → Bytes s → Nth s k (Ok e) → ParseEntry s k i r left
       → r.answer ≡ 0 → Means s e (made r left)
-  pub entry_complete : (s : List ℕ) (k : ℕ) (e : Entry) (t : Tree Sort.value) (i : List ℕ) (r : Reading) (left : List ℕ) → Bytes s → Nth s k (Found.Is e)
+  pub entry_complete : (s : List ℕ) (k : ℕ) (e : Entry) (t : Tree Sort.value) (i : List ℕ) (r : Reading) (left : List ℕ) → Bytes s → Nth s k (Ok e)
       → Encodes Sort.value t (span_of s e) → depth t ≤ limit.levels → 3 * length (span_of s e) ≤ length i → ParseEntry s k i r left
       → packets.Gives s t e.length (made r left)
   -- The writers put out just what an image holds: a tree in its shortest form, a file with its length, a packet with its lengths as asked for; and in either
@@ -607,11 +607,11 @@ pub record Demand3 : Type 0 where
       → CutInto s (take c.count left)
   -- They are the entries that are found by number; and read by its place and length, an entry answers as it does by its number.
   pub cut_nth : (s : List ℕ) (list : List Entry) (c : Cutting) (left : List Entry) (k : ℕ) (f : Found) → Cut s list c left → k < c.count → Nth s k f
-      → f ≡ Found.Is (get_or left k no_entry)
+      → f ≡ Ok (get_or left k no_entry)
   pub cut_span : (s : List ℕ) (list : List Entry) (c : Cutting) (left : List Entry) (k : ℕ) → Cut s list c left → k < c.count
       → let e = get_or left k no_entry in Same (ParseEntry s k) (ParseSpan s e.place e.length)
   -- An entry whose length is not known was measured: it is accepted, and uses the length that it was measured to have, or it is refused with 4.
-  pub measured : (s : List ℕ) (k : ℕ) (e : Entry) (i : List ℕ) (r : Reading) (x : List ℕ) → Bytes s → Nth s k (Found.Is e) → known s e ≡ false
+  pub measured : (s : List ℕ) (k : ℕ) (e : Entry) (i : List ℕ) (r : Reading) (x : List ℕ) → Bytes s → Nth s k (Ok e) → known s e ≡ false
       → ParseEntry s k i r x → ((r.answer ≡ 0) × (r.used ≡ e.length)) ⊎ (r.answer ≡ 4)
   -- Change bytes inside any of its values with a known length and nothing else: `Changes` takes such an s, and a t with other bytes inside those of the values
   -- that `cut` lists. Every flag, and every place and length, answers as before, by number, in a list and in a row;
@@ -619,22 +619,22 @@ pub record Demand3 : Type 0 where
   pub same_cut : Changes λ s t n. (a b x y : List Entry) (d f : Cutting) → Cut s a d x → Cut t b f y → length b ≡ length a → (f ≡ d) × (y ≡ x)
   pub same_row : Changes λ s t n. (a b x y : List ℕ) (d f : Cutting) → RowCut s a d x → RowCut t b f y → length b ≡ length a → (f ≡ d) × (y ≡ x)
   -- and every name and address: the text that `part` returns for it.
-  pub same_first : Changes λ s t n. (k : ℕ) (e : Entry) (x y : List ℕ) → Nth s k (Found.Is e) → Part s e.place1 e.length1 x
+  pub same_first : Changes λ s t n. (k : ℕ) (e : Entry) (x y : List ℕ) → Nth s k (Ok e) → Part s e.place1 e.length1 x
       → Part t e.place1 e.length1 y → y ≡ x
-  pub same_second : Changes λ s t n. (k : ℕ) (e : Entry) (x y : List ℕ) → Nth s k (Found.Is e) → Part s e.place2 e.length2 x
+  pub same_second : Changes λ s t n. (k : ℕ) (e : Entry) (x y : List ℕ) → Nth s k (Ok e) → Part s e.place2 e.length2 x
       → Part t e.place2 e.length2 y → y ≡ x
   -- Every untouched value answers as before, by number and by its place and length, and those whose length is not known are untouched; and so does every other
   -- entry where one alone is changed.
-  pub untouched : Changes λ s t n. (k : ℕ) (e : Entry) → Nth s k (Found.Is e) → span_of t e ≡ span_of s e → Same (ParseEntry s k) (ParseEntry t k)
+  pub untouched : Changes λ s t n. (k : ℕ) (e : Entry) → Nth s k (Ok e) → span_of t e ≡ span_of s e → Same (ParseEntry s k) (ParseEntry t k)
   pub untouched_span : Changes λ s t n. (p m : ℕ) → bytes_at m t p ≡ bytes_at m s p → Same (ParseSpan s p m) (ParseSpan t p m)
-  pub unknown_same : Changes λ s t n. (k : ℕ) (e : Entry) → Nth s k (Found.Is e) → known s e ≡ false → Same (ParseEntry s k) (ParseEntry t k)
-  pub neighbours : (s t : List ℕ) (m k : ℕ) (d e : Entry) → Bytes s → Nth s m (Found.Is d) → known s d ≡ true → Changed (span d ∷ []) s t
-      → Nth s k (Found.Is e) → k ≢ m → Same (ParseEntry s k) (ParseEntry t k)
+  pub unknown_same : Changes λ s t n. (k : ℕ) (e : Entry) → Nth s k (Ok e) → known s e ≡ false → Same (ParseEntry s k) (ParseEntry t k)
+  pub neighbours : (s t : List ℕ) (m k : ℕ) (d e : Entry) → Bytes s → Nth s m (Ok d) → known s d ≡ true → Changed (span d ∷ []) s t
+      → Nth s k (Ok e) → k ≢ m → Same (ParseEntry s k) (ParseEntry t k)
   -- A changed value answers as the value reader does on those bytes alone, places shifted, by number and by its place and length.
-  pub changed : Changes λ s t n. (k : ℕ) (e : Entry) → Nth s k (Found.Is e) → Alone e.place (span_of t e) (ParseEntry t k)
-  pub changed_span : Changes λ s t n. (k : ℕ) (e : Entry) → Nth s k (Found.Is e) → Alone e.place (span_of t e) (ParseSpan t e.place e.length)
+  pub changed : Changes λ s t n. (k : ℕ) (e : Entry) → Nth s k (Ok e) → Alone e.place (span_of t e) (ParseEntry t k)
+  pub changed_span : Changes λ s t n. (k : ℕ) (e : Entry) → Nth s k (Ok e) → Alone e.place (span_of t e) (ParseSpan t e.place e.length)
   -- And there are no more entries.
-  pub past_nth : Changes λ s t n. (k : ℕ) (g : Found) → n ≤ k → Nth t k g → g ≡ Found.Stop 8 0
+  pub past_nth : Changes λ s t n. (k : ℕ) (g : Found) → n ≤ k → Nth t k g → g ≡ denied 8 0
   pub past : Changes λ s t n. (k : ℕ) (j : List ℕ) (q : Reading) (y : List ℕ) → n ≤ k → ParseEntry t k j q y
       → (q ≡ (refused 8 0).reading) × (y ≡ replicate (length j) 0)
   -- Where the whole-packet reader accepts a packet whose lengths are exact or not known, entry reading in that room gives the same values: their images stand in

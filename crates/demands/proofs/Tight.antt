@@ -1,5 +1,5 @@
 -- Demand 1: when a room is too small.
-use Rattle.std.specs.Prelude.{◌*◌, ◌≤◌, ◌≡◌, ◌≢◌, ◌↔◌, ◌∷◌, ◌++◌}
+use Rattle.std.specs.Prelude.{◌*◌, ◌≤◌, ◌≡◌, ◌≢◌, ◌↔◌, ◌∷◌, ◌++◌, Ok}
 use Rattle.wire.proofs.Kit.{ℕ, refl, sym, ap, ◌∙◌, ⊎_elim, List, [], arith, length}
 use Rattle.wire.specs.Number.{Bytes}
 use Rattle.wire.specs.Limit as limit
@@ -12,7 +12,6 @@ use Rattle.lso_theorems.proofs.Refusals.{header_either}
 use Rattle.lso_theorems.proofs.Theorems as files
 use Rattle.lso_theorems.proofs.Reasons as files_why
 use Rattle.packet.specs.declared.head.Entry.{Entry}
-use Rattle.packet.specs.declared.entry.Found.TheVariants as Found
 use Rattle.packet.specs.Entry.{list_of}
 use Rattle.packet_theorems.specs.Cuts.{Slice, entries_of, Each}
 use Rattle.packet_theorems.proofs.Theorems as calls
@@ -97,7 +96,7 @@ span_roomy p n s i r x a l z =
     calls.span_room s p n (length i) l (sym (ap (λ (q : Reading). q.answer) ((span_reads p n).told s i r x a).returns) ∙ z)
 
 -- and three times those of its value for an entry.
-pub entry_roomy : (k : ℕ) (e : Entry) (s i : List ℕ) (r : Reading) (x : List ℕ) → Nth s k (Found.Is e) → ParseEntry s k i r x → 3 * e.length ≤ length i
+pub entry_roomy : (k : ℕ) (e : Entry) (s i : List ℕ) (r : Reading) (x : List ℕ) → Nth s k (Ok e) → ParseEntry s k i r x → 3 * e.length ≤ length i
     → r.answer ≢ 4
 entry_roomy k e s i r x f a l z =
     calls.entry_room s k (length i) e (sym (nth_told f)) l (sym (ap (λ (q : Reading). q.answer) ((entry_reads k).told s i r x a).returns) ∙ z)

@@ -12,10 +12,9 @@ use Rattle.lso.specs.Reading as lso
 use Rattle.lso.specs.Writing as lso_write
 use Rattle.packet.specs.declared.head.Entry.{Entry}
 use Rattle.packet.specs.declared.entry.Cutting.{Cutting}
-use Rattle.packet.specs.declared.entry.Found.{Found}
 use Rattle.packet.specs.Reading as packet
 use Rattle.packet.specs.Writing as packet_write
-use Rattle.packet.specs.Entry.{cut_of, list_of, filled, found_in, read_span, read_entry}
+use Rattle.packet.specs.Entry.{cut_of, list_of, filled, found_in, read_span, read_entry, Found}
 use Rattle.packet.specs.Row.{row_of}
 use Rattle.index.specs.declared.make.Indexing.{Indexing}
 use Rattle.index.specs.Index.{index_of, indexing}

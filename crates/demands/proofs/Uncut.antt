@@ -1,11 +1,10 @@
 -- Demand 1: when the reading of an entry is refused because the packet is not cut exactly.
-use Rattle.std.specs.Prelude.{◌≡◌, ◌↔◌, ◌∷◌}
+use Rattle.std.specs.Prelude.{◌≡◌, ◌↔◌, ◌∷◌, Ok}
 use Rattle.wire.proofs.Kit.{ℕ, refl, sym, ap, ap₂, ◌∙◌, inl, inr, ⊎_elim, List, [], arith, length, get_or, ltb, ltb-false}
 use Rattle.wire.specs.Number.{Bytes}
 use Rattle.wire.proofs.Laws.{picked}
 use Rattle.image.specs.Whole.{Whole, refused}
 use Rattle.packet.specs.declared.head.Entry.{Entry}
-use Rattle.packet.specs.declared.entry.Found.{Found}
 use Rattle.packet.specs.Entry.{Cut, found, stops, cut_of, no_entry, found_in, entry_in, read_span, read_entry}
 use Rattle.packet.proofs.Laws.{cut_told, entry_chosen}
 use Rattle.packet_theorems.specs.Refusal.{RefusedCut}
@@ -14,6 +13,8 @@ use Rattle.packet_theorems.proofs.SpanTheorems.{span_answers}
 use Rattle.packet_theorems.proofs.Refusals.{cut_refused_exactly}
 use Rattle.packet_theorems.proofs.Demand3 as packets
 use Rattle.demands.specs.Forms.{OneOf}
+use Rattle.wire.specs.Answer.{denied}
+use Rattle.packet.specs.Entry.{Found}
 
 -- the answers that come where a packet is cut
 abbrev pub AfterCut : ℕ → Type 0
@@ -21,7 +22,7 @@ AfterCut = OneOf 0 (4 ∷ 5 ∷ 8 ∷ 9 ∷ [])
 
 module _ (s : List ℕ) (k room : ℕ) where
   -- an entry that is found answers so
-  found_answers : (e : Entry) → found_in (cut_of s) k ≡ Found.Is e → AfterCut (read_entry s k room).reading.answer
+  found_answers : (e : Entry) → found_in (cut_of s) k ≡ Ok e → AfterCut (read_entry s k room).reading.answer
   found_answers e f =
       rw (ap (λ (w : Whole). w.reading.answer) (entry_span s k room e f)) at
       (⊎_elim inl (⊎_elim (λ z. absurd (over z)) inr) (span_answers s e.place e.length room))
@@ -36,7 +37,7 @@ module _ (s : List ℕ) (k room : ℕ) where
   cut_answers : (es : List Entry) (n : ℕ) → Bytes s → cut_of s ≡ found es n → AfterCut (read_entry s k room).reading.answer
   cut_answers es n bs c =
       picked {A = Found} (λ f. found_in (cut_of s) k ≡ f → AfterCut (read_entry s k room).reading.answer) (ltb k (length es))
-      (Found.Is (get_or es k no_entry)) (Found.Stop 8 0) (λ h f. found_answers (get_or es k no_entry) f)
+      (Ok (get_or es k no_entry)) (denied 8 0) (λ h f. found_answers (get_or es k no_entry) f)
       (λ h f. rw (packets.past s s es n bs c (record { long = refl; same = λ i b. refl }) k room (ltb-false k (length es) h)) (inr (inr (inr (inl refl)))))
       (ap (λ x. found_in x k) c)
 

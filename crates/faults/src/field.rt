@@ -1,8 +1,10 @@
 // The fields of files, packets and values, and the way to one.
+use std::fmt;
+use wire::cursor::Span;
 use wire::limit::LEVELS;
 
 // What a text is.
-#[derive(Clone, Copy)]
+#[derive(Clone, Copy, Debug, PartialEq, Eq)]
 pub enum Named {
     FileName,
     Key,
@@ -14,7 +16,7 @@ pub enum Named {
     Response,
 }
 
-#[derive(Clone, Copy)]
+#[derive(Clone, Copy, Debug, PartialEq, Eq)]
 pub enum FileField {
     Beginning,
     StoredLength,
@@ -26,7 +28,7 @@ pub enum FileField {
     Closing,
 }
 
-#[derive(Clone, Copy)]
+#[derive(Clone, Copy, Debug, PartialEq, Eq)]
 pub enum PacketField {
     Zero,
     Version,
@@ -37,7 +39,7 @@ pub enum PacketField {
     Declared,
 }
 
-#[derive(Clone, Copy)]
+#[derive(Clone, Copy, Debug, PartialEq, Eq)]
 pub enum ValueField {
     Marker,
     Number,
@@ -49,7 +51,7 @@ pub enum ValueField {
     Zone,
 }
 
-#[derive(Clone, Copy)]
+#[derive(Clone, Copy, Debug, PartialEq, Eq)]
 pub enum Field {
     OfFile(FileField),
     OfPacket(PacketField),
@@ -59,24 +61,29 @@ pub enum Field {
     Text(Named),
     // What is left where the input must end.
     Rest,
-    // Nothing that a walk goes past.
-    Lost,
 }
 
-// What a walk is in. Of headers and messages: how many there are, and how many more behind this one.
-#[derive(Clone, Copy)]
+// One of so many headers, messages or values: its number, from 0, and that of the last.
+#[derive(Clone, Copy, Debug, PartialEq, Eq)]
+pub struct Item {
+    pub number: usize,
+    pub last: usize,
+}
+
+// What a walk is in.
+#[derive(Clone, Copy, Debug, PartialEq, Eq)]
 pub enum Part {
     File,
     Packet,
-    Header(u16, u16),
-    Message(u16, u16),
+    Header(Item),
+    Message(Item),
     // The value of an entry, by itself.
     Entry,
     Value,
 }
 
 // A field of so many bytes at a place, in so many containers. A cut steps over values whose length is known.
-#[derive(Clone, Copy)]
+#[derive(Clone, Copy, Debug, PartialEq, Eq)]
 pub struct Spot {
     pub at: usize,
     pub field: Field,
@@ -86,111 +93,168 @@ pub struct Spot {
     pub cut: bool,
 }
 
-// The way to a field: on each level the last key, by its place and length, and 0 where none was read; or in a strict array how many values it has and how
-// many are left, with the one that the way goes through. Level 0 has the key of a file's element, or the name of a header or the target of a message.
+// What the way goes through on a level: the key that was read last, if one was, or a value of a strict array.
+#[derive(Clone, Copy, Debug, PartialEq, Eq)]
+pub(crate) enum Level {
+    Key(Option<Span>),
+    Value(Item),
+}
+
+// The way to a field. Level 0 has the key of a file's element, or the name of a header or the target of a message.
 #[derive(Clone, Copy)]
-pub struct Level {
-    pub place: usize,
-    pub length: usize,
-    pub left: usize,
+pub(crate) struct Levels([Level; LEVELS + 1]);
+
+// What a field is called.
+impl fmt::Display for FileField {
+    fn fmt<W: fmt::Write>(&self, f: &mut fmt::Formatter<W>) -> fmt::Result {
+        f.write_str(match self {
+            FileField::Beginning => "00 BF",
+            FileField::StoredLength => "the stored length",
+            FileField::Signature => "the signature",
+            FileField::Padding(_) => "padding",
+            FileField::Version => "the version",
+            FileField::Closing => "a zero",
+        })
+    }
 }
 
-// Three numbers a level.
-pub type Levels = [usize; 3 * (LEVELS + 1)];
+impl fmt::Display for PacketField {
+    fn fmt<W: fmt::Write>(&self, f: &mut fmt::Formatter<W>) -> fmt::Result {
+        f.write_str(match self {
+            PacketField::Zero => "a zero",
+            PacketField::Version => "the version",
+            PacketField::Headers => "the count of headers",
+            PacketField::Messages => "the count of messages",
+            PacketField::Flag => "a header's flag",
+            PacketField::Declared => "an entry's length",
+        })
+    }
+}
 
-pub(crate) fn level_at(levels: &Levels, depth: usize) -> Level {
-    if depth <= LEVELS {
-        Level {
-            place: levels[3 * depth],
-            length: levels[3 * depth + 1],
-            left: levels[3 * depth + 2],
-        }
-    } else {
-        Level {
-            place: 0,
-            length: 0,
-            left: 0,
+impl fmt::Display for ValueField {
+    fn fmt<W: fmt::Write>(&self, f: &mut fmt::Formatter<W>) -> fmt::Result {
+        f.write_str(match self {
+            ValueField::Marker => "a value's marker",
+            ValueField::Number => "a number",
+            ValueField::Boolean => "a boolean",
+            ValueField::Index => "a reference's index",
+            ValueField::EcmaLength => "an ECMA array's length",
+            ValueField::Count => "an array's count",
+            ValueField::Time => "a date",
+            ValueField::Zone => "a date's zone",
+        })
+    }
+}
+
+impl fmt::Display for Field {
+    fn fmt<W: fmt::Write>(&self, f: &mut fmt::Formatter<W>) -> fmt::Result {
+        match self {
+            Field::OfFile(field) => write!(f, "{field}"),
+            Field::OfPacket(field) => write!(f, "{field}"),
+            Field::OfValue(field) => write!(f, "{field}"),
+            Field::Length(_) => f.write_str("a text's length"),
+            Field::Text(_) | Field::Rest => f.write_str("a text"),
         }
     }
 }
 
-pub(crate) fn set_level(
-    levels: &mut Levels,
-    depth: usize,
-    place: usize,
-    length: usize,
-    left: usize,
-) {
-    if depth <= LEVELS {
-        levels[3 * depth] = place;
-        levels[3 * depth + 1] = length;
-        levels[3 * depth + 2] = left;
+// What ends too early: of an entry it is said before that it is damaged.
+impl fmt::Display for Part {
+    fn fmt<W: fmt::Write>(&self, f: &mut fmt::Formatter<W>) -> fmt::Result {
+        f.write_str(match self {
+            Part::File => "the file",
+            Part::Packet | Part::Header(_) | Part::Message(_) => "the packet",
+            Part::Entry => "it",
+            Part::Value => "the input",
+        })
     }
 }
 
-// A field that stands in no container.
-pub(crate) fn outermost(at: usize, field: Field, size: usize, part: Part, cut: bool) -> Spot {
+impl Item {
+    pub(crate) fn first_of(count: usize) -> Option<Item> {
+        let last = count.checked_sub(1)?;
+        Some(Item { number: 0, last })
+    }
+
+    pub(crate) fn next(self) -> Option<Item> {
+        if self.number < self.last {
+            Some(Item {
+                number: self.number + 1,
+                ..self
+            })
+        } else {
+            None
+        }
+    }
+}
+
+impl Part {
+    // A lone value, and that of an entry, stands in nothing.
+    pub(crate) fn is_alone(self) -> bool {
+        matches!(self, Part::Entry | Part::Value)
+    }
+}
+
+impl Levels {
+    pub(crate) fn new() -> Levels {
+        Levels([Level::Key(None); LEVELS + 1])
+    }
+
+    pub(crate) fn at(&self, depth: usize) -> Level {
+        self.0.get(depth).copied().unwrap_or(Level::Key(None))
+    }
+
+    pub(crate) fn set(&mut self, depth: usize, level: Level) {
+        if let Some(there) = self.0.get_mut(depth) {
+            *there = level;
+        }
+    }
+}
+
+// A field at the front of what is read.
+fn front(field: Field, size: usize, part: Part) -> Spot {
     Spot {
-        at: at,
-        field: field,
-        size: size,
+        at: 0,
+        field,
+        size,
         depth: 0,
-        part: part,
-        cut: cut,
+        part,
+        cut: false,
     }
 }
 
 pub fn of_file() -> Spot {
-    outermost(0, Field::OfFile(FileField::Beginning), 2, Part::File, false)
+    front(Field::OfFile(FileField::Beginning), 2, Part::File)
 }
 
 pub fn of_packet(cut: bool) -> Spot {
-    outermost(0, Field::OfPacket(PacketField::Zero), 1, Part::Packet, cut)
+    Spot {
+        cut,
+        ..front(Field::OfPacket(PacketField::Zero), 1, Part::Packet)
+    }
 }
 
 pub fn of_entry(at: usize) -> Spot {
-    outermost(
+    Spot {
         at,
-        Field::OfValue(ValueField::Marker),
-        1,
-        Part::Entry,
-        false,
-    )
+        ..front(Field::OfValue(ValueField::Marker), 1, Part::Entry)
+    }
 }
 
 pub fn of_value(at: usize) -> Spot {
-    outermost(
+    Spot {
         at,
-        Field::OfValue(ValueField::Marker),
-        1,
-        Part::Value,
-        false,
-    )
+        ..front(Field::OfValue(ValueField::Marker), 1, Part::Value)
+    }
 }
 
 impl Spot {
     pub(crate) fn then(self, at: usize, field: Field, size: usize) -> Spot {
-        let part = self.part;
         Spot {
-            at: at,
-            field: field,
-            size: size,
-            depth: self.depth,
-            part: part,
-            cut: self.cut,
-        }
-    }
-
-    pub(crate) fn deep(self, depth: usize) -> Spot {
-        let field = self.field;
-        let part = self.part;
-        Spot {
-            at: self.at,
-            field: field,
-            size: self.size,
-            depth: depth,
-            part: part,
-            cut: self.cut,
+            at,
+            field,
+            size,
+            ..self
         }
     }
 
@@ -206,15 +270,22 @@ impl Spot {
         self.then(at, Field::OfValue(field), size)
     }
 
-    pub(crate) fn lost(self) -> Spot {
-        self.then(self.at, Field::Lost, 0)
-    }
-
     pub(crate) fn key(self, at: usize) -> Spot {
         self.then(at, Field::Length(Named::Key), 2)
     }
 
     pub(crate) fn value(self, at: usize) -> Spot {
-        self.then(at, Field::OfValue(ValueField::Marker), 1)
+        self.own(at, ValueField::Marker, 1)
+    }
+
+    // The end of the field, where all of it is in an input of so many bytes.
+    pub(crate) fn end_within(self, length: usize) -> Option<usize> {
+        let end = self.at.checked_add(self.size)?;
+        (end <= length).then_some(end)
+    }
+
+    // Whether a walk goes on to come to a place. A field without bytes is not what was refused there.
+    pub(crate) fn is_before(self, place: usize) -> bool {
+        self.at < place || self.at == place && self.size == 0
     }
 }

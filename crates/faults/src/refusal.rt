@@ -1,34 +1,33 @@
 // The rule "Answers" (docs/DEMANDS.md), in words.
-use figures::page::{decimal, word};
-use std::io;
 use std::io::Write;
+use std::{fmt, io};
+use wire::answer::Answer;
 
-pub(crate) fn reason(page: &mut impl Write, answer: u8) -> io::Result<()> {
-    match answer {
-        1 => word(page, b"there are more than 1,048,576 bytes"),
-        2 => word(
-            page,
-            b"a field is not whole, or a count or a length exceeds the bytes that are left",
-        ),
-        3 => word(
-            page,
-            b"a fixed byte is wrong, a text is not UTF-8, a value's marker is 04, 09 or 0E, or bytes are left over",
-        ),
-        4 => word(page, b"the tree does not fit its buffer"),
-        5 => word(page, b"a value stands at depth 33"),
-        6 => word(page, b"it is not a tree"),
-        7 => word(page, b"the packet has version 3 (AMF3)"),
-        8 => word(page, b"there is no such entry"),
-        9 => word(page, b"the entry is damaged"),
-        _ => word(page, b"for no known reason"),
+// What an answer says, whatever was read.
+#[derive(Clone, Copy)]
+pub(crate) struct Reason(pub(crate) Option<Answer>);
+
+impl fmt::Display for Reason {
+    fn fmt<W: fmt::Write>(&self, f: &mut fmt::Formatter<W>) -> fmt::Result {
+        f.write_str(match self.0 {
+            Some(Answer::OverLimit) => "there are more than 1,048,576 bytes",
+            Some(Answer::NotWhole) =>
+                "a field is not whole, or a count or a length exceeds the bytes that are left",
+            Some(Answer::NotRight) =>
+                "a fixed byte is wrong, a text is not UTF-8, a value's marker is 04, 09 or 0E, or bytes are left over",
+            Some(Answer::NoRoom) => "the tree does not fit its buffer",
+            Some(Answer::TooDeep) => "a value stands at depth 33",
+            Some(Answer::NoTree) => "it is not a tree",
+            Some(Answer::OtherVersion) => "the packet has version 3 (AMF3)",
+            Some(Answer::NoEntry) => "there is no such entry",
+            Some(Answer::Damaged) => "the entry is damaged",
+            None => "for no known reason",
+        })
     }
 }
 
 // A refusal that has no place.
 pub fn refusal(page: &mut impl Write, answer: u8) -> io::Result<()> {
-    word(page, b"refused, answer ")?;
-    decimal(page, answer as u64)?;
-    word(page, b": ")?;
-    reason(page, answer)?;
-    word(page, b"\n")
+    let reason = Reason(Answer::try_from(answer).ok());
+    writeln!(page, "refused, answer {answer}: {reason}")
 }

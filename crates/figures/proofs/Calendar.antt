@@ -1,5 +1,5 @@
 -- The days of the first so many years, in closed form, and the year of a day.
-use Rattle.std.specs.Prelude.{◌+◌, ◌-◌, ◌*◌, ◌/◌, ◌%◌, ◌^◌, ◌≤◌, ◌<◌, ◌≡◌}
+use Rattle.std.specs.Prelude.{◌+◌, ◌-◌, ◌*◌, ◌/◌, ◌%◌, ◌≤◌, ◌<◌, ◌≡◌}
 use Rattle.wire.proofs.Kit.{ℕ, zero, suc, refl, sym, ⊎_elim, arith, eqb, eqb-true, eqb-false}
 use native.Mathlib.Nat.{eq-or-lt_of_le, div-add-mod}
 use Rattle.wire.proofs.Laws.{picked}
@@ -183,25 +183,3 @@ in_year days c n ec en =
     (rest_small h)
     (century o c (mod_small days) ec)
     (four_years (h % 1461) n (rest_small h) en)
-
-fours_few : (o c : ℕ) → o < 146097 → (o - 36524 * c) / 1461 ≤ 100
-fours_few o c h = omega arith
-
-sum_small : (d q c f n : ℕ) → 146097 * q ≤ d → d < 2 ^ 64 → c ≤ 3 → f ≤ 100 → n ≤ 3 → 1 + 400 * q + 100 * c + 4 * f + n < 2 ^ 64
-sum_small d q c f n g h i j k = omega arith
-
-sum_smaller : (s n m : ℕ) → s + n < m → s < m
-sum_smaller s n m h = omega arith
-
-quotient_small : (d : ℕ) → 146097 * (d / 146097) ≤ d
-quotient_small d = omega arith
-
--- a year's sum has room
-pub year_fits : (days c n : ℕ) → days < 2 ^ 64 → c ≤ 3 → n ≤ 3 → 1 + 400 * (days / 146097) + 100 * c + 4 * ((days % 146097 - 36524 * c) / 1461) + n < 2 ^ 64
-year_fits days c n h i j = sum_small days (days / 146097) c ((days % 146097 - 36524 * c) / 1461) n (quotient_small days) h i (fours_few (days % 146097) c (mod_small days)) j
-
-pub year_fits_4 : (days c : ℕ) → days < 2 ^ 64 → c ≤ 3 → 1 + 400 * (days / 146097) + 100 * c + 4 * ((days % 146097 - 36524 * c) / 1461) < 2 ^ 64
-year_fits_4 days c h i = sum_smaller _ 3 _ (year_fits days c 3 h i (omega arith))
-
-pub day_short : (h n : ℕ) → n ≡ h % 1461 / 365 - (h % 1461 / 365 - 3) → h % 1461 - 365 * n < 366
-day_short h n e = (four_years (h % 1461) n (rest_small h) e).rest

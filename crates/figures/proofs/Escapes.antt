@@ -1,10 +1,13 @@
 -- What the steps through the ranges say, and what goes out as it stands: no character that is hidden, no quote and no backslash.
 use Rattle.std.specs.Prelude.{◌+◌, ◌≤◌, ◌<◌, ◌≡◌, ◌∷◌}
-use Rattle.wire.proofs.Kit.{ℕ, refl, arith, List, [], Bool, true, false, length, drop, get_or, eqb, ltb, leb, drop-cons, add-one}
+use Rattle.std.specs.Prelude.{Option, None}
+use Rattle.wire.proofs.Kit.{ℕ, refl, sym, arith, List, [], Bool, true, false, length, drop, get_or, eqb, ltb, leb, drop-cons, add-one}
 use Rattle.wire.proofs.Kit.{lt-ltb, le-ltb, le-leb, lt-leb, eqb-false, ltb-true, leb-true, leb-false}
+use Rattle.std.proofs.lemmas.Option.{none-some}
 use Rattle.wire.proofs.Laws.{picked, false_true}
 use Rattle.wire.specs.Choice.{pick}
-use Rattle.figures.specs.Escape.{hidden, within, letter_of, point_of}
+use Rattle.figures.specs.Escape.{hidden, within, escape_of, point_of}
+use Rattle.figures.specs.declared.escape.Escape.{Escape}
 
 -- a step through the ranges
 module _ (t : List (List ℕ)) (i p : ℕ) (h : i < length t) where
@@ -65,16 +68,16 @@ pub record Plain (p : ℕ) : Type 0 where
   pub no_quote : p ≡ 0x22 → ⊥
   pub no_backslash : p ≡ 0x5C → ⊥
 
-pub plain : (p : ℕ) → letter_of p ≡ 0 → Plain p
-unfolding letter_of
+pub plain : (p : ℕ) → escape_of p ≡ None → Plain p
+unfolding escape_of
 plain p =
-    let Goal : ℕ → Type 0 = λ n. n ≡ 0 → Plain p in
-    picked Goal (eqb p 0x09) _ _ (λ t h. absurd (omega arith)) λ _.
-    picked Goal (eqb p 0x0A) _ _ (λ t h. absurd (omega arith)) λ _.
-    picked Goal (eqb p 0x0D) _ _ (λ t h. absurd (omega arith)) λ _.
-    picked Goal (eqb p 0x22) _ _ (λ t h. absurd (omega arith)) λ quote.
-    picked Goal (eqb p 0x5C) _ _ (λ t h. absurd (omega arith)) λ backslash.
-    picked Goal (within hidden p) _ _ (λ t h. absurd (omega arith)) λ seen h.
+    let Goal : Option Escape → Type 0 = λ e. e ≡ None → Plain p in
+    picked Goal (eqb p 0x09) _ _ (λ t h. absurd (none-some _ (sym h))) λ _.
+    picked Goal (eqb p 0x0A) _ _ (λ t h. absurd (none-some _ (sym h))) λ _.
+    picked Goal (eqb p 0x0D) _ _ (λ t h. absurd (none-some _ (sym h))) λ _.
+    picked Goal (eqb p 0x22) _ _ (λ t h. absurd (none-some _ (sym h))) λ quote.
+    picked Goal (eqb p 0x5C) _ _ (λ t h. absurd (none-some _ (sym h))) λ backslash.
+    picked Goal (within hidden p) _ _ (λ t h. absurd (none-some _ (sym h))) λ seen h.
     record {
       not_hidden = outside hidden 0 p (goes_up 0 hidden refl) seen;
       no_quote = eqb-false p 0x22 quote;

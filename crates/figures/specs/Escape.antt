@@ -1,6 +1,8 @@
 -- The escapes of JSON, and which characters have one.
-use Rattle.std.specs.Prelude.{ℕ, ◌+◌, ◌*◌, ◌%◌, List, [], ◌∷◌, Bool, true, false, length, get_or, eqb, leb, ltb}
+use Rattle.std.specs.Prelude.{ℕ, ◌+◌, ◌*◌, ◌%◌, List, [], ◌∷◌, Bool, true, false, length, get_or, eqb, leb, ltb, Option, Some, None}
 use Rattle.wire.specs.Choice.{pick}
+use Rattle.figures.specs.declared.escape.Escape.{Escape}
+use Rattle.figures.specs.declared.escape.Escape.TheVariants.{Letter, Number}
 
 -- the characters from a to b
 infix 90 ◌to◌
@@ -54,13 +56,14 @@ unfoldable pub within : List (List ℕ) → ℕ → Bool
 within [] p = false
 within (r ∷ rs) p = pick (ltb p (get_or r 0 0)) false (pick (leb p (get_or r 1 0)) true (within rs p))
 
--- the letter behind the backslash, or 0: tab, line feed, carriage return, quote and backslash have one of their own, and what is hidden has u
-unfoldable pub letter_of : ℕ → ℕ
-letter_of p =
-    pick (eqb p 0x09) 0x74
-    (pick (eqb p 0x0A) 0x6E
-    (pick (eqb p 0x0D) 0x72
-    (pick (eqb p 0x22) 0x22 (pick (eqb p 0x5C) 0x5C (pick (within hidden p) 0x75 0)))))
+-- The escape, if there is one: tab, line feed, carriage return, quote and backslash have a letter of their own behind the backslash, and what is hidden goes out
+-- by its number.
+unfoldable pub escape_of : ℕ → Option Escape
+escape_of p =
+    pick (eqb p 0x09) (Some (Letter 0x74))
+    (pick (eqb p 0x0A) (Some (Letter 0x6E))
+    (pick (eqb p 0x0D) (Some (Letter 0x72))
+    (pick (eqb p 0x22) (Some (Letter 0x22)) (pick (eqb p 0x5C) (Some (Letter 0x5C)) (pick (within hidden p) (Some (Number p)) None)))))
 
 -- the number of a character, from its bytes in UTF-8
 unfoldable pub point_of : List ℕ → ℕ

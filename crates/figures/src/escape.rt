@@ -1,10 +1,11 @@
 // The characters of a text, and how each goes out: as it stands, or escaped as in JSON.
 ghost use Rattle.std.specs.Prelude.{◌≡◌, ◌+◌, ◌-◌, ◌*◌, ◌/◌, ◌%◌, ◌≤◌, ◌<◌};
-ghost use Rattle.figures.specs.Escape.{hidden, within, letter_of, point_of};
+ghost use Rattle.figures.specs.Escape.{hidden, within, escape_of, point_of};
 
-const RANGES: usize = 35;
+use std::fmt;
+
 // The first and the last of each range of characters that people don't see, or can't tell from something else; specs/Escape.antt says which.
-const HIDDEN: [[u32; 2]; RANGES] = [
+const HIDDEN: [[u32; 2]; 35] = [
     [0x00, 0x1F],
     [0x7F, 0xA0],
     [0xAD, 0xAD],
@@ -42,33 +43,43 @@ const HIDDEN: [[u32; 2]; RANGES] = [
     [0x3_FFFE, 0x10_FFFF],
 ];
 
+#[tactic(auto, unfolding(crate::specs::Escape::within))]
 fn is_hidden(p: u32) -> bool
     ensures { result ≡ within hidden p }
 {
-    let mut i: usize = 0;
-    while i < RANGES {
-        if p < HIDDEN[i][0] {
+    for [low, high] in HIDDEN {
+        if p < low {
             return false;
         }
-        if p <= HIDDEN[i][1] {
+        if p <= high {
             return true;
         }
-        i += 1;
     }
     false
 }
 
-// The letter behind the backslash by which a character goes out, as in JSON, or 0 where it goes out as it stands.
-pub(crate) fn letter(p: u32) -> u8
-    ensures { result ≡ letter_of p }
+// How a character goes out that doesn't as it stands.
+#[derive(Clone, Copy, PartialEq, Eq, Debug)]
+pub(crate) enum Escape {
+    // A letter behind the backslash.
+    Letter(char),
+    // The character's number.
+    Number(u32),
+}
+
+// The escape of a character, as in JSON, or None where it goes out as it stands.
+#[tactic(auto, unfolding(crate::specs::Escape::escape_of))]
+pub(crate) fn escape_of(p: u32) -> Option<Escape>
+    ensures { result ≡ escape_of p }
 {
     match p {
-        0x09 => b't',
-        0x0A => b'n',
-        0x0D => b'r',
-        0x22 => b'"',
-        0x5C => b'\\',
-        _ => { if is_hidden(p) { b'u' } else { 0 } }
+        0x09 => Some(Escape::Letter('t')),
+        0x0A => Some(Escape::Letter('n')),
+        0x0D => Some(Escape::Letter('r')),
+        0x22 => Some(Escape::Letter('"')),
+        0x5C => Some(Escape::Letter('\\')),
+        _ if is_hidden(p) => Some(Escape::Number(p)),
+        _ => None,
     }
 }
 
@@ -76,59 +87,45 @@ pub(crate) fn letter(p: u32) -> u8
 pub fn width(first: u8) -> usize
     ensures { (0 < result) × (result ≤ 4) }
 {
-    if first < 0x80 {
-        1
-    } else if first < 0xE0 {
-        2
-    } else if first < 0xF0 {
-        3
-    } else {
-        4
+    match first {
+        0..=0x7F => 1,
+        0x80..=0xDF => 2,
+        0xE0..=0xEF => 3,
+        _ => 4,
     }
-}
-
-fn wide(b: u8) -> u32
-    ensures { (result ≡ b) × (result < 256) }
-{
-    b as u32
 }
 
 // The number of a character of two, three or four bytes.
 fn of_two(a: u8, b: u8) -> u32
     ensures { result ≡ a % 32 * 64 + b % 64 }
 {
-    wide(a % 32) * 64 + wide(b % 64)
+    u32::from(a % 32) * 64 + u32::from(b % 64)
 }
 
 fn of_three(a: u8, b: u8, c: u8) -> u32
     ensures { result ≡ (a % 16 * 64 + b % 64) * 64 + c % 64 }
 {
-    (wide(a % 16) * 64 + wide(b % 64)) * 64 + wide(c % 64)
+    (u32::from(a % 16) * 64 + u32::from(b % 64)) * 64 + u32::from(c % 64)
 }
 
 fn of_four(a: u8, b: u8, c: u8, d: u8) -> u32
     ensures { result ≡ ((a % 8 * 64 + b % 64) * 64 + c % 64) * 64 + d % 64 }
 {
-    ((wide(a % 8) * 64 + wide(b % 64)) * 64 + wide(c % 64)) * 64 + wide(d % 64)
+    ((u32::from(a % 8) * 64 + u32::from(b % 64)) * 64 + u32::from(c % 64)) * 64 + u32::from(d % 64)
 }
 
 // The number of a character, from its bytes.
+#[tactic(auto, unfolding(crate::specs::Escape::point_of))]
 pub(crate) fn point(c: &[u8]) -> u32
     ensures { result ≡ point_of c.now }
 {
-    if c.len() == 2 {
-        return of_two(c[0], c[1]);
+    match c {
+        [] => 0,
+        [a, b] => of_two(*a, *b),
+        [a, b, c] => of_three(*a, *b, *c),
+        [a, b, c, d] => of_four(*a, *b, *c, *d),
+        [a, ..] => u32::from(*a),
     }
-    if c.len() == 3 {
-        return of_three(c[0], c[1], c[2]);
-    }
-    if c.len() == 4 {
-        return of_four(c[0], c[1], c[2], c[3]);
-    }
-    if c.len() == 0 {
-        return 0;
-    }
-    wide(c[0])
 }
 
 // The two halves, in UTF-16, of a character above U+FFFF.
@@ -143,4 +140,14 @@ pub(crate) fn low_half(p: u32) -> u32
     ensures { result ≡ 0xDC00 + p % 0x400 }
 {
     0xDC00 + p % 0x400
+}
+
+impl fmt::Display for Escape {
+    fn fmt<W: fmt::Write>(&self, f: &mut fmt::Formatter<W>) -> fmt::Result {
+        match *self {
+            Escape::Letter(letter) => write!(f, "\\{letter}"),
+            Escape::Number(p) if p < 0x1_0000 => write!(f, "\\u{p:04x}"),
+            Escape::Number(p) => write!(f, "\\u{:04x}\\u{:04x}", high_half(p), low_half(p)),
+        }
+    }
 }

@@ -5,4 +5,5 @@ mod big;
 pub mod date;
 pub mod double;
 pub mod escape;
+pub mod input;
 pub mod page;

@@ -1,7 +1,7 @@
 // What is printed goes onto a page, which is written out where it is full, and at the end; any other writer does, too.
-ghost use Rattle.std.specs.Prelude.{◌≡◌, ◌+◌, ◌%◌, ◌≤◌};
+ghost use Rattle.std.specs.Prelude.{◌≤◌};
 
-use crate::escape::{high_half, letter, low_half, point, width};
+use crate::escape::{escape_of, point, width};
 use std::io;
 use std::io::Write;
 use wire::text::part;
@@ -46,7 +46,7 @@ impl<W: Write> Write for Page<W> {
             self.used = 0;
         }
         let left = SIZE - self.used;
-        let n = if buf.len() < left { buf.len() } else { left };
+        let n = buf.len().min(left);
         self.bytes[self.used..self.used + n].copy_from_slice(&buf[..n]);
         self.used += n;
         Ok(n)
@@ -57,10 +57,6 @@ impl<W: Write> Write for Page<W> {
         self.used = 0;
         self.to.flush()
     }
-}
-
-pub(crate) fn byte(page: &mut impl Write, b: u8) -> io::Result<()> {
-    page.write_all(&[b])
 }
 
 // Writes out what is still on the page.
@@ -87,91 +83,42 @@ pub fn amount(page: &mut impl Write, n: u64, thing: &[u8]) -> io::Result<()> {
 }
 
 pub fn spaces(page: &mut impl Write, n: usize) -> io::Result<()> {
-    let mut i: usize = 0;
-    while i < n {
-        byte(page, b' ')?;
-        i += 1;
+    for _ in 0..n {
+        word(page, b" ")?;
     }
     Ok(())
 }
 
-// A number below a hundred in two digits.
-pub(crate) fn two_digits(page: &mut impl Write, n: u64) -> io::Result<()> {
-    byte(page, digit(n / 10))?;
-    byte(page, digit(n))
-}
-
-// The last digit of a number.
-pub(crate) fn digit(n: u64) -> u8
-    ensures { result ≡ 0x30 + n % 10 }
-{
-    (0x30 + n % 10) as u8
-}
-
-fn hex_digit(n: u32) -> u8 {
-    if n < 10 {
-        (0x30 + n % 10) as u8
-    } else {
-        (0x57 + n % 16) as u8
-    }
-}
-
-// A number below 65,536 as JSON has it.
-fn unicode(page: &mut impl Write, n: u32) -> io::Result<()> {
-    word(page, b"\\u")?;
-    byte(page, hex_digit(n / 0x1000 % 16))?;
-    byte(page, hex_digit(n / 0x100 % 16))?;
-    byte(page, hex_digit(n / 0x10 % 16))?;
-    byte(page, hex_digit(n % 16))
-}
-
-fn escaped(page: &mut impl Write, p: u32) -> io::Result<()> {
-    if p < 0x1_0000 {
-        unicode(page, p)
-    } else {
-        unicode(page, high_half(p))?;
-        unicode(page, low_half(p))
-    }
-}
-
 // A character, by its bytes.
 fn character(page: &mut impl Write, c: &[u8]) -> io::Result<()> {
-    let p = point(c);
-    let l = letter(p);
-    if l == 0 {
-        word(page, c)
-    } else if l == b'u' {
-        escaped(page, p)
-    } else {
-        byte(page, b'\\')?;
-        byte(page, l)
+    match escape_of(point(c)) {
+        None => word(page, c),
+        Some(e) => write!(page, "{e}"),
     }
 }
 
 // A text by itself, for the middle of a quoted one. No text that was read ends in the middle of a character.
 pub fn characters(page: &mut impl Write, text: &[u8]) -> io::Result<()> {
-    let mut at: usize = 0;
-    while at < text.len() {
-        let n = width(text[at]);
-        if text.len() - at < n {
+    let mut rest = text;
+    while let Some(first) = rest.first() {
+        let Some((c, behind)) = rest.split_at_checked(width(*first)) else {
             return Ok(());
-        }
-        character(page, part(text, at, n))?;
-        at += n;
+        };
+        character(page, c)?;
+        rest = behind;
     }
     Ok(())
 }
 
 // A text between quotes, as JSON has it.
 pub fn quoted(page: &mut impl Write, text: &[u8]) -> io::Result<()> {
-    byte(page, b'"')?;
+    word(page, b"\"")?;
     characters(page, text)?;
-    byte(page, b'"')
+    word(page, b"\"")
 }
 
 // A text of the input between quotes, and its place.
 pub fn placed(page: &mut impl Write, input: &[u8], place: usize, length: usize) -> io::Result<()> {
     quoted(page, part(input, place, length))?;
-    word(page, b" @")?;
-    decimal(page, place as u64)
+    write!(page, " @{place}")
 }

@@ -1,9 +1,8 @@
 -- The laws of records, of readings and of a reading carried out.
-use Rattle.std.specs.Prelude.{◌+◌, ◌-◌, ◌≤◌, ◌<◌, ◌≡◌, ◌∷◌, ◌++◌}
-use Rattle.wire.proofs.Kit.{ℕ, suc, refl, sym, ap, ◌∙◌, List, [], append_assoc, append-nil, Bool, true, false, div-one}
-use Rattle.wire.proofs.Kit.{mod-eq_of_lt, zero-add, add-zero, add-one, arith, length, set, take, replicate, length-append, length-take, sets, length-sets}
-use Rattle.wire.proofs.Kit.{take_all, leb}
-use lib.Seq.{take-suc-set}
+use Rattle.std.specs.Prelude.{◌+◌, ◌-◌, ◌≤◌, ◌<◌, ◌≡◌, ◌∷◌, ◌++◌, Ok, Err}
+use Rattle.wire.proofs.Kit.{ℕ, refl, sym, ap, ◌∙◌, List, [], Bool, true, false, div-one}
+use Rattle.wire.proofs.Kit.{mod-eq_of_lt, zero-add, add-zero, arith, length, take, replicate, length-append, length-take, sets, length-sets}
+use Rattle.wire.proofs.Kit.{leb}
 use Rattle.wire.specs.Choice.{pick}
 use Rattle.wire.specs.Field.{to}
 use Rattle.wire.specs.declared.cursor.Cursor.{Cursor}
@@ -14,11 +13,11 @@ use Rattle.image.specs.declared.record.Field.{Field}
 use Rattle.image.specs.declared.record.Layout.{Layout}
 use Rattle.image.specs.declared.record.Record.{Record}
 use Rattle.image.specs.declared.record.Record.TheVariants.{Number, Boolean, Text, Object, Null, Undefined, Reference, EcmaArray, ObjectEnd, StrictArray, Date, Unsupported, Xml, TypedObject, Key, Packet, Header, Message, Lso}
-use Rattle.image.specs.declared.reading.Step.{Step}
-use Rattle.image.specs.declared.reading.Step.TheVariants.{Next, Stop}
 use Rattle.image.specs.Record.{◌bytes◌, layout_of, bytes_in, size_in, bytes_of, size, placed, moved, field_bytes}
-use Rattle.image.specs.Due.{Due, Fact, end, stop, seen, due, ◌>>=◌, based, Ran, ran, run, Within, put}
+use Rattle.image.specs.Due.{Due, Fact, end, stop, seen, due, ◌>>=◌, based, Ran, ran, run, Within, put, Step, went_to}
 use Rattle.image.specs.Whole.{padded}
+use Rattle.wire.specs.Answer.{denied}
+use Rattle.wire.proofs.Same.{ok_first, ok_second}
 
 -- ---- a record's size
 
@@ -117,13 +116,13 @@ module _ (image : List ℕ) (at : ℕ) where
 
   -- what lies so is laid, or has no room
   pub put_laid : (l : Layout) (p n : ℕ) {x i : List ℕ} {m : ℕ} → Laid image at x m i → x ≡ bytes_in l → m ≤ length image
-      → ran (Next (to n) m) i ≡ put l p n at image
+      → ran (went_to (to n) m) i ≡ put l p n at image
   unfolding put
   put_laid l p n {m = m} z e h =
       let f : m ≡ at + size_in l = z.place ∙ (rw e (ap (λ (k : ℕ). at + k) (length_field l))) in
       rw (f, z.stored, e) (sym (pick_yes (at + size_in l) (length image) _ _ (omega (arith, f, h))))
 
-  pub put_full : (l : Layout) (p n : ℕ) → length image < at + size_in l → ran (Stop 4 p) image ≡ put l p n at image
+  pub put_full : (l : Layout) (p n : ℕ) → length image < at + size_in l → ran (denied 4 p) image ≡ put l p n at image
   unfolding put
   put_full l p n h = sym (pick_no (at + size_in l) (length image) _ _ h)
 
@@ -180,8 +179,8 @@ based_zero (due r p d) = rw (placed_same (λ p. 0 + p) zero-add r, zero-add p, b
 
 -- what a run leaves, handed on where it goes on
 unfoldable pub after_step : Step → List ℕ → (ℕ → ℕ → List ℕ → Ran) → Ran
-after_step (Next c m) image k = k c.at m image
-after_step (Stop a p) image k = ran (Stop a p) image
+after_step (Ok x) image k = k x.0.at x.1 image
+after_step (Err r) image k = ran (denied r.answer r.place) image
 
 unfoldable pub after : Ran → (ℕ → ℕ → List ℕ → Ran) → Ran
 after x k = after_step x.step x.image k
@@ -198,34 +197,34 @@ run_bind (end n) k made image = refl
 run_bind (stop a p) k made image = refl
 run_bind (seen fact d) k made image = run_bind d k made image
 run_bind (due r p d) k made image =
-    ap (λ (x : Ran). pick (leb (made + size r) (length image)) x (ran (Stop 4 p) image))
+    ap (λ (x : Ran). pick (leb (made + size r) (length image)) x (ran (denied 4 p) image))
     (run_bind d k (made + size r) (sets image made (bytes_of r)))
-    ∙ after_pick (leb (made + size r) (length image)) (run d (made + size r) (sets image made (bytes_of r))) (ran (Stop 4 p) image)
+    ∙ after_pick (leb (made + size r) (length image)) (run d (made + size r) (sets image made (bytes_of r))) (ran (denied 4 p) image)
     (λ n m i. run (k n) m i)
 
 module _ (d : Due) (k : ℕ → Due) (made : ℕ) (image : List ℕ) where
   -- the first goes on, and the second goes on from there
-  pub run_then : {c : Cursor} {m : ℕ} {i : List ℕ} → ran (Next c m) i ≡ run d made image → run (d >>= k) made image ≡ run (k c.at) m i
+  pub run_then : {c : Cursor} {m : ℕ} {i : List ℕ} → ran (went_to c m) i ≡ run d made image → run (d >>= k) made image ≡ run (k c.at) m i
   unfolding after after_step
   run_then e = run_bind d k made image ∙ ap (λ (x : Ran). after x (λ n m i. run (k n) m i)) (sym e)
 
   -- the first stops, and so does the whole
-  pub run_halt : {a p : ℕ} {i : List ℕ} → ran (Stop a p) i ≡ run d made image → run (d >>= k) made image ≡ ran (Stop a p) i
+  pub run_halt : {a p : ℕ} {i : List ℕ} → ran (denied a p) i ≡ run d made image → run (d >>= k) made image ≡ ran (denied a p) i
   unfolding after after_step
   run_halt e = run_bind d k made image ∙ ap (λ (x : Ran). after x (λ n m i. run (k n) m i)) (sym e)
 
 -- the same in a part that begins at the place b of a whole
 module _ (b : ℕ) (d : Due) (k : ℕ → Due) (made : ℕ) (image : List ℕ) where
   pub run_then_based : {c : Cursor} {m : ℕ} {i : List ℕ}
-      → ran (Next c m) i ≡ run (based b d) made image → run (based b (d >>= k)) made image ≡ run (based b (k c.at)) m i
+      → ran (went_to c m) i ≡ run (based b d) made image → run (based b (d >>= k)) made image ≡ run (based b (k c.at)) m i
   run_then_based e = rw (based_bind b d k) (run_then (based b d) (λ n. based b (k n)) made image e)
 
   pub run_halt_based : {a p : ℕ} {i : List ℕ}
-      → ran (Stop a p) i ≡ run (based b d) made image → run (based b (d >>= k)) made image ≡ ran (Stop a p) i
+      → ran (denied a p) i ≡ run (based b d) made image → run (based b (d >>= k)) made image ≡ ran (denied a p) i
   run_halt_based e = rw (based_bind b d k) (run_halt (based b d) (λ n. based b (k n)) made image e)
 
 module _ (made : ℕ) (image : List ℕ) where
-  pub run_stop : (a p : ℕ) → run (stop a p) made image ≡ ran (Stop a p) image
+  pub run_stop : (a p : ℕ) → run (stop a p) made image ≡ ran (denied a p) image
   unfolding run
   run_stop a p = refl
 
@@ -233,7 +232,7 @@ module _ (made : ℕ) (image : List ℕ) where
   unfolding run
   run_seen fact d = refl
 
-  pub run_end : (n : ℕ) → run (end n) made image ≡ ran (Next (to n) made) image
+  pub run_end : (n : ℕ) → run (end n) made image ≡ ran (went_to (to n) made) image
   unfolding run
   run_end n = refl
 
@@ -253,12 +252,12 @@ run_length (due r p d) made image =
 pub within : {x : Step} {l h l' h' room room' : ℕ} → Within x l h room → l' ≤ l → h ≤ h' → room ≤ room' → Within x l' h' room'
 within w lo hi ro = record { bounds = λ c m e. let b = w.bounds c m e in omega arith }
 
-pub within_stop : {a p l h room : ℕ} → Within (Stop a p) l h room
+pub within_stop : {a p l h room : ℕ} → Within (denied a p) l h room
 within_stop = record { bounds = λ c m e. let z : ◌≡◌ {A = ℕ} 0 1 = cc in absurd (omega arith) }
 
-pub within_next : {c : Cursor} {m l h room : ℕ} → l ≤ c.at → c.at ≤ h → m ≤ room → Within (Next c m) l h room
+pub within_next : {c : Cursor} {m l h room : ℕ} → l ≤ c.at → c.at ≤ h → m ≤ room → Within (went_to c m) l h room
 within_next {c} {m} lo hi ro =
-    record { bounds = λ d n e. let f : c.at ≡ d.at = ap (λ (x : Cursor). x.at) (cc) in let g : m ≡ n = cc in omega arith }
+    record { bounds = λ d n e. let f : c.at ≡ d.at = ap (λ (x : Cursor). x.at) (ok_first e) in let g : m ≡ n = ok_second e in omega arith }
 
 -- what is laid as a record lies is the record
 pub put_record : (r : Record) (l : Layout) (made p n : ℕ) (image : List ℕ) {i : List ℕ} {x : Step} {room : ℕ}
@@ -267,19 +266,6 @@ unfolding put run size bytes_of
 put_record r l made p n image e z = (rw e at z.0, z.1)
 
 -- ---- zeros from a place on
-
--- one more zero, at the place i, leaves what the zeros from there on make of the list
-module _ {A : Type 0} (d : A) where
-  pub clear_more : (l : List A) (i n : ℕ) → i < length l → i < n
-      → take i l ++ replicate (n - i) d ≡ take (i + 1) (set l i d) ++ replicate (n - (i + 1)) d
-  clear_more l i n h g =
-      let e : n - i ≡ suc (n - (i + 1)) = omega arith in
-      rw (e, add-one, take-suc-set l i d h) (sym (append_assoc (take i l) (d ∷ []) (replicate (n - suc i) d)))
-
-  pub clear_all : (l : List A) (i n : ℕ) → length l ≤ i → n ≤ i → take i l ++ replicate (n - i) d ≡ l
-  clear_all l i n h g =
-      let e : n - i ≡ 0 = omega arith in
-      rw (e, take_all i l h) (append-nil l)
 
 pub padded_take : (m : ℕ) (l : List ℕ) → take m l ++ replicate (length l - m) 0 ≡ padded (take m l) (length l)
 padded_take m l =

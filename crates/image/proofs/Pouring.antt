@@ -1,5 +1,5 @@
 -- The laws of rows, of writings and of a writing carried out, and what it comes to.
-use Rattle.std.specs.Prelude.{◌+◌, ◌≤◌, ◌<◌, ◌≡◌, ◌∷◌, ◌++◌}
+use Rattle.std.specs.Prelude.{◌+◌, ◌≤◌, ◌<◌, ◌≡◌, ◌∷◌, ◌++◌, Ok, Err}
 use Rattle.wire.proofs.Kit.{ℕ, refl, sym, ap, ◌∙◌, List, [], append_assoc, append-nil, Bool, true, false, add-zero, add_assoc}
 use Rattle.wire.proofs.Kit.{zero-add, arith, length, length-append, length-take, length-drop, sets, sets-eq, length-sets, leb-true, le-leb}
 use Rattle.wire.specs.Choice.{pick}
@@ -10,13 +10,15 @@ use Rattle.wire.specs.Utf8.{ends}
 use Rattle.wire.specs.Limit as limit
 use Rattle.wire.specs.declared.cursor.Cursor.{Cursor}
 use Rattle.wire.proofs.Laws.{pick_yes, pick_no, picked, length_digits, length_laid, laid_room, sets_append, then_sets, false_true}
-use Rattle.image.specs.declared.reading.Step.{Step}
-use Rattle.image.specs.declared.reading.Step.TheVariants.{Next, Stop}
 use Rattle.image.specs.declared.record.Field.{Field}
 use Rattle.image.specs.declared.writing.Row.{Row}
 use Rattle.image.specs.Record.{field_bytes}
 use Rattle.image.specs.Out.{Out, end, stop, put, ◌>>=◌, text_of, row_bytes, named_at, named_of, row, most, row_in, row_of, number_bytes, Poured, poured, pour, Grown, bytes, written, unwritten, sized, ended, settled, onto}
 use Rattle.image.proofs.Laws.{Laid}
+use Rattle.wire.specs.Answer.{denied}
+use Rattle.image.specs.Due.{Step, went_to}
+use Rattle.wire.proofs.Laws.{same_answer}
+use Rattle.wire.proofs.Same.{ok_first, ok_second}
 
 -- ---- one writing and then another
 
@@ -29,8 +31,8 @@ bind_assoc (put b d) j k = ap (put b) (bind_assoc d j k)
 
 -- what is poured, handed on where it goes on
 unfoldable after_step : Step → List ℕ → (ℕ → ℕ → List ℕ → Poured) → Poured
-after_step (Next c n) out k = k c.at n out
-after_step (Stop a p) out k = poured (Stop a p) out
+after_step (Ok x) out k = k x.0.at x.1 out
+after_step (Err r) out k = poured (denied r.answer r.place) out
 
 unfoldable after : Poured → (ℕ → ℕ → List ℕ → Poured) → Poured
 after x k = after_step x.step x.out k
@@ -45,21 +47,21 @@ pour_bind (put b d) k count out = pour_bind d k (count + length b) (laid b count
 
 module _ (d : Out) (k : ℕ → Out) (count : ℕ) (out : List ℕ) where
   -- the first goes on, and the second goes on from there
-  pub pour_then : {c : Cursor} {n : ℕ} {o : List ℕ} → poured (Next c n) o ≡ pour d count out → pour (d >>= k) count out ≡ pour (k c.at) n o
+  pub pour_then : {c : Cursor} {n : ℕ} {o : List ℕ} → poured (went_to c n) o ≡ pour d count out → pour (d >>= k) count out ≡ pour (k c.at) n o
   unfolding after after_step
   pour_then e = pour_bind d k count out ∙ ap (λ (x : Poured). after x (λ n m o. pour (k n) m o)) (sym e)
 
   -- the first stops, and so does the whole
-  pub pour_halt : {a p : ℕ} {o : List ℕ} → poured (Stop a p) o ≡ pour d count out → pour (d >>= k) count out ≡ poured (Stop a p) o
+  pub pour_halt : {a p : ℕ} {o : List ℕ} → poured (denied a p) o ≡ pour d count out → pour (d >>= k) count out ≡ poured (denied a p) o
   unfolding after after_step
   pour_halt e = pour_bind d k count out ∙ ap (λ (x : Poured). after x (λ n m o. pour (k n) m o)) (sym e)
 
 module _ (count : ℕ) (out : List ℕ) where
-  pub pour_stop : (a p : ℕ) → pour (stop a p) count out ≡ poured (Stop a p) out
+  pub pour_stop : (a p : ℕ) → pour (stop a p) count out ≡ poured (denied a p) out
   unfolding pour
   pour_stop a p = refl
 
-  pub pour_end : (n : ℕ) → pour (end n) count out ≡ poured (Next (to n) count) out
+  pub pour_end : (n : ℕ) → pour (end n) count out ≡ poured (went_to (to n) count) out
   unfolding pour
   pour_end n = refl
 
@@ -93,11 +95,11 @@ pub record Went (d : Out) (count n : ℕ) : Type 0 where
   pub size : n ≡ count + length (bytes d)
   pub judged : (b : List ℕ) (room : ℕ) → ended d b room ≡ sized b room
 
-pub went : (d : Out) (count : ℕ) (out : List ℕ) {c : Cursor} {n : ℕ} {o : List ℕ} → poured (Next c n) o ≡ pour d count out → Went d count n
+pub went : (d : Out) (count : ℕ) (out : List ℕ) {c : Cursor} {n : ℕ} {o : List ℕ} → poured (went_to c n) o ≡ pour d count out → Went d count n
 unfolding pour bytes ended
 went (end m) count out {c} {n} e =
     let s = ap step_of e in
-    let f : n ≡ count = cc in
+    let f : n ≡ count = ok_second s in
     record { size = f ∙ sym (add-zero count); judged = λ b room. refl }
 went (stop a p) count out e = let s = ap step_of e in let z : ◌≡◌ {A = ℕ} 0 1 = cc in absurd (omega arith)
 went (put b d) count out e =
@@ -105,14 +107,14 @@ went (put b d) count out e =
     record { size = rw length-append (r.size ∙ add_assoc count (length b) (length (bytes d))); judged = r.judged }
 
 -- a writing that stops is refused, whatever it has put out
-ended_halt : (d : Out) (count : ℕ) (out : List ℕ) {a p : ℕ} {o : List ℕ} → poured (Stop a p) o ≡ pour d count out
+ended_halt : (d : Out) (count : ℕ) (out : List ℕ) {a p : ℕ} {o : List ℕ} → poured (denied a p) o ≡ pour d count out
     → (b : List ℕ) (room : ℕ) → ended d b room ≡ unwritten a
 unfolding pour ended
 ended_halt (end n) count out e b room = let s = ap step_of e in let z : ◌≡◌ {A = ℕ} 0 1 = cc in absurd (omega arith)
-ended_halt (stop w q) count out {a} e b room = let s = ap step_of e in let f : w ≡ a = cc in rw f
+ended_halt (stop w q) count out {a} e b room = let s = ap step_of e in let f : w ≡ a = sym (same_answer s) in rw f
 ended_halt (put x d) count out e b room = ended_halt d (count + length x) (laid x count out) e b room
 
-pub settled_halt : (d : Out) (count : ℕ) (out : List ℕ) (room : ℕ) {a p : ℕ} {o : List ℕ} → poured (Stop a p) o ≡ pour d count out
+pub settled_halt : (d : Out) (count : ℕ) (out : List ℕ) (room : ℕ) {a p : ℕ} {o : List ℕ} → poured (denied a p) o ≡ pour d count out
     → settled d room ≡ unwritten a
 unfolding settled
 settled_halt d count out room e = ended_halt d count out e (bytes d) room
@@ -129,7 +131,7 @@ bytes_bind (stop a p) k h = refl
 bytes_bind (put b d) k h = ap (λ (x : List ℕ). b ++ x) (bytes_bind d k h)
 
 -- measured first, from an empty output: n is then how many bytes there are
-module _ (d : Out) (out : List ℕ) {c : Cursor} {n : ℕ} {o : List ℕ} (e : poured (Next c n) o ≡ pour d 0 out) (room : ℕ) where
+module _ (d : Out) (out : List ℕ) {c : Cursor} {n : ℕ} {o : List ℕ} (e : poured (went_to c n) o ≡ pour d 0 out) (room : ℕ) where
   pub settled_over : limit.bytes < n → settled d room ≡ unwritten 1
   unfolding settled
   settled_over h =
@@ -213,11 +215,11 @@ inside text r =
 
 module _ (text : List ℕ) (r : Row) (at next count : ℕ) (out : List ℕ) where
   pub pour_row : named_of text r ≡ true → {n : ℕ} {o : List ℕ} → n ≡ count + length (row_bytes text r) → o ≡ laid (row_bytes text r) count out
-      → poured (Next (to next) n) o ≡ pour (row text r at (end next)) count out
+      → poured (went_to (to next) n) o ≡ pour (row text r at (end next)) count out
   unfolding row pour
   pour_row e f g = rw (e, f, g)
 
-  pub pour_unnamed : named_of text r ≡ false → poured (Stop 6 at) out ≡ pour (row text r at (end next)) count out
+  pub pour_unnamed : named_of text r ≡ false → poured (denied 6 at) out ≡ pour (row text r at (end next)) count out
   unfolding row pour
   pour_unnamed e = rw e
 
@@ -250,12 +252,12 @@ module _ (count : ℕ) (text : List ℕ) (r : Row) (at : ℕ) (d : Out) where
 
 -- ---- where a step goes on
 
-pub grown_stop : {a p next high : ℕ} → Grown (Stop a p) next high
+pub grown_stop : {a p next high : ℕ} → Grown (denied a p) next high
 grown_stop = record { bounds = λ c n e. let z : ◌≡◌ {A = ℕ} 0 1 = cc in absurd (omega arith) }
 
-pub grown_next : {c : Cursor} {n high : ℕ} → n ≤ high → Grown (Next c n) c.at high
+pub grown_next : {c : Cursor} {n high : ℕ} → n ≤ high → Grown (went_to c n) c.at high
 grown_next {c} {n} h =
-    record { bounds = λ d m e. let f : c.at ≡ d.at = ap (λ (x : Cursor). x.at) (cc) in let g : n ≡ m = cc in omega arith }
+    record { bounds = λ d m e. let f : c.at ≡ d.at = ap (λ (x : Cursor). x.at) (ok_first e) in let g : n ≡ m = ok_second e in omega arith }
 
 -- ---- a row and what follows it
 
@@ -278,11 +280,11 @@ module _ (text : List ℕ) (r : Row) (at q count : ℕ) (out : List ℕ) (s : Sl
   row_in_lem = row_in_row count text r at (end q) m s.mark s.a s.b
 
   -- the row is put out, and the rest goes on behind it
-  pub row_then : (k : ℕ → Out) {c : Cursor} {n : ℕ} {o : List ℕ} → poured (Next c n) o ≡ pour (row_in count text r at (end q)) count out
+  pub row_then : (k : ℕ → Out) {c : Cursor} {n : ℕ} {o : List ℕ} → poured (went_to c n) o ≡ pour (row_in count text r at (end q)) count out
       → pour (row text r at (k q)) count out ≡ pour (k c.at) n o
   row_then k e = rw (row_bind text r at q k) (pour_then (row text r at (end q)) k count out (e ∙ rw row_in_lem))
 
   -- the row is refused, and so is the whole
-  pub row_halt : (k : ℕ → Out) {a p : ℕ} {o : List ℕ} → poured (Stop a p) o ≡ pour (row_in count text r at (end q)) count out
-      → pour (row text r at (k q)) count out ≡ poured (Stop a p) o
+  pub row_halt : (k : ℕ → Out) {a p : ℕ} {o : List ℕ} → poured (denied a p) o ≡ pour (row_in count text r at (end q)) count out
+      → pour (row text r at (k q)) count out ≡ poured (denied a p) o
   row_halt k e = rw (row_bind text r at q k) (pour_halt (row text r at (end q)) k count out (e ∙ rw row_in_lem))

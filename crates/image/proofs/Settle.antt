@@ -4,14 +4,14 @@ use Rattle.wire.proofs.Kit.{ℕ, refl, sym, ap, ◌∙◌, inl, inr, ⊎_elim, l
 use Rattle.wire.proofs.Kit.{length-append, sets, sets-eq, take_at, length-sets, length-take-le, leb, eqb, leb-true, leb-false, eqb-true, eqb-false, ne_eqb}
 use Rattle.wire.specs.Field.{to}
 use Rattle.wire.specs.declared.cursor.Cursor.{Cursor}
-use Rattle.wire.proofs.Laws.{pick_yes, pick_no, picked, then_sets}
-use Rattle.image.specs.declared.reading.Step.{Step}
-use Rattle.image.specs.declared.reading.Step.TheVariants.{Next, Stop}
+use Rattle.wire.proofs.Laws.{pick_yes, pick_no, picked, then_sets, same_answer, same_place}
 use Rattle.image.specs.declared.record.Record.{Record}
 use Rattle.image.specs.Record.{bytes_of, size}
-use Rattle.image.specs.Due.{Due, end, stop, seen, due, ◌>>=◌, Ends, Stops, Lacks, on_end, Ran, ran, run}
+use Rattle.image.specs.Due.{Due, end, stop, seen, due, ◌>>=◌, Ends, Stops, Lacks, on_end, Ran, ran, run, Step, went_to}
 use Rattle.image.specs.Whole.{bytes, Whole, accepted, refused, in_room, settled, finished, all}
 use Rattle.image.proofs.Laws.{size_bytes}
+use Rattle.wire.specs.Answer.{denied}
+use Rattle.wire.proofs.Same.{ok_first, ok_second}
 
 -- ---- how a reading ends
 
@@ -76,9 +76,9 @@ stops_behind (due r q d) k n a p e h = stops_behind d k n a p e h
 -- ---- a reading carried out, with room and without
 
 pub run_fits : (d : Due) (made : ℕ) (image : List ℕ) → made + length (bytes d) ≤ length image
-    → run d made image ≡ ran (on_end d (λ n. Next (to n) (made + length (bytes d))) Stop) (sets image made (bytes d))
+    → run d made image ≡ ran (on_end d (λ n. went_to (to n) (made + length (bytes d))) denied) (sets image made (bytes d))
 unfolding run bytes
-run_fits (end n) made image h = ap (λ m. ran (Next (to n) m) image) (omega arith)
+run_fits (end n) made image h = ap (λ m. ran (went_to (to n) m) image) (omega arith)
 run_fits (stop a p) made image h = refl
 run_fits (seen fact d) made image h = run_fits d made image h
 run_fits (due r p d) made image h =
@@ -153,57 +153,57 @@ due_lacks P (seen fact d) made room p h l = due_lacks P d made room p h l
 due_lacks P (due r q d) made room p h l = ⊎_elim (λ x. (r, rw x.1 h.0)) (λ x. due_lacks P d (made + size r) room p h.1 x.1) l
 
 -- the reading carried out stops there
-pub run_lacks : (d : Due) (made : ℕ) (image : List ℕ) {p : ℕ} → Lacks d made (length image) p → (run d made image).step ≡ Stop 4 p
+pub run_lacks : (d : Due) (made : ℕ) (image : List ℕ) {p : ℕ} → Lacks d made (length image) p → (run d made image).step ≡ denied 4 p
 unfolding run
 run_lacks (end n) made image h = absurd h
 run_lacks (stop a q) made image h = absurd h
 run_lacks (seen fact d) made image h = run_lacks d made image h
 run_lacks (due r q d) made image {p} h =
-    ⊎_elim (λ x. rw (lt-leb (made + size r) (length image) x.0) (ap (Stop 4) (sym x.1)))
+    ⊎_elim (λ x. rw (lt-leb (made + size r) (length image) x.0) (ap (denied 4) (sym x.1)))
     (λ x.
     let i : List ℕ = sets image made (bytes_of r) in
     let more : Lacks d (made + size r) (length i) p = rw (length-sets image made (bytes_of r)) x.1 in
     rw (le-leb (made + size r) (length image) x.0) (run_lacks d (made + size r) i more)) h
 
 -- a reading that goes on has laid all its bytes, and ends there
-pub run_went : (d : Due) (made : ℕ) (image : List ℕ) {c : Cursor} {m : ℕ} {i : List ℕ} → ran (Next c m) i ≡ run d made image
+pub run_went : (d : Due) (made : ℕ) (image : List ℕ) {c : Cursor} {m : ℕ} {i : List ℕ} → ran (went_to c m) i ≡ run d made image
     → (m ≡ made + length (bytes d)) × Ends d c.at
 unfolding run bytes
 run_went (end n) made image {c} {m} e =
-    let s : Next c m ≡ Next (to n) made = ap (λ (x : Ran). x.step) e in
-    let same : c ≡ to n = cc in
-    let more : m ≡ made = cc in
+    let s : went_to c m ≡ went_to (to n) made = ap (λ (x : Ran). x.step) e in
+    let same : c ≡ to n = ok_first s in
+    let more : m ≡ made = ok_second s in
     (omega arith, ap (λ (x : Cursor). x.at) same)
 run_went (stop a p) made image {c} {m} e =
-    let s : Next c m ≡ Stop a p = ap (λ (x : Ran). x.step) e in
+    let s : went_to c m ≡ denied a p = ap (λ (x : Ran). x.step) e in
     let z : ◌≡◌ {A = ℕ} 0 1 = cc in
     absurd (omega arith)
 run_went (seen fact d) made image e = run_went d made image e
 run_went (due r p d) made image {c} {m} {i} e =
-    picked (λ (x : Ran). ran (Next c m) i ≡ x → (m ≡ made + length (bytes_of r ++ bytes d)) × Ends d c.at) (leb (made + size r) (length image)) _ _
+    picked (λ (x : Ran). ran (went_to c m) i ≡ x → (m ≡ made + length (bytes_of r ++ bytes d)) × Ends d c.at) (leb (made + size r) (length image)) _ _
     (λ t f.
     let w = run_went d (made + size r) (sets image made (bytes_of r)) f in
     (omega (arith, size_bytes r, length-append (bytes_of r) (bytes d), w.0), w.1))
     (λ t f.
-    let s : Next c m ≡ Stop 4 p = ap (λ (x : Ran). x.step) f in
+    let s : went_to c m ≡ denied 4 p = ap (λ (x : Ran). x.step) f in
     let z : ◌≡◌ {A = ℕ} 0 1 = cc in
     absurd (omega arith)) e
 
 -- and one that stops, but not for room, is refused so
-pub run_stopped : (d : Due) (made : ℕ) (image : List ℕ) {a p : ℕ} {i : List ℕ} → ran (Stop a p) i ≡ run d made image → a ≢ 4 → Stops d a p
+pub run_stopped : (d : Due) (made : ℕ) (image : List ℕ) {a p : ℕ} {i : List ℕ} → ran (denied a p) i ≡ run d made image → a ≢ 4 → Stops d a p
 unfolding run
 run_stopped (end n) made image {a} {p} e ne =
-    let s : Stop a p ≡ Next (to n) made = ap (λ (x : Ran). x.step) e in
+    let s : denied a p ≡ went_to (to n) made = ap (λ (x : Ran). x.step) e in
     let z : ◌≡◌ {A = ℕ} 0 1 = cc in
     absurd (omega arith)
 run_stopped (stop b q) made image {a} {p} e ne =
-    let s : Stop a p ≡ Stop b q = ap (λ (x : Ran). x.step) e in
-    (cc, cc)
+    let s : denied a p ≡ denied b q = ap (λ (x : Ran). x.step) e in
+    (same_answer s, same_place s)
 run_stopped (seen fact d) made image e ne = run_stopped d made image e ne
 run_stopped (due r q d) made image {a} {p} {i} e ne =
-    picked (λ (x : Ran). ran (Stop a p) i ≡ x → Stops d a p) (leb (made + size r) (length image)) _ _
+    picked (λ (x : Ran). ran (denied a p) i ≡ x → Stops d a p) (leb (made + size r) (length image)) _ _
     (λ t f. run_stopped d (made + size r) (sets image made (bytes_of r)) f ne)
-    (λ t f. let s : Stop a p ≡ Stop 4 q = ap (λ (x : Ran). x.step) f in absurd (ne (cc))) e
+    (λ t f. let s : denied a p ≡ denied 4 q = ap (λ (x : Ran). x.step) f in absurd (ne (same_answer s))) e
 
 -- ---- what it comes to
 
@@ -266,7 +266,7 @@ unfolding in_room
 settled_stop a p room = refl
 
 -- where there is room
-ended_ran : (d : Due) (m : ℕ) (i b : List ℕ) → take m i ≡ b → m ≡ length b → finished (on_end d (λ n. Next (to n) m) Stop) i ≡ ended d b
+ended_ran : (d : Due) (m : ℕ) (i b : List ℕ) → take m i ≡ b → m ≡ length b → finished (on_end d (λ n. went_to (to n) m) denied) i ≡ ended d b
 ended_ran (end n) m i b e l = rw (e, l)
 ended_ran (stop a p) m i b e l = refl
 ended_ran (seen fact d) m i b e l = ended_ran d m i b e l

@@ -1,10 +1,8 @@
 -- A record told by five numbers: its kind and its fields, in the order in which they lie; a field that it has not is 0.
-use Rattle.std.specs.Prelude.{ℕ, ◌+◌, ◌%◌, ◌^◌, ◌≡◌, List, [], ◌∷◌, length, get_or, leb, eqb}
+use Rattle.std.specs.Prelude.{ℕ, ◌+◌, ◌%◌, ◌^◌, ◌≡◌, List, [], ◌∷◌, length, get_or, leb, eqb, Option, Some, None}
 use Rattle.std.proofs.lemmas.List.Edits.{sets}
 use Rattle.wire.specs.Choice.{pick}
 use Rattle.wire.specs.Field.{equal}
-use Rattle.image.specs.declared.building.Told.{Told}
-use Rattle.image.specs.declared.building.Told.TheVariants.{Is, Bad}
 use Rattle.image.specs.declared.building.Laying.{Laying}
 use Rattle.image.specs.declared.record.Layout.{Layout}
 use Rattle.image.specs.declared.record.Record.{Record}
@@ -51,20 +49,20 @@ holders a b c d =
     ∷ Lso (low 4 a) (low 3 b) (low 2 c)
     ∷ []
 
-abbrev pub of_kind : List Record → ℕ → Told
-of_kind [] k = Bad
-of_kind (r ∷ rs) k = pick (eqb k (layout_of r).kind) (Is r) (of_kind rs k)
+abbrev pub of_kind : List Record → ℕ → Option Record
+of_kind [] k = None
+of_kind (r ∷ rs) k = pick (eqb k (layout_of r).kind) (Some r) (of_kind rs k)
 
 -- the record of a kind, with what its fields hold of these numbers
-unfoldable pub holder_of : (k a b c d : ℕ) → Told
+unfoldable pub holder_of : (k a b c d : ℕ) → Option Record
 holder_of k a b c d = of_kind (holders a b c d) k
 
 -- it is told where the numbers are its own, so that its fields hold them whole
-abbrev pub sure : List ℕ → Told → Told
-sure fs (Is r) = pick (equal (numbers_in (layout_of r)) fs) (Is r) Bad
-sure fs Bad = Bad
+abbrev pub sure : List ℕ → Option Record → Option Record
+sure fs (Some r) = pick (equal (numbers_in (layout_of r)) fs) (Some r) None
+sure fs None = None
 
-unfoldable pub record_of : List ℕ → Told
+unfoldable pub record_of : List ℕ → Option Record
 record_of fs = sure fs (holder_of (get_or fs 0 0) (get_or fs 1 0) (get_or fs 2 0) (get_or fs 3 0) (get_or fs 4 0))
 
 -- ---- the record laid
@@ -78,9 +76,9 @@ abbrev pub putting : (answer made : ℕ) → List ℕ → Put
 putting a m i = record { laying = record { answer = a; made = m }; image = i }
 
 -- behind what is made: no record is 6, no room is 4, and neither changes anything
-abbrev pub laid_of : Told → ℕ → List ℕ → Put
-laid_of (Is r) made image = pick (leb (made + size r) (length image)) (putting 0 (made + size r) (sets image made (bytes_of r))) (putting 4 made image)
-laid_of Bad made image = putting 6 made image
+abbrev pub laid_of : Option Record → ℕ → List ℕ → Put
+laid_of (Some r) made image = pick (leb (made + size r) (length image)) (putting 0 (made + size r) (sets image made (bytes_of r))) (putting 4 made image)
+laid_of None made image = putting 6 made image
 
 unfoldable pub put_of : List ℕ → ℕ → List ℕ → Put
 put_of fs made image = laid_of (record_of fs) made image

@@ -1,13 +1,12 @@
 -- A reading, with no word of room: the records in the order in which they fall due, each with the place that a refusal for room would name, what is seen
 -- besides, and how the reading ends.
-use Rattle.std.specs.Prelude.{ℕ, ◌+◌, ◌≤◌, ◌<◌, ◌≡◌, ◌⊎◌, List, length, leb}
+use Rattle.std.specs.Prelude.{ℕ, ◌+◌, ◌≤◌, ◌<◌, ◌≡◌, ◌⊎◌, List, length, leb, Result, Ok}
 use Rattle.std.proofs.lemmas.List.Edits.{sets}
+use Rattle.wire.specs.Answer.{Verdict, denied}
 use Rattle.wire.specs.Choice.{pick}
 use Rattle.wire.specs.Field.{to}
 use Rattle.wire.specs.declared.cursor.Cursor.{Cursor}
 use Rattle.image.specs.declared.record.Record.{Record}
-use Rattle.image.specs.declared.reading.Step.{Step}
-use Rattle.image.specs.declared.reading.Step.TheVariants.{Next, Stop}
 use Rattle.image.specs.Record.{bytes_of, size, moved, bytes_in, size_in}
 use Rattle.image.specs.declared.record.Layout.{Layout}
 
@@ -78,6 +77,14 @@ on_end (stop a p) f g = g a p
 on_end (seen fact d) f g = on_end d f g
 on_end (due r p d) f g = on_end d f g
 
+-- how a step of a reading ends
+abbrev pub Step : Type 0
+Step = Result (Cursor × ℕ) Verdict
+
+-- it goes on at a cursor, with so many bytes made
+abbrev pub went_to : Cursor → ℕ → Step
+went_to c m = Ok (c, m)
+
 -- how a reading that was carried out went, and the image then
 pub record Ran : Type 0 where
   pub step : Step
@@ -88,19 +95,19 @@ ran x i = record { step = x; image = i }
 
 -- The reading carried out in a room: each record is laid behind what is made, and the first that does not fit refuses the whole with 4.
 unfoldable pub run : Due → ℕ → List ℕ → Ran
-run (end n) made image = ran (Next (to n) made) image
-run (stop a p) made image = ran (Stop a p) image
+run (end n) made image = ran (went_to (to n) made) image
+run (stop a p) made image = ran (denied a p) image
 run (seen fact d) made image = run d made image
 run (due r p d) made image =
     pick (leb (made + size r) (length image))
     (run d (made + size r) (sets image made (bytes_of r)))
-    (ran (Stop 4 p) image)
+    (ran (denied 4 p) image)
 
 -- what lies so is laid behind what is made, or refused at the place p with 4: so one record is carried out, and the reading goes on at n
 unfoldable pub put : Layout → ℕ → ℕ → ℕ → List ℕ → Ran
 put l p n made image =
-    pick (leb (made + size_in l) (length image)) (ran (Next (to n) (made + size_in l)) (sets image made (bytes_in l))) (ran (Stop 4 p) image)
+    pick (leb (made + size_in l) (length image)) (ran (went_to (to n) (made + size_in l)) (sets image made (bytes_in l))) (ran (denied 4 p) image)
 
 -- a step that goes on does so at a place from `low` to `high`, with no more made than there is room
 pub record Within (x : Step) (low high room : ℕ) : Type 0 where
-  pub bounds : (c : Cursor) (m : ℕ) → x ≡ Next c m → (low ≤ c.at) × (c.at ≤ high) × (m ≤ room)
+  pub bounds : (c : Cursor) (m : ℕ) → x ≡ went_to c m → (low ≤ c.at) × (c.at ≤ high) × (m ≤ room)

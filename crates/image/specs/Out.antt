@@ -1,5 +1,6 @@
 -- A writing, with no word of room: the rows of bytes in the order in which they are put out, and how the writing ends.
 use Rattle.std.specs.Prelude.{ℕ, ◌+◌, ◌≤◌, ◌≡◌, List, [], ◌++◌, Bool, false, length, drop, leb}
+use Rattle.wire.specs.Answer.{denied}
 use Rattle.wire.specs.Choice.{pick}
 use Rattle.wire.specs.Bytes.{laid}
 use Rattle.wire.specs.Field.{to}
@@ -7,8 +8,7 @@ use Rattle.wire.specs.Text.{inside_of, part_of}
 use Rattle.wire.specs.Utf8.{utf8}
 use Rattle.wire.specs.Limit as limit
 use Rattle.wire.specs.declared.cursor.Cursor.{Cursor}
-use Rattle.image.specs.declared.reading.Step.{Step}
-use Rattle.image.specs.declared.reading.Step.TheVariants.{Next, Stop}
+use Rattle.image.specs.Due.{Step, went_to}
 use Rattle.image.specs.declared.record.Field.{Field}
 use Rattle.image.specs.declared.writing.Row.{Row}
 use Rattle.image.specs.declared.writing.Writing.{Writing}
@@ -83,13 +83,13 @@ poured x o = record { step = x; out = o }
 
 -- The writing carried out on an output: each row is laid behind what is put out so far, where it has room; the count goes on where it has none.
 unfoldable pub pour : Out → ℕ → List ℕ → Poured
-pour (end n) count out = poured (Next (to n) count) out
-pour (stop a p) count out = poured (Stop a p) out
+pour (end n) count out = poured (went_to (to n) count) out
+pour (stop a p) count out = poured (denied a p) out
 pour (put b d) count out = pour d (count + length b) (laid b count out)
 
 -- a step that goes on does so at a place, with no more than so many bytes put out
 pub record Grown (x : Step) (next high : ℕ) : Type 0 where
-  pub bounds : (c : Cursor) (n : ℕ) → x ≡ Next c n → (c.at ≡ next) × (n ≤ high)
+  pub bounds : (c : Cursor) (n : ℕ) → x ≡ went_to c n → (c.at ≡ next) × (n ≤ high)
 
 -- ---- what a writing comes to
 

@@ -1,35 +1,43 @@
 -- The record at a place of an image: its kind is one of the rule "Tree image" (docs/DEMANDS.md), and its body is whole and right.
-use Rattle.std.specs.Prelude.{ℕ, ◌^◌, ◌<◌, ◌≡◌, List, [], ◌∷◌, Bool, true, false, eqb}
+use Rattle.std.specs.Prelude.{ℕ, ◌^◌, ◌<◌, ◌≡◌, List, [], ◌∷◌, Bool, true, false, eqb, Option, Some, None}
 use Rattle.wire.specs.Choice.{pick}
-use Rattle.wire.specs.Field.{to, u8_at, u16_at, u24_at, u32_at, u64_at, got8, got16, got32, got64, got_text}
-use Rattle.wire.specs.declared.cursor.Text.{Text as Place}
+use Rattle.wire.specs.Field.{to, Parsed, text_to, u8_at, u16_at, u24_at, u32_at, u64_at, got, got_text}
+use Rattle.wire.specs.declared.cursor.Cursor.{Cursor}
+use Rattle.wire.specs.declared.cursor.Span.{Span}
+use Rattle.wire.specs.Answer.{denied}
 use Rattle.image.specs.declared.record.Field.{Field}
 use Rattle.image.specs.declared.record.Record.{Record}
 use Rattle.image.specs.declared.record.Record.TheVariants.{Number, Boolean, Text, Object, Null, Undefined, Reference, EcmaArray, ObjectEnd, StrictArray, Date, Unsupported, Xml, TypedObject, Key, Packet, Header, Message, Lso}
-use Rattle.image.specs.declared.taking.Flag.{Flag}
-use Rattle.image.specs.declared.taking.Taken.{Taken}
-use Rattle.image.specs.declared.taking.Taken.TheVariants.{Found, Bad}
 use Rattle.image.specs.Kind as kind
 use Rattle.image.specs.Record.{layout_of}
 
 -- ---- fields
 
 -- a byte that is 00 or 01
-unfoldable pub flag_at : List ℕ → ℕ → Flag
-flag_at s at =
-    got8 (λ a p. Flag.Bad) (u8_at s at) λ n p. pick (eqb n 0) (Flag.Got false (to p)) (pick (eqb n 1) (Flag.Got true (to p)) Flag.Bad)
+abbrev pub flag_to : Bool → Cursor → Option (Bool × Cursor)
+flag_to b c = Some (b, c)
 
-abbrev pub got_flag : Flag → (Bool → ℕ → Taken) → Taken
-got_flag (Flag.Got b c) k = k b c.at
-got_flag Flag.Bad k = Bad
+unfoldable pub flag_at : List ℕ → ℕ → Option (Bool × Cursor)
+flag_at s at = got (λ a p. None) (u8_at s at) λ n p. pick (eqb n 0) (flag_to false (to p)) (pick (eqb n 1) (flag_to true (to p)) None)
+
+-- a record and the cursor behind it, if a whole and right one stands there
+abbrev pub Taken : Type 0
+Taken = Option (Record × Cursor)
+
+abbrev pub taken_to : Record → Cursor → Taken
+taken_to r c = Some (r, c)
+
+abbrev pub got_flag : Option (Bool × Cursor) → (Bool → ℕ → Taken) → Taken
+got_flag (Some x) k = k x.0 x.1.at
+got_flag None k = None
 
 -- a place and a length of two bytes
-unfoldable pub short_at : List ℕ → ℕ → Place
-short_at s at = got32 Place.Stop (u24_at s at) λ p q. got16 Place.Stop (u16_at s q) λ n e. Place.Got p n (to e)
+unfoldable pub short_at : List ℕ → ℕ → Parsed Span
+short_at s at = got denied (u24_at s at) λ p q. got denied (u16_at s q) λ n e. text_to p n (to e)
 
 -- a place and a length of three bytes
-unfoldable pub long_at : List ℕ → ℕ → Place
-long_at s at = got32 Place.Stop (u24_at s at) λ p q. got32 Place.Stop (u24_at s q) λ n e. Place.Got p n (to e)
+unfoldable pub long_at : List ℕ → ℕ → Parsed Span
+long_at s at = got denied (u24_at s at) λ p q. got denied (u24_at s q) λ n e. text_to p n (to e)
 
 -- ---- bodies
 
@@ -38,20 +46,20 @@ abbrev pub Body : Type 0
 Body = List ℕ → ℕ → Taken
 
 abbrev pub bad : ℕ → ℕ → Taken
-bad a p = Bad
+bad a p = None
 
 abbrev pub found : Record → Body
-found r s at = Found r (to at)
+found r s at = taken_to r (to at)
 
 -- a field, and then the rest of the body
 unfoldable pub u16 : (ℕ → Body) → Body
-u16 k s at = got16 bad (u16_at s at) λ n p. k n s p
+u16 k s at = got bad (u16_at s at) λ n p. k n s p
 
 unfoldable pub u32 : (ℕ → Body) → Body
-u32 k s at = got32 bad (u32_at s at) λ n p. k n s p
+u32 k s at = got bad (u32_at s at) λ n p. k n s p
 
 unfoldable pub u64 : (ℕ → Body) → Body
-u64 k s at = got64 bad (u64_at s at) λ n p. k n s p
+u64 k s at = got bad (u64_at s at) λ n p. k n s p
 
 unfoldable pub flag : (Bool → Body) → Body
 flag k s at = got_flag (flag_at s at) λ b p. k b s p
@@ -68,7 +76,7 @@ zone_fits true z = true
 zone_fits false z = eqb z 0
 
 unfoldable pub zoned : Bool → ℕ → Body → Body
-zoned b z k s at = pick (zone_fits b z) (k s at) Bad
+zoned b z k s at = pick (zone_fits b z) (k s at) None
 
 -- ---- the table
 
@@ -104,7 +112,7 @@ lines =
     ∷ []
 
 abbrev pub body_in : List Line → ℕ → Body
-body_in [] k s at = Bad
+body_in [] k s at = None
 body_in (l ∷ ls) k s at = pick (eqb k l.kind) (l.body s at) (body_in ls k s at)
 
 -- the body of a kind
@@ -112,7 +120,7 @@ unfoldable pub body_at : ℕ → Body
 body_at k s at = body_in lines k s at
 
 unfoldable pub record_at : List ℕ → ℕ → Taken
-record_at s at = got8 bad (u8_at s at) λ k p. body_at k s p
+record_at s at = got bad (u8_at s at) λ k p. body_at k s p
 
 -- ---- the records that can stand in an image
 

@@ -1,11 +1,9 @@
 -- What a reading in a room comes to: the answer, the counts or the place, and every byte of the image.
-use Rattle.std.specs.Prelude.{ℕ, ◌+◌, ◌-◌, List, [], ◌++◌, length, take, replicate, leb, eqb}
+use Rattle.std.specs.Prelude.{ℕ, ◌+◌, ◌-◌, List, [], ◌++◌, length, take, replicate, leb, eqb, Ok, Err}
 use Rattle.wire.specs.Choice.{pick}
 use Rattle.image.specs.declared.reading.Reading.{Reading}
-use Rattle.image.specs.declared.reading.Step.{Step}
-use Rattle.image.specs.declared.reading.Step.TheVariants.{Next, Stop}
 use Rattle.image.specs.Record.{bytes_of, size}
-use Rattle.image.specs.Due.{Due, end, stop, seen, due}
+use Rattle.image.specs.Due.{Due, end, stop, seen, due, Step}
 
 -- the bytes of a reading's records
 unfoldable pub bytes : Due → List ℕ
@@ -48,5 +46,5 @@ padded b room = b ++ replicate (room - length b) 0
 
 -- what the end of a step makes of an image that it left
 abbrev pub finished : Step → List ℕ → Whole
-finished (Next c m) image = record { reading = record { answer = 0; used = c.at; made = m }; bytes = take m image }
-finished (Stop a p) image = refused a p
+finished (Ok x) image = record { reading = record { answer = 0; used = x.0.at; made = x.1 }; bytes = take x.1 image }
+finished (Err r) image = refused r.answer r.place

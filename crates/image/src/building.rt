@@ -5,20 +5,13 @@ ghost use Rattle.wire.specs.Field.{equal};
 ghost use Rattle.image.specs.Building.{low, numbers_in, holder_of, record_of, put_of};
 
 use crate::kind;
-use crate::reading::{Step, put};
+use crate::reading::put;
 use crate::record::{Layout, Record, layout_of};
-use wire::answer::{ACCEPTED, NO_TREE};
+use wire::answer::{ACCEPTED, Answer};
 use wire::cursor::Cursor;
 
-// The record that numbers tell; or they tell none.
-#[derive(Clone, Copy)]
-pub enum Told {
-    Is(Record),
-    Bad,
-}
-
-// What laying a record comes to: the answer, and the image bytes made.
-#[derive(Clone, Copy)]
+// What laying a record comes to: the answer, and the image bytes made. C has these numbers.
+#[derive(Clone, Copy, Debug, PartialEq, Eq)]
 pub struct Laying {
     pub answer: u8,
     pub made: usize,
@@ -51,35 +44,35 @@ fn zone_of(present: bool, n: u64) -> u16
 }
 
 // The record of a kind, with what its fields hold of these numbers.
-fn holder_of(kind: u8, a: u64, b: u64, c: u64, d: u64) -> Told
+fn holder_of(kind: u8, a: u64, b: u64, c: u64, d: u64) -> Option<Record>
     ensures { result ≡ holder_of kind a b c d }
 {
     match kind {
-        kind::NUMBER => Told::Is(Record::Number(a)),
-        kind::BOOLEAN => Told::Is(Record::Boolean(a == 1)),
-        kind::TEXT => Told::Is(Record::Text(low24(a), low24(b))),
-        kind::OBJECT => Told::Is(Record::Object),
-        kind::NULL => Told::Is(Record::Null),
-        kind::UNDEFINED => Told::Is(Record::Undefined),
-        kind::REFERENCE => Told::Is(Record::Reference(low16(a))),
-        kind::ECMA_ARRAY => Told::Is(Record::EcmaArray(low32(a))),
-        kind::OBJECT_END => Told::Is(Record::ObjectEnd),
-        kind::STRICT_ARRAY => Told::Is(Record::StrictArray(low32(a))),
-        kind::DATE => Told::Is(Record::Date(a, b == 1, zone_of(b == 1, c))),
-        kind::UNSUPPORTED => Told::Is(Record::Unsupported),
-        kind::XML => Told::Is(Record::Xml(low24(a), low24(b))),
-        kind::TYPED_OBJECT => Told::Is(Record::TypedObject(low24(a), low16(b) as usize)),
-        kind::KEY => Told::Is(Record::Key(low24(a), low16(b) as usize)),
-        kind::PACKET => Told::Is(Record::Packet(low16(a), low16(b))),
-        kind::HEADER => Told::Is(Record::Header(low24(a), low16(b) as usize, c == 1)),
-        kind::MESSAGE => Told::Is(Record::Message(
+        kind::NUMBER => Some(Record::Number(a)),
+        kind::BOOLEAN => Some(Record::Boolean(a == 1)),
+        kind::TEXT => Some(Record::Text(low24(a), low24(b))),
+        kind::OBJECT => Some(Record::Object),
+        kind::NULL => Some(Record::Null),
+        kind::UNDEFINED => Some(Record::Undefined),
+        kind::REFERENCE => Some(Record::Reference(low16(a))),
+        kind::ECMA_ARRAY => Some(Record::EcmaArray(low32(a))),
+        kind::OBJECT_END => Some(Record::ObjectEnd),
+        kind::STRICT_ARRAY => Some(Record::StrictArray(low32(a))),
+        kind::DATE => Some(Record::Date(a, b == 1, zone_of(b == 1, c))),
+        kind::UNSUPPORTED => Some(Record::Unsupported),
+        kind::XML => Some(Record::Xml(low24(a), low24(b))),
+        kind::TYPED_OBJECT => Some(Record::TypedObject(low24(a), low16(b) as usize)),
+        kind::KEY => Some(Record::Key(low24(a), low16(b) as usize)),
+        kind::PACKET => Some(Record::Packet(low16(a), low16(b))),
+        kind::HEADER => Some(Record::Header(low24(a), low16(b) as usize, c == 1)),
+        kind::MESSAGE => Some(Record::Message(
             low24(a),
             low16(b) as usize,
             low24(c),
             low16(d) as usize,
         )),
-        kind::LSO => Told::Is(Record::Lso(low32(a), low24(b), low16(c) as usize)),
-        _ => Told::Bad,
+        kind::LSO => Some(Record::Lso(low32(a), low24(b), low16(c) as usize)),
+        _ => None,
     }
 }
 
@@ -87,43 +80,27 @@ fn holder_of(kind: u8, a: u64, b: u64, c: u64, d: u64) -> Told
 fn has(l: Layout, kind: u64, a: u64, b: u64, c: u64, d: u64) -> bool
     ensures { result ≡ equal (numbers_in l) (kind ∷ a ∷ b ∷ c ∷ d ∷ []) }
 {
-    if l.kind != kind {
-        return false;
-    }
-    if l.a.number != a {
-        return false;
-    }
-    if l.b.number != b {
-        return false;
-    }
-    if l.c.number != c {
-        return false;
-    }
-    l.d.number == d
+    l.kind == kind && l.a.number == a && l.b.number == b && l.c.number == c && l.d.number == d
 }
 
 // The record that five numbers tell, each by itself: that of their kind, where they are its own.
-fn told_of(kind: u64, a: u64, b: u64, c: u64, d: u64) -> Told
+#[tactic(auto, unfolding(crate::specs::Building::record_of))]
+fn told_of(kind: u64, a: u64, b: u64, c: u64, d: u64) -> Option<Record>
     ensures { result ≡ record_of (kind ∷ a ∷ b ∷ c ∷ d ∷ []) }
 {
     if 255 < kind {
-        return Told::Bad;
+        return None;
     }
-    let t = holder_of(kind as u8, a, b, c, d);
-    match t {
-        Told::Is(r) => {
-            if has(layout_of(r), kind, a, b, c, d) {
-                Told::Is(r)
-            } else {
-                Told::Bad
-            }
-        }
-        Told::Bad => Told::Bad,
+    let r = holder_of(kind as u8, a, b, c, d)?;
+    if has(layout_of(r), kind, a, b, c, d) {
+        Some(r)
+    } else {
+        None
     }
 }
 
 // The same in a row.
-pub fn record_of(fields: [u64; 5]) -> Told
+pub fn record_of(fields: [u64; 5]) -> Option<Record>
     ensures { result ≡ record_of fields }
 {
     told_of(fields[0], fields[1], fields[2], fields[3], fields[4])
@@ -135,19 +112,19 @@ pub fn put_numbers(image: &mut [u8], made: usize, fields: &[u64; 5]) -> Laying
     ensures image_after { image.new ≡ (put_of fields.now made image.old).image }
 {
     match record_of(*fields) {
-        Told::Is(r) => match put(image, made, r, 0, Cursor { at: 0 }) {
-            Step::Next(_, m) => Laying {
+        Some(r) => match put(image, made, r, 0, Cursor { at: 0 }) {
+            Ok((_, m)) => Laying {
                 answer: ACCEPTED,
                 made: m,
             },
-            Step::Stop(a, _) => Laying {
-                answer: a,
-                made: made,
+            Err(x) => Laying {
+                answer: u8::from(x.answer()),
+                made,
             },
         },
-        Told::Bad => Laying {
-            answer: NO_TREE,
-            made: made,
+        None => Laying {
+            answer: u8::from(Answer::NoTree),
+            made,
         },
     }
 }

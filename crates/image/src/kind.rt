@@ -1,4 +1,5 @@
-// The kinds of records, in the order of the rule "Tree image" (docs/DEMANDS.md).
+// The kinds of records, in the order of the rule "Tree image" (docs/DEMANDS.md). They are bytes, since an image is, which C reads and makes too; the enum of what
+// they say is `Record`.
 pub const NUMBER: u8 = 0x00;
 
 pub const BOOLEAN: u8 = 0x01;

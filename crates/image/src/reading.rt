@@ -1,26 +1,22 @@
 // A reading lays its records behind one another, and comes to an answer, two counts and an image.
-ghost use Rattle.std.specs.Prelude.{◌≡◌, ◌+◌, ◌-◌, ◌≤◌, ◌<◌, ◌++◌, length, take, replicate};
+ghost use Rattle.std.specs.Prelude.{◌≡◌, ◌+◌, ◌-◌, ◌≤◌, ◌<◌, ◌++◌, length, take, replicate, []};
 ghost use Rattle.std.proofs.lemmas.List.Edits.{sets};
 ghost use Rattle.image.specs.declared.record.Record.TheVariants.{Key, ObjectEnd};
 ghost use Rattle.image.specs.Record.{field_bytes, lies, none, ◌bytes◌};
 ghost use Rattle.image.specs.Due.{run, ran, due, «end», put, Within};
-ghost use Rattle.image.specs.Whole.{finished, padded};
+ghost use Rattle.image.specs.Whole.{finished, padded, refused};
 
 use crate::kind;
 use crate::record::{Field, Record, bit};
-use wire::answer::{ACCEPTED, NO_ROOM};
+use wire::answer::{ACCEPTED, Answer, Refusal};
 use wire::cursor::Cursor;
 use wire::number::write_number;
 
-// How a step of a reading ends: at a cursor, with so many image bytes made, or refused by an answer at a place.
-#[derive(Clone, Copy)]
-pub enum Step {
-    Next(Cursor, usize),
-    Stop(u8, usize),
-}
+// How a step of a reading ends: at a cursor, with so many image bytes made, or refused.
+pub type Step = Result<(Cursor, usize), Refusal>;
 
-// What a public reading returns: the answer, the bytes used, or on a refusal the place, and the image bytes made.
-#[derive(Clone, Copy)]
+// What a public reading returns: the answer, the bytes used, or on a refusal the place, and the image bytes made. C has these numbers.
+#[derive(Clone, Copy, Debug, PartialEq, Eq)]
 pub struct Reading {
     pub answer: u8,
     pub used: usize,
@@ -38,7 +34,7 @@ pub(crate) fn lay(image: &mut [u8], at: usize, f: Field) -> usize
 }
 
 // Lays a record behind what is made: the reading then goes on at `next`, or is refused at `place`. Each kind's fields have fixed widths, of which the compiler
-// makes the stores of that kind alone.
+// makes the stores of that kind alone: over a `Layout`, by one function for all kinds, reading has more than twice the instructions.
 pub fn put(image: &mut [u8], made: usize, r: Record, place: usize, next: Cursor) -> Step
     ensures image_after { ran result image.new ≡ run (due r place (end next.at)) made image.old }
     ensures within { Within result next.at next.at (length image.old) }
@@ -278,27 +274,38 @@ fn put_four(
     ensures within { Within result next.at next.at (length image.old) }
 {
     if image.len() < made {
-        return Step::Stop(NO_ROOM, place);
+        return Answer::NoRoom.refuse(place);
     }
     if image.len() - made < 1 + v + w + x + y {
-        return Step::Stop(NO_ROOM, place);
+        return Answer::NoRoom.refuse(place);
     }
     write_number(image, made, 1, kind as u64);
     write_number(image, made + 1, v, a);
     write_number(image, made + 1 + v, w, b);
     write_number(image, made + 1 + v + w, x, c);
     write_number(image, made + 1 + v + w + x, y, d);
-    Step::Next(next, made + 1 + v + w + x + y)
+    Ok((next, made + 1 + v + w + x + y))
 }
 
 // Zeros from a place on.
 pub fn clear(image: &mut [u8], from: usize)
     ensures { image.new ≡ take from image.old ++ replicate (length image.old - from) 0 }
 {
-    let mut i = from;
-    while i < image.len() {
-        image[i] = 0;
-        i += 1;
+    if from < image.len() {
+        image[from..].fill(0);
+    }
+}
+
+// A reading that is refused, by an answer's number, at a place: no byte of the image is made.
+pub fn refused(image: &mut [u8], answer: u8, place: usize) -> Reading
+    ensures value { result ≡ (refused answer place).reading }
+    ensures image_after { image.new ≡ padded [] (length image.old) }
+{
+    clear(image, 0);
+    Reading {
+        answer,
+        used: place,
+        made: 0,
     }
 }
 
@@ -308,7 +315,7 @@ pub fn finish(image: &mut [u8], x: Step) -> Reading
     ensures image_after { image.new ≡ padded (finished x image.old).bytes (length image.old) }
 {
     match x {
-        Step::Next(c, made) => {
+        Ok((c, made)) => {
             clear(image, made);
             Reading {
                 answer: ACCEPTED,
@@ -316,13 +323,6 @@ pub fn finish(image: &mut [u8], x: Step) -> Reading
                 made: made,
             }
         }
-        Step::Stop(a, p) => {
-            clear(image, 0);
-            Reading {
-                answer: a,
-                used: p,
-                made: 0,
-            }
-        }
+        Err(r) => refused(image, u8::from(r.answer()), r.place()),
     }
 }

@@ -5,7 +5,7 @@ ghost use Rattle.image.specs.Record.{layout_of, lies, none, bit_of, ◌bytes◌}
 use crate::kind;
 
 // A text is its place in the input and its length.
-#[derive(Clone, Copy)]
+#[derive(Clone, Copy, Debug, PartialEq, Eq)]
 pub enum Record {
     // The eight bytes as they stand.
     Number(u64),
@@ -58,93 +58,106 @@ pub fn bit(b: bool) -> u64
     if b { 1 } else { 0 }
 }
 
-// Four fields, three, two, one, none.
-fn four(kind: u8, v: usize, a: u64, w: usize, b: u64, x: usize, c: u64, y: usize, d: u64) -> Layout
-    ensures { result ≡ lies kind (v bytes a) (w bytes b) (x bytes c) (y bytes d) }
+// A number in so many bytes, and no field.
+fn in_bytes(width: usize, number: u64) -> Field
+    ensures { result ≡ width bytes number }
+{
+    Field { width, number }
+}
+
+const NONE: Field = Field {
+    width: 0,
+    number: 0,
+};
+
+fn lies(kind: u8, a: Field, b: Field, c: Field, d: Field) -> Layout
+    ensures { result ≡ lies kind a b c d }
 {
     Layout {
         kind: kind as u64,
-        a: Field {
-            width: v,
-            number: a,
-        },
-        b: Field {
-            width: w,
-            number: b,
-        },
-        c: Field {
-            width: x,
-            number: c,
-        },
-        d: Field {
-            width: y,
-            number: d,
-        },
+        a,
+        b,
+        c,
+        d,
     }
-}
-
-fn three(kind: u8, v: usize, a: u64, w: usize, b: u64, x: usize, c: u64) -> Layout
-    ensures { result ≡ lies kind (v bytes a) (w bytes b) (x bytes c) none }
-{
-    four(kind, v, a, w, b, x, c, 0, 0)
-}
-
-fn two(kind: u8, v: usize, a: u64, w: usize, b: u64) -> Layout
-    ensures { result ≡ lies kind (v bytes a) (w bytes b) none none }
-{
-    three(kind, v, a, w, b, 0, 0)
-}
-
-fn one(kind: u8, v: usize, a: u64) -> Layout
-    ensures { result ≡ lies kind (v bytes a) none none none }
-{
-    two(kind, v, a, 0, 0)
-}
-
-fn bare(kind: u8) -> Layout
-    ensures { result ≡ lies kind none none none none }
-{
-    one(kind, 0, 0)
 }
 
 pub fn layout_of(r: Record) -> Layout
     ensures { result ≡ layout_of r }
 {
     match r {
-        Record::Number(n) => one(kind::NUMBER, 8, n),
-        Record::Boolean(v) => one(kind::BOOLEAN, 1, bit(v)),
-        Record::Text(p, n) => two(kind::TEXT, 3, p as u64, 3, n as u64),
-        Record::Object => bare(kind::OBJECT),
-        Record::Null => bare(kind::NULL),
-        Record::Undefined => bare(kind::UNDEFINED),
-        Record::Reference(n) => one(kind::REFERENCE, 2, n as u64),
-        Record::EcmaArray(n) => one(kind::ECMA_ARRAY, 4, n as u64),
-        Record::ObjectEnd => bare(kind::OBJECT_END),
-        Record::StrictArray(n) => one(kind::STRICT_ARRAY, 4, n as u64),
-        Record::Date(n, present, zone) => three(kind::DATE, 8, n, 1, bit(present), 2, zone as u64),
-        Record::Unsupported => bare(kind::UNSUPPORTED),
-        Record::Xml(p, n) => two(kind::XML, 3, p as u64, 3, n as u64),
-        Record::TypedObject(p, n) => two(kind::TYPED_OBJECT, 3, p as u64, 2, n as u64),
-        Record::Key(p, n) => two(kind::KEY, 3, p as u64, 2, n as u64),
-        Record::Packet(headers, messages) => two(
+        Record::Number(n) => lies(kind::NUMBER, in_bytes(8, n), NONE, NONE, NONE),
+        Record::Boolean(v) => lies(kind::BOOLEAN, in_bytes(1, bit(v)), NONE, NONE, NONE),
+        Record::Text(p, n) => lies(
+            kind::TEXT,
+            in_bytes(3, p as u64),
+            in_bytes(3, n as u64),
+            NONE,
+            NONE,
+        ),
+        Record::Object => lies(kind::OBJECT, NONE, NONE, NONE, NONE),
+        Record::Null => lies(kind::NULL, NONE, NONE, NONE, NONE),
+        Record::Undefined => lies(kind::UNDEFINED, NONE, NONE, NONE, NONE),
+        Record::Reference(n) => lies(kind::REFERENCE, in_bytes(2, n as u64), NONE, NONE, NONE),
+        Record::EcmaArray(n) => lies(kind::ECMA_ARRAY, in_bytes(4, n as u64), NONE, NONE, NONE),
+        Record::ObjectEnd => lies(kind::OBJECT_END, NONE, NONE, NONE, NONE),
+        Record::StrictArray(n) => lies(kind::STRICT_ARRAY, in_bytes(4, n as u64), NONE, NONE, NONE),
+        Record::Date(n, present, zone) => lies(
+            kind::DATE,
+            in_bytes(8, n),
+            in_bytes(1, bit(present)),
+            in_bytes(2, zone as u64),
+            NONE,
+        ),
+        Record::Unsupported => lies(kind::UNSUPPORTED, NONE, NONE, NONE, NONE),
+        Record::Xml(p, n) => lies(
+            kind::XML,
+            in_bytes(3, p as u64),
+            in_bytes(3, n as u64),
+            NONE,
+            NONE,
+        ),
+        Record::TypedObject(p, n) => lies(
+            kind::TYPED_OBJECT,
+            in_bytes(3, p as u64),
+            in_bytes(2, n as u64),
+            NONE,
+            NONE,
+        ),
+        Record::Key(p, n) => lies(
+            kind::KEY,
+            in_bytes(3, p as u64),
+            in_bytes(2, n as u64),
+            NONE,
+            NONE,
+        ),
+        Record::Packet(headers, messages) => lies(
             kind::PACKET,
-            2,
-            headers as u64,
-            2,
-            messages as u64,
+            in_bytes(2, headers as u64),
+            in_bytes(2, messages as u64),
+            NONE,
+            NONE,
         ),
-        Record::Header(p, n, flag) => three(kind::HEADER, 3, p as u64, 2, n as u64, 1, bit(flag)),
-        Record::Message(p, n, q, m) => four(
+        Record::Header(p, n, flag) => lies(
+            kind::HEADER,
+            in_bytes(3, p as u64),
+            in_bytes(2, n as u64),
+            in_bytes(1, bit(flag)),
+            NONE,
+        ),
+        Record::Message(p, n, q, m) => lies(
             kind::MESSAGE,
-            3,
-            p as u64,
-            2,
-            n as u64,
-            3,
-            q as u64,
-            2,
-            m as u64,
+            in_bytes(3, p as u64),
+            in_bytes(2, n as u64),
+            in_bytes(3, q as u64),
+            in_bytes(2, m as u64),
         ),
-        Record::Lso(stored, p, n) => three(kind::LSO, 4, stored as u64, 3, p as u64, 2, n as u64),
+        Record::Lso(stored, p, n) => lies(
+            kind::LSO,
+            in_bytes(4, stored as u64),
+            in_bytes(3, p as u64),
+            in_bytes(2, n as u64),
+            NONE,
+        ),
     }
 }

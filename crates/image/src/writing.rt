@@ -1,12 +1,13 @@
 // A writing puts rows of bytes behind one another, each made of a record of an image and of the text that it names.
 ghost use Rattle.std.specs.Prelude.{◌≡◌, ℕ, ◌+◌, ◌≤◌, List, length};
 ghost use Rattle.image.specs.Out.{pour, poured, «end», row_in, row_of, named_at, row_bytes, number_bytes, Grown};
+ghost use Rattle.wire.specs.Answer.{number_of};
 ghost use Rattle.wire.specs.Bytes.{laid};
 ghost use Rattle.image.specs.Record.{◌bytes◌, none};
 
 use crate::reading::{Step, lay};
 use crate::record::Field;
-use wire::answer::{NO_TREE, OVER_LIMIT};
+use wire::answer::Answer;
 use wire::bytes::write_bytes;
 use wire::cursor::Cursor;
 use wire::number::write_number;
@@ -26,14 +27,14 @@ pub struct Row {
     pub length: usize,
 }
 
-// What a public writing returns.
-#[derive(Clone, Copy)]
+// What a public writing returns. C has these numbers.
+#[derive(Clone, Copy, Debug, PartialEq, Eq)]
 pub struct Writing {
     pub answer: u8,
     pub count: usize,
 }
 
-// A writing that is refused.
+// A writing that is refused, by an answer's number, and by an answer.
 pub fn refused(a: u8) -> Writing
     ensures { result ≡ record { answer = a; count = 0 } }
 {
@@ -43,18 +44,17 @@ pub fn refused(a: u8) -> Writing
     }
 }
 
+pub fn refused_by(a: Answer) -> Writing
+    ensures { result ≡ record { answer = number_of a; count = 0 } }
+{
+    refused(u8::from(a))
+}
+
 // Whether a text stands in the lent one and is UTF-8.
 fn named(text: &[u8], place: usize, n: usize) -> bool
     ensures { result ≡ named_at text.now place n }
 {
-    if inside(text, place, n) {
-        if n == 0 {
-            return true;
-        }
-        is_utf8(part(text, place, n))
-    } else {
-        false
-    }
+    inside(text, place, n) && (n == 0 || is_utf8(part(text, place, n)))
 }
 
 // Lays a row whose text is named, all of it or none.
@@ -79,26 +79,26 @@ pub fn emit(out: &mut [u8], text: &[u8], count: usize, r: Row, place: usize, nex
     ensures grown { Grown result next.at (count + 24 + length text.now) }
 {
     if MOST < count {
-        return Step::Stop(OVER_LIMIT, 0);
+        return Answer::OverLimit.refuse(0);
     }
     let mark = r.mark;
     let a = r.a;
     let b = r.b;
     if 8 < mark.width {
-        return Step::Stop(OVER_LIMIT, 0);
+        return Answer::OverLimit.refuse(0);
     }
     if 8 < a.width {
-        return Step::Stop(OVER_LIMIT, 0);
+        return Answer::OverLimit.refuse(0);
     }
     if 8 < b.width {
-        return Step::Stop(OVER_LIMIT, 0);
+        return Answer::OverLimit.refuse(0);
     }
     if named(text, r.place, r.length) {
         let size = mark.width + a.width + b.width + r.length;
         lay_row(out, text, count, size, r);
-        Step::Next(next, count + size)
+        Ok((next, count + size))
     } else {
-        Step::Stop(NO_TREE, place)
+        Answer::NoTree.refuse(place)
     }
 }
 
@@ -133,19 +133,19 @@ pub fn emit_numbers(
     ensures grown { Grown result next.at (count + 24) }
 {
     if MOST < count {
-        return Step::Stop(OVER_LIMIT, 0);
+        return Answer::OverLimit.refuse(0);
     }
     if 8 < u {
-        return Step::Stop(OVER_LIMIT, 0);
+        return Answer::OverLimit.refuse(0);
     }
     if 8 < v {
-        return Step::Stop(OVER_LIMIT, 0);
+        return Answer::OverLimit.refuse(0);
     }
     if 8 < w {
-        return Step::Stop(OVER_LIMIT, 0);
+        return Answer::OverLimit.refuse(0);
     }
     lay_numbers(out, count, u, l, v, m, w, n);
-    Step::Next(next, count + u + v + w)
+    Ok((next, count + u + v + w))
 }
 
 // Lays a marker, a length and its text, all of it or none.
@@ -188,18 +188,18 @@ pub fn emit_text(
     ensures grown { Grown result next.at (count + 24 + length text.now) }
 {
     if MOST < count {
-        return Step::Stop(OVER_LIMIT, 0);
+        return Answer::OverLimit.refuse(0);
     }
     if 8 < v {
-        return Step::Stop(OVER_LIMIT, 0);
+        return Answer::OverLimit.refuse(0);
     }
     if 8 < w {
-        return Step::Stop(OVER_LIMIT, 0);
+        return Answer::OverLimit.refuse(0);
     }
     if named(text, place, n) {
         lay_text(out, text, count, v, mark, w, place, n);
-        Step::Next(next, count + v + w + n)
+        Ok((next, count + v + w + n))
     } else {
-        Step::Stop(NO_TREE, at)
+        Answer::NoTree.refuse(at)
     }
 }

@@ -1,7 +1,6 @@
 pub mod Rows
 pub mod Sorting
 pub mod Ordering
-pub mod Others
 pub mod Walking
 pub mod Finding
 pub mod Making

@@ -1,5 +1,5 @@
 -- How the code makes an index.
-use Rattle.std.specs.Prelude.{◌+◌, ◌-◌, ◌*◌, ◌/◌, ◌≤◌, ◌<◌, ◌≡◌, ◌∷◌, ◌++◌}
+use Rattle.std.specs.Prelude.{◌+◌, ◌-◌, ◌*◌, ◌/◌, ◌≤◌, ◌<◌, ◌≡◌, ◌∷◌, ◌++◌, Some, None}
 use Rattle.wire.proofs.Kit.{ℕ, zero, suc, refl, sym, ap, ◌∙◌, List, [], zero-add, arith, length, get_or, take, drop}
 use Rattle.wire.proofs.Kit.{replicate, drop-cons, drop-drop, drop-append-le, take-append-le, take-append-drop, take_at, length-take-le, length-drop, le-leb, lt-leb}
 use lib.Seq.{take-add}
@@ -7,24 +7,22 @@ use Rattle.wire.specs.Number.{digits, number, Bytes}
 use Rattle.wire.specs.Field.{bytes_at}
 use Rattle.wire.specs.Limit as limit
 use Rattle.wire.specs.declared.cursor.Cursor.{Cursor}
-use Rattle.wire.proofs.Laws.{picked, digits_number, number_one}
+use Rattle.wire.proofs.Laws.{picked, same_answer, digits_number, number_one}
 use Rattle.wire.proofs.Stands.{stood, bytes_here, length_bytes}
-use Rattle.image.specs.declared.reading.Step.TheVariants.{Next, Stop}
-use Rattle.image.specs.declared.taking.Taken.{Taken}
-use Rattle.image.specs.declared.taking.Taken.TheVariants.{Found, Bad}
-use Rattle.image.specs.Taking.{record_at}
+use Rattle.image.specs.Taking.{Taken, record_at}
+use Rattle.image.specs.Due.{went_to}
+use Rattle.wire.specs.Answer.{denied}
 use Rattle.image.specs.Out.{Out, end, stop, put, named_at, Poured, poured, pour, bytes as bytes_out}
 use Rattle.image.specs.Whole.{padded}
 use Rattle.image.proofs.Pouring.{went}
 use Rattle.amf0.proofs.Putting.{past, known_bytes}
 use Rattle.index.specs.declared.walk.Rest.{Rest}
 use Rattle.index.specs.declared.walk.Role.{Role}
-use Rattle.index.specs.declared.walk.Begun.{Begun}
 use Rattle.index.specs.declared.mark.Mark.{Mark}
 use Rattle.index.specs.Mark.{mark_at, mark_bytes, flat, rows_at, rows}
 use Rattle.index.specs.Order.{before}
 use Rattle.index.specs.Sort.{Shuffled, Sorted}
-use Rattle.index.specs.Keys.{role_of}
+use Rattle.index.specs.Keys.{role_of, Begun, begun_to}
 use Rattle.index.specs.Index.{root_by, root_in, root_of, keys_of, Indexed, unindexed, keyed, unless, index_of, Holds}
 use Rattle.index.proofs.Rows.{clash}
 
@@ -32,8 +30,8 @@ use Rattle.index.proofs.Rows.{clash}
 
 module _ (image text : List ℕ) (h : (i : ℕ) → get_or image i 0 < 256) where
   abbrev Inside : Begun → Type 0
-  Inside (Begun.Next c f) = c.at ≤ length image
-  Inside Begun.Stop = Unit {0}
+  Inside (Some x) = x.0.at ≤ length image
+  Inside None = Unit {0}
 
   root_inside : Inside (root_of image text)
   unfolding root_of
@@ -47,10 +45,10 @@ module _ (image text : List ℕ) (h : (i : ℕ) → get_or image i 0 < 256) wher
       by Role.Other d s = omega arith
 
       go : (t : Taken) → record_at image 0 ≡ t → Inside (root_in text t)
-      go (Found r d) g = by (role_of r) d (past image h 0 {r = r} {c = d} g).fits
-      go Bad g = omega arith
+      go (Some x) g = by (role_of x.0) x.1 (past image h 0 {r = x.0} {c = x.1} g).fits
+      go None g = omega arith
 
-  pub root_fits : (c : Cursor) (f : Rest) → root_of image text ≡ Begun.Next c f → c.at ≤ length image
+  pub root_fits : (c : Cursor) (f : Rest) → root_of image text ≡ begun_to c f → c.at ≤ length image
   root_fits c f e = rw e at root_inside
 
 -- ---- marks in bytes
@@ -104,16 +102,16 @@ flat_rows (suc n) at s b h =
 
 -- ---- the answer
 
-unless_went : (d : Out) (x : Indexed) (count : ℕ) (out : List ℕ) {c : Cursor} {n : ℕ} {o : List ℕ} → poured (Next c n) o ≡ pour d count out → unless d x ≡ x
+unless_went : (d : Out) (x : Indexed) (count : ℕ) (out : List ℕ) {c : Cursor} {n : ℕ} {o : List ℕ} → poured (went_to c n) o ≡ pour d count out → unless d x ≡ x
 unfolding pour unless
 unless_went (end m) x count out e = refl
 unless_went (stop a p) x count out e = let s = ap (λ (y : Poured). y.step) e in absurd (clash (cc))
 unless_went (put b d) x count out e = unless_went d x (count + length b) _ e
 
-unless_halt : (d : Out) (x : Indexed) (count : ℕ) (out : List ℕ) {a p : ℕ} {o : List ℕ} → poured (Stop a p) o ≡ pour d count out → unless d x ≡ unindexed a
+unless_halt : (d : Out) (x : Indexed) (count : ℕ) (out : List ℕ) {a p : ℕ} {o : List ℕ} → poured (denied a p) o ≡ pour d count out → unless d x ≡ unindexed a
 unfolding pour unless
 unless_halt (end m) x count out e = let s = ap (λ (y : Poured). y.step) e in absurd (clash (cc))
-unless_halt (stop w q) x count out {a} e = let s = ap (λ (y : Poured). y.step) e in let f : w ≡ a = cc in rw f
+unless_halt (stop w q) x count out {a} e = rw (sym (same_answer (ap (λ (y : Poured). y.step) e)))
 unless_halt (put b d) x count out e = unless_halt d x (count + length b) _ e
 
 module _ (image text : List ℕ) (room : ℕ) where
@@ -125,10 +123,10 @@ module _ (image text : List ℕ) (room : ℕ) where
     image_over h = rw (le-leb (length text) limit.bytes t, lt-leb (length image) limit.image h)
 
     module _ (i : length image ≤ limit.image) where
-      pub stopped : (out : List ℕ) {a p : ℕ} {o : List ℕ} → poured (Stop a p) o ≡ pour (keys_of image text) 0 out → index_of image text room ≡ unindexed a
+      pub stopped : (out : List ℕ) {a p : ℕ} {o : List ℕ} → poured (denied a p) o ≡ pour (keys_of image text) 0 out → index_of image text room ≡ unindexed a
       stopped out e = rw (le-leb (length text) limit.bytes t, le-leb (length image) limit.image i) (unless_halt (keys_of image text) _ 0 out e)
 
-      module _ (out : List ℕ) {c : Cursor} {n : ℕ} {o : List ℕ} (e : poured (Next c n) o ≡ pour (keys_of image text) 0 out) where
+      module _ (out : List ℕ) {c : Cursor} {n : ℕ} {o : List ℕ} (e : poured (went_to c n) o ≡ pour (keys_of image text) 0 out) where
         pub counted : n ≡ length (bytes_out (keys_of image text))
         counted = (went (keys_of image text) 0 out e).size ∙ zero-add (length (bytes_out (keys_of image text)))
 
@@ -148,9 +146,11 @@ pub held : (image text index : List ℕ) {x y : Indexed} → x ≡ y → Holds i
 held image text index e h = rw e h
 
 -- after a refusal: nothing
-pub emptied : (image text index : List ℕ) (room : ℕ) → length index ≡ room → index ≡ padded [] room → Holds image text [] index
-emptied image text index room n e =
-    record { row = []; sorted = record { same = Shuffled.none; rising = λ k h. absurd (omega arith) }; bytes = e ∙ ap (λ (k : ℕ). padded [] k) (sym n) }
+pub nothing_held : (image text index : List ℕ) (room size : ℕ) {a : ℕ} → index_of image text room ≡ unindexed a → length index ≡ size → index ≡ padded [] size
+    → Holds image text (index_of image text room).keys index
+nothing_held image text index room size e n b =
+    held image text index e
+    record { row = []; sorted = record { same = Shuffled.none; rising = λ k h. absurd (omega arith) }; bytes = b ∙ ap (λ (k : ℕ). padded [] k) (sym n) }
 
 -- what is sorted and then cleared behind
 pub made : (image text b r o s index : List ℕ) (k : ℕ) → k ≡ length b / 13 → o ≡ b ++ r → ((i : ℕ) → get_or index i 0 < 256) → 13 * k ≤ length s

@@ -1,42 +1,16 @@
 -- The order of the marks is total.
-use Rattle.std.specs.Prelude.{◌+◌, ◌≤◌, ◌<◌, ◌≡◌, ◌∷◌, ◌++◌, ◌⊎◌}
-use Rattle.wire.proofs.Kit.{ℕ, suc, refl, sym, ap, ◌∙◌, List, [], map, Bool, true, false, inl, inr, ⊎_elim, add-one, arith}
-use Rattle.wire.proofs.Kit.{ltb, length, get_or, drop, drop_of_length-le, drop-cons, lt-ltb, le-ltb, ltb-true, ltb-false}
+use Rattle.std.specs.Prelude.{◌≤◌, ◌<◌, ◌≡◌, ◌∷◌, ◌++◌, ◌⊎◌, nat_eq, Some}
+use Rattle.wire.proofs.Kit.{ℕ, suc, refl, sym, ap, ◌∙◌, List, [], map, Bool, true, false, inl, inr, ⊎_elim, arith}
+use Rattle.wire.proofs.Kit.{ltb, lt-ltb, le-ltb, eq-eqb, ne_eqb, ltb-true, ltb-false}
+use Rattle.std.specs.declared.cmp.Ordering.{Ordering}
+use Rattle.std.specs.declared.cmp.Ordering.TheVariants.{Less, Equal, Greater}
+use Rattle.std.specs.Ordering.{nat_cmp, is_eq, is_lt, is_some_and, partial_ordering_then}
+use Rattle.std.specs.Cmp.Lexicographic.{slice_cmp, pointwise}
 use Rattle.wire.proofs.Laws.{false_true}
 use Rattle.index.specs.declared.mark.Mark.{Mark}
-use Rattle.index.specs.declared.order.Order.{Order}
-use Rattle.index.specs.declared.order.Order.TheVariants.{Less, Same, More}
 use Rattle.index.specs.Order.{order_of, key_of, lower, rank, before}
 use Rattle.index.proofs.Rows.{mark_means}
 use Rattle.index.proofs.Sorting.{Total}
-
--- ---- two texts, byte by byte
-
-module _ (a b : List ℕ) (i : ℕ) where
-  pub order_over : i < length a → length b ≤ i → order_of (drop i a) (drop i b) ≡ More
-  unfolding order_of
-  order_over h g = rw (drop-cons a i 0 h, drop_of_length-le b g)
-
-  pub order_under : length a ≤ i → i < length b → order_of (drop i a) (drop i b) ≡ Less
-  unfolding order_of
-  order_under h g = rw (drop_of_length-le a h, drop-cons b i 0 g)
-
-  pub order_ends : length a ≤ i → length b ≤ i → order_of (drop i a) (drop i b) ≡ Same
-  unfolding order_of
-  order_ends h g = rw (drop_of_length-le a h, drop_of_length-le b g)
-
-  module _ (h : i < length a) (g : i < length b) where
-    pub order_less : get_or a i 0 < get_or b i 0 → order_of (drop i a) (drop i b) ≡ Less
-    unfolding order_of
-    order_less l = rw (drop-cons a i 0 h, drop-cons b i 0 g, lt-ltb _ _ l)
-
-    pub order_more : get_or b i 0 < get_or a i 0 → order_of (drop i a) (drop i b) ≡ More
-    unfolding order_of
-    order_more l = rw (drop-cons a i 0 h, drop-cons b i 0 g, le-ltb (get_or a i 0) (get_or b i 0) (omega arith), lt-ltb _ _ l)
-
-    pub order_next : get_or b i 0 ≤ get_or a i 0 → get_or a i 0 ≤ get_or b i 0 → order_of (drop i a) (drop i b) ≡ order_of (drop (i + 1) a) (drop (i + 1) b)
-    unfolding order_of
-    order_next l m = rw (drop-cons a i 0 h, drop-cons b i 0 g, le-ltb (get_or a i 0) (get_or b i 0) l, le-ltb (get_or b i 0) (get_or a i 0) m, add-one i)
 
 -- ---- rows of numbers
 
@@ -47,6 +21,28 @@ three x y = go (ltb x y) refl (ltb y x) refl
     go true h u g = inl (ltb-true x y h)
     go false h true g = inr (inr (ltb-true y x g))
     go false h false g = inr (inl (omega (arith, ltb-false x y h, ltb-false y x g)))
+
+-- two texts are in the order that std's comparison answers
+pub cmp_order : (a b : List ℕ) → slice_cmp nat_cmp a b ≡ order_of a b
+unfolding order_of
+cmp_order [] [] = refl
+cmp_order [] (y ∷ b) = refl
+cmp_order (x ∷ a) [] = refl
+cmp_order (x ∷ a) (y ∷ b) =
+    ⊎_elim (λ l. rw (lt-ltb x y l))
+    (λ q. ⊎_elim (λ e. rw (e, le-ltb y y (omega arith), eq-eqb y y refl) (cmp_order a b)) (λ l. rw (le-ltb x y (omega arith), lt-ltb y x l, ne_eqb x y (λ e. omega arith))) q)
+    (three x y)
+
+-- and they are the same where std finds them equal
+pub eq_order : (a b : List ℕ) → pointwise nat_eq a b ≡ is_eq (order_of a b)
+unfolding order_of
+eq_order [] [] = refl
+eq_order [] (y ∷ b) = refl
+eq_order (x ∷ a) [] = refl
+eq_order (x ∷ a) (y ∷ b) =
+    ⊎_elim (λ l. rw (lt-ltb x y l, ne_eqb x y (λ e. omega arith)))
+    (λ q. ⊎_elim (λ e. rw (e, le-ltb y y (omega arith), eq-eqb y y refl) (eq_order a b)) (λ l. rw (le-ltb x y (omega arith), lt-ltb y x l, ne_eqb x y (λ e. omega arith))) q)
+    (three x y)
 
 module _ (x y : ℕ) (xs ys : List ℕ) where
   pub lower_lt : x < y → lower (x ∷ xs) (y ∷ ys) ≡ true
@@ -111,10 +107,10 @@ ended_means [] (y ∷ u) r s e = let z : 0 ≡ suc y = cc in absurd (omega arith
 ended_means (x ∷ t) [] r s e = let z : suc x ≡ 0 = cc in absurd (omega arith)
 ended_means (x ∷ t) (y ∷ u) r s e = ended_means t u r s (cc)
 
-abbrev pub by_order : Order → Bool → Bool
+abbrev pub by_order : Ordering → Bool → Bool
 by_order Less t = true
-by_order Same t = t
-by_order More t = false
+by_order Equal t = t
+by_order Greater t = false
 
 pub lower_text : (t u r s : List ℕ) → lower (ended t r) (ended u s) ≡ by_order (order_of t u) (lower r s)
 unfolding order_of
@@ -153,31 +149,41 @@ lower_differs x y xs ys n =
     (λ q. ⊎_elim (λ e. absurd (n e)) (λ l. le-ltb x y (omega arith) ∙ sym (lower_gt x y xs ys l)) q)
     (three x y)
 
-lower_last : (x y : ℕ) → ltb x y ≡ lower (x ∷ []) (y ∷ [])
-unfolding lower
-lower_last x y =
-    ⊎_elim (λ l. lt-ltb x y l ∙ sym (lower_lt x y [] [] l))
-    (λ q. ⊎_elim (λ e. le-ltb x y (omega arith) ∙ sym (lower_eq x y [] [] e)) (λ l. le-ltb x y (omega arith) ∙ sym (lower_gt x y [] [] l)) q)
-    (three x y)
+-- numbers as std compares them, the first that differ first
+module _ (k v d l w e : ℕ) where
+  ranked1 : is_lt (nat_cmp d e) ≡ lower (d ∷ []) (e ∷ [])
+  unfolding lower
+  ranked1 =
+      ⊎_elim (λ h. rw (lt-ltb d e h))
+      (λ q. ⊎_elim (λ h. rw (h, le-ltb e e (omega arith), eq-eqb e e refl)) (λ h. rw (le-ltb d e (omega arith), lt-ltb e d h, ne_eqb d e (λ q. omega arith))) q)
+      (three d e)
+
+  ranked2 : is_some_and is_lt (partial_ordering_then (Some (nat_cmp v w)) (Some (nat_cmp d e))) ≡ lower (v ∷ d ∷ []) (w ∷ e ∷ [])
+  unfolding lower
+  ranked2 =
+      ⊎_elim (λ h. rw (lt-ltb v w h))
+      (λ q. ⊎_elim (λ h. rw (h, le-ltb w w (omega arith), eq-eqb w w refl) ranked1) (λ h. rw (le-ltb v w (omega arith), lt-ltb w v h, ne_eqb v w (λ q. omega arith))) q)
+      (three v w)
+
+  lower_three : is_some_and is_lt (partial_ordering_then (partial_ordering_then (Some (nat_cmp k l)) (Some (nat_cmp v w))) (Some (nat_cmp d e))) ≡ lower (k ∷ v ∷ d ∷ []) (l ∷ w ∷ e ∷ [])
+  unfolding lower
+  lower_three =
+      ⊎_elim (λ h. rw (lt-ltb k l h))
+      (λ q. ⊎_elim (λ h. rw (h, le-ltb l l (omega arith), eq-eqb l l refl) ranked2) (λ h. rw (le-ltb k l (omega arith), lt-ltb l k h, ne_eqb k l (λ q. omega arith))) q)
+      (three k l)
 
 module _ (image text : List ℕ) (a b : Mark) where
   pub by_container : (a.container ≡ b.container → ⊥) → ltb a.container b.container ≡ before image text a b
   unfolding before rank
   by_container n = lower_differs a.container b.container _ _ n
 
-  module _ (same : a.container ≡ b.container) (o : Order) (x y : List ℕ) (at_a : x ≡ key_of image text a.key) (at_b : y ≡ key_of image text b.key) (e : o ≡ order_of x y) where
+  module _ (same : a.container ≡ b.container) (o : Ordering) (x y : List ℕ) (at_a : x ≡ key_of image text a.key) (at_b : y ≡ key_of image text b.key) (e : o ≡ order_of x y) where
     pub by_key : by_order o (lower (a.key ∷ a.value ∷ a.depth ∷ []) (b.key ∷ b.value ∷ b.depth ∷ [])) ≡ before image text a b
     unfolding before rank
     by_key =
         rw (e, at_a, at_b)
         (sym (lower_eq a.container b.container _ _ same ∙ lower_text (key_of image text a.key) (key_of image text b.key) _ _))
 
-    module _ (s : o ≡ Same) where
-      pub by_place : (a.key ≡ b.key → ⊥) → ltb a.key b.key ≡ before image text a b
-      by_place n = lower_differs a.key b.key _ _ n ∙ (rw s at by_key)
-
-      pub by_value : a.key ≡ b.key → (a.value ≡ b.value → ⊥) → ltb a.value b.value ≡ before image text a b
-      by_value k n = lower_differs a.value b.value _ _ n ∙ sym (lower_eq a.key b.key _ _ k) ∙ (rw s at by_key)
-
-      pub by_depth : a.key ≡ b.key → a.value ≡ b.value → ltb a.depth b.depth ≡ before image text a b
-      by_depth k v = lower_last a.depth b.depth ∙ sym (lower_eq a.value b.value _ _ v) ∙ sym (lower_eq a.key b.key _ _ k) ∙ (rw s at by_key)
+    -- the rest of the rank tells apart two of one text
+    pub by_rest : o ≡ Equal → is_some_and is_lt (partial_ordering_then (partial_ordering_then (Some (nat_cmp a.key b.key)) (Some (nat_cmp a.value b.value))) (Some (nat_cmp a.depth b.depth))) ≡ before image text a b
+    by_rest s = lower_three a.key a.value a.depth b.key b.value b.depth ∙ (rw s at by_key)

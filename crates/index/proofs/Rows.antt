@@ -1,42 +1,22 @@
 -- Marks in bytes: what stands there after a store.
-use Rattle.std.specs.Prelude.{◌+◌, ◌-◌, ◌*◌, ◌/◌, ◌%◌, ◌≤◌, ◌<◌, ◌≡◌, ◌∷◌, ◌++◌, ◌⊎◌}
-use Rattle.wire.proofs.Kit.{ℕ, zero, suc, refl, sym, ap, ◌∙◌, List, [], append_assoc, inl, inr, ⊎_elim}
-use Rattle.wire.proofs.Kit.{towards_suc, arith, Bool, true, false, eqb-true, eqb-false, ltb-true, ltb-false, eqb, ltb, length, get_or, take, drop, set}
-use Rattle.wire.proofs.Kit.{length-set, length-drop, take-append-drop, sets, sets-eq, drop-cons, drop-drop, drop-append-le, drop_at, take-append-le}
+use Rattle.std.specs.Prelude.{◌+◌, ◌-◌, ◌*◌, ◌≤◌, ◌<◌, ◌≡◌, ◌++◌, ◌⊎◌}
+use Rattle.wire.proofs.Kit.{ℕ, zero, suc, refl, sym, ap, ◌∙◌, List, append_assoc, inl, inr, ⊎_elim}
+use Rattle.wire.proofs.Kit.{arith, Bool, true, false, eqb-true, eqb-false, ltb-true, ltb-false, eqb, ltb, length, get_or, take, drop, set}
+use Rattle.wire.proofs.Kit.{length-set, length-drop, take-append-drop, sets, sets-eq, drop-drop, drop-append-le, drop_at, take-append-le}
 use Rattle.wire.proofs.Kit.{length-take-le}
+use borrow.Rule.Slice.PartMut.{put_mid}
 use lib.Seq.{get_or-set_same, get_or-set_other, ext_get_or}
-use Rattle.wire.specs.Number.{digits, number}
+use Rattle.wire.specs.Number.{number}
 use Rattle.wire.specs.Field.{bytes_at}
-use Rattle.wire.proofs.Laws.{then_sets, number_digits}
+use Rattle.wire.proofs.Laws.{number_digits}
 use Rattle.index.specs.declared.mark.Mark.{Mark}
 use Rattle.index.specs.Mark.{mark_at, mark_bytes, Small, rows_at, rows, nothing}
 
--- ---- loads and stores
+-- ---- a store
 
-pub bytes4 : (s : List ℕ) (at : ℕ) → at + 4 ≤ length s
-    → bytes_at 4 s at ≡ get_or s at 0 ∷ get_or s (at + 1) 0 ∷ get_or s (at + 2) 0 ∷ get_or s (at + 3) 0 ∷ []
-bytes4 s at h =
-    simp towards_suc
-    (rw (drop-cons s at 0 (omega arith), drop-cons s (suc at) 0 (omega arith), drop-cons s (suc (suc at)) 0 (omega arith), drop-cons s (suc (suc (suc at))) 0 (omega arith)) refl)
-
--- four bytes loaded the lowest first, and turned round
-pub turned : (a b c d n : ℕ) → a < 256 → b < 256 → c < 256 → d < 256 → n ≡ a + b * 256 + c * 65536 + d * 16777216
-    → n % 256 * 16777216 + n / 256 % 256 * 65536 + n / 65536 % 256 * 256 + n / 16777216 ≡ number (a ∷ b ∷ c ∷ d ∷ [])
-turned a b c d n p q r s e =
-    let w : n % 256 ≡ a = omega arith in
-    let m : n / 256 ≡ b + c * 256 + d * 65536 = omega arith in
-    let x : n / 256 % 256 ≡ b = rw m (omega arith) in
-    let l : n / 65536 ≡ c + d * 256 = omega arith in
-    let y : n / 65536 % 256 ≡ c = rw l (omega arith) in
-    let z : n / 16777216 ≡ d = omega arith in
-    rw (w, x, y, z) (omega arith)
-
-pub stores : (l : List ℕ) (at d c k v : ℕ)
-    → sets (sets (sets (set l at d) (at + 1) (digits 4 c)) (at + 5) (digits 4 k)) (at + 9) (digits 4 v)
-    ≡ sets l at (d ∷ digits 4 c ++ (digits 4 k ++ digits 4 v))
-stores l at d c k v =
-    rw (then_sets l at (at + 1) (d ∷ []) (digits 4 c) refl, then_sets l at (at + 5) (d ∷ digits 4 c) (digits 4 k) refl)
-    (then_sets l at (at + 9) (d ∷ digits 4 c ++ digits 4 k) (digits 4 v) refl)
+-- a run written over a part
+pub put_sets : (l : List ℕ) (at k : ℕ) (vs : List ℕ) → k ≡ length vs → at + length vs ≤ length l → put_mid at k l vs ≡ sets l at vs
+put_sets l at k vs e h = rw (e, sets-eq vs l at h, append_assoc (take at l) vs (drop (at + length vs) l), drop-drop (length vs) at l)
 
 -- ---- what stands there then
 

@@ -1,20 +1,17 @@
 -- Looking up a key of a container among marks, by halves, and a path of keys. All of it is said of any marks; that it finds the ways of a tree is proved of those
 -- that an index holds.
-use Rattle.std.specs.Prelude.{ℕ, zero, suc, ◌+◌, ◌-◌, ◌/◌, List, Bool, true, false, ltb, eqb, length, get_or}
+use Rattle.std.specs.Prelude.{ℕ, zero, suc, ◌+◌, ◌-◌, ◌/◌, List, Bool, true, false, ltb, eqb, length, get_or, Option, Some, None}
 use Rattle.wire.specs.Choice.{pick}
-use Rattle.wire.specs.Field.{u16_at, got16}
+use Rattle.std.specs.Bool.{then_some}
+use Rattle.std.specs.Ordering.{is_lt, is_eq}
+use Rattle.wire.specs.Field.{u16_at, got}
 use Rattle.wire.specs.Text.{inside_of, part_of}
 use Rattle.wire.specs.declared.cursor.Cursor.{Cursor}
-use Rattle.image.specs.declared.taking.Taken.{Taken}
-use Rattle.image.specs.declared.taking.Taken.TheVariants.{Found, Bad}
-use Rattle.image.specs.Taking.{record_at}
+use Rattle.image.specs.Taking.{Taken, record_at}
 use Rattle.index.specs.declared.mark.Mark.{Mark}
-use Rattle.index.specs.declared.order.Order.{Order}
-use Rattle.index.specs.declared.order.Order.TheVariants.{Less, Same, More}
 use Rattle.index.specs.declared.walk.Rest.{Rest}
 use Rattle.index.specs.declared.walk.Rest.TheVariants.{Nothing, Pairs, Dense, Body, Values}
 use Rattle.index.specs.declared.walk.Role.{Role}
-use Rattle.index.specs.declared.find.Way.{Way}
 use Rattle.index.specs.Mark.{nothing}
 use Rattle.index.specs.Keys.{role_of, role_at}
 use Rattle.index.specs.Order.{order_of, key_of}
@@ -63,27 +60,17 @@ starts_at image = starts_by (role_at image 0)
 
 -- ---- a mark against a container and a key
 
-abbrev pub is_less : Order → Bool
-is_less Less = true
-is_less Same = false
-is_less More = false
-
-abbrev pub is_same : Order → Bool
-is_same Less = false
-is_same Same = true
-is_same More = false
-
 module _ (image text : List ℕ) (container : ℕ) (key : List ℕ) where
   -- a mark of a later container, or of this one and a later key. Depth 0 is no value's: the zeros behind an index are past everything.
   unfoldable pub past_of : Mark → Bool
   past_of m =
       pick (eqb m.depth 0) true
-      (pick (eqb container m.container) (is_less (order_of key (key_of image text m.key))) (ltb container m.container))
+      (pick (eqb container m.container) (is_lt (order_of key (key_of image text m.key))) (ltb container m.container))
 
   abbrev pub behind_by : ℕ → Role → Cursor → Bool
   behind_by value (Role.Key p n) c =
       pick (eqb c.at value)
-      (pick (inside_of text p n) (pick (is_same (order_of key (part_of text p n))) (is_value image c.at) false) false)
+      (pick (inside_of text p n) (pick (is_eq (order_of key (part_of text p n))) (is_value image c.at) false) false)
       false
   behind_by value (Role.Value p n f) c = false
   behind_by value (Role.File p n) c = false
@@ -91,8 +78,8 @@ module _ (image text : List ℕ) (container : ℕ) (key : List ℕ) where
   behind_by value Role.Other c = false
 
   abbrev pub behind_in : ℕ → Taken → Bool
-  behind_in value (Found r c) = behind_by value (role_of r) c
-  behind_in value Bad = false
+  behind_in value (Some x) = behind_by value (role_of x.0) x.1
+  behind_in value None = false
 
   -- a mark of this container, at whose key place this key's record stands, and right behind it, at the mark's value place, a value's
   unfoldable pub leads_of : Mark → Bool
@@ -109,34 +96,30 @@ module _ (past : Mark → Bool) (marks : List Mark) where
       (pick (past (get_or marks ((low + high) / 2) nothing)) (upper_of fuel low ((low + high) / 2)) (upper_of fuel ((low + high) / 2 + 1) high))
       low
 
-abbrev pub way_if : Bool → Mark → Way
-way_if true m = Way.At m.value
-way_if false m = Way.Nothing
-
 module _ (image text : List ℕ) (marks : List Mark) where
   -- the mark before the first that is past, where it leads on
-  unfoldable pub last_of : ℕ → List ℕ → Way
+  unfoldable pub last_of : ℕ → List ℕ → Option ℕ
   last_of container key =
       let n = upper_of (past_of image text container key) marks (length marks) 0 (length marks) in
-      pick (eqb n 0) Way.Nothing (way_if (leads_of image text container key (get_or marks (n - 1) nothing)) (get_or marks (n - 1) nothing))
+      pick (eqb n 0) None (then_some (leads_of image text container key (get_or marks (n - 1) nothing)) (get_or marks (n - 1) nothing).value)
 
   -- one step down
-  unfoldable pub step_of : ℕ → List ℕ → Way
-  step_of container key = pick (opens_at image container) (last_of container key) Way.Nothing
+  unfoldable pub step_of : ℕ → List ℕ → Option ℕ
+  step_of container key = pick (opens_at image container) (last_of container key) None
 
-  abbrev pub thence : Way → (ℕ → Way) → Way
-  thence (Way.At place) k = k place
-  thence Way.Nothing k = Way.Nothing
+  abbrev pub thence : Option ℕ → (ℕ → Option ℕ) → Option ℕ
+  thence (Some place) k = k place
+  thence None k = None
 
   -- the keys from place i of a path on, each as a short text, from a record of the image on
-  unfoldable pub down_of : List ℕ → ℕ → ℕ → ℕ → Way
-  down_of path zero i place = Way.At place
+  unfoldable pub down_of : List ℕ → ℕ → ℕ → ℕ → Option ℕ
+  down_of path zero i place = Some place
   down_of path (suc fuel) i place =
       pick (ltb i (length path))
-      (got16 (λ a p. Way.Nothing) (u16_at path i) λ n q.
-      pick (inside_of path q n) (thence (step_of place (part_of path q n)) (down_of path fuel (q + n))) Way.Nothing)
-      (Way.At place)
+      (got (λ a p. None) (u16_at path i) λ n q.
+      pick (inside_of path q n) (thence (step_of place (part_of path q n)) (down_of path fuel (q + n))) None)
+      (Some place)
 
   -- a path from the first record on
-  unfoldable pub find_of : List ℕ → Way
-  find_of path = pick (starts_at image) (down_of path (length path) 0 0) Way.Nothing
+  unfoldable pub find_of : List ℕ → Option ℕ
+  find_of path = pick (starts_at image) (down_of path (length path) 0 0) None

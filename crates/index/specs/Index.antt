@@ -1,12 +1,10 @@
 -- The index of an image, and what the public call comes to.
-use Rattle.std.specs.Prelude.{ℕ, suc, ◌/◌, ◌≡◌, List, [], leb, length}
+use Rattle.std.specs.Prelude.{ℕ, suc, ◌/◌, ◌≡◌, List, [], leb, length, Some, None}
 use Rattle.wire.specs.Choice.{pick}
 use Rattle.wire.specs.Field.{to}
 use Rattle.wire.specs.Limit as limit
 use Rattle.wire.specs.declared.cursor.Cursor.{Cursor}
-use Rattle.image.specs.declared.taking.Taken.{Taken}
-use Rattle.image.specs.declared.taking.Taken.TheVariants.{Found, Bad}
-use Rattle.image.specs.Taking.{record_at}
+use Rattle.image.specs.Taking.{Taken, record_at}
 use Rattle.image.specs.Out.{Out, end, stop, put, bytes as bytes_out, named_at}
 use Rattle.image.specs.Whole.{padded}
 use Rattle.amf0.specs.Writing.{whole}
@@ -14,26 +12,25 @@ use Rattle.index.specs.declared.make.Indexing.{Indexing}
 use Rattle.index.specs.declared.mark.Mark.{Mark}
 use Rattle.index.specs.declared.walk.Rest.TheVariants.{Body, Values}
 use Rattle.index.specs.declared.walk.Role.{Role}
-use Rattle.index.specs.declared.walk.Begun.{Begun}
 use Rattle.index.specs.Mark.{flat, rows}
 use Rattle.index.specs.Order.{before}
 use Rattle.index.specs.Sort.{Sorted}
-use Rattle.index.specs.Keys.{role_of, owned, rest, value}
+use Rattle.index.specs.Keys.{role_of, Begun, begun_to, owned, rest, value}
 
 -- one value, from the image's start on
 abbrev pub alone : Begun
-alone = Begun.Next (to 0) (Values 1)
+alone = begun_to (to 0) (Values 1)
 
 abbrev pub root_by : List ℕ → Role → Cursor → Begun
 root_by text (Role.Value p n f) c = alone
 root_by text (Role.Key p n) c = alone
-root_by text (Role.File p n) c = pick (named_at text p n) (Begun.Next c Body) Begun.Stop
+root_by text (Role.File p n) c = pick (named_at text p n) (begun_to c Body) None
 root_by text Role.End c = alone
 root_by text Role.Other c = alone
 
 abbrev pub root_in : List ℕ → Taken → Begun
-root_in text (Found r c) = root_by text (role_of r) c
-root_in text Bad = alone
+root_in text (Some x) = root_by text (role_of x.0) x.1
+root_in text None = alone
 
 -- a file's elements, behind its record, or one value
 unfoldable pub root_of : List ℕ → List ℕ → Begun

@@ -1,19 +1,19 @@
 -- The order of the marks: by container, then by the key's bytes, a prefix first, then by the key's place.
 use Rattle.std.specs.Prelude.{ℕ, suc, List, [], ◌∷◌, ◌++◌, map, Bool, true, false, ltb}
+use Rattle.std.specs.declared.cmp.Ordering.{Ordering}
+use Rattle.std.specs.declared.cmp.Ordering.TheVariants.{Less, Equal, Greater}
 use Rattle.wire.specs.Choice.{pick}
 use Rattle.wire.specs.Text.{part_of}
 use Rattle.index.specs.declared.mark.Mark.{Mark}
-use Rattle.index.specs.declared.order.Order.{Order}
-use Rattle.index.specs.declared.order.Order.TheVariants.{Less, Same, More}
 use Rattle.index.specs.declared.walk.Role.{Role}
 use Rattle.index.specs.Keys.{role_at}
 
 -- two texts, a prefix first
-unfoldable pub order_of : List ℕ → List ℕ → Order
-order_of [] [] = Same
+unfoldable pub order_of : List ℕ → List ℕ → Ordering
+order_of [] [] = Equal
 order_of [] (y ∷ ys) = Less
-order_of (x ∷ xs) [] = More
-order_of (x ∷ xs) (y ∷ ys) = pick (ltb x y) Less (pick (ltb y x) More (order_of xs ys))
+order_of (x ∷ xs) [] = Greater
+order_of (x ∷ xs) (y ∷ ys) = pick (ltb x y) Less (pick (ltb y x) Greater (order_of xs ys))
 
 abbrev pub text_by : List ℕ → Role → List ℕ
 text_by text (Role.Key p n) = part_of text p n

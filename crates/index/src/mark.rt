@@ -6,7 +6,7 @@ ghost use Rattle.wire.specs.Field.{bytes_at};
 ghost use Rattle.index.specs.Mark.{mark_at, mark_bytes, Small};
 
 // The depth of the key's value, and the image places of the container's record, of the key's record and of the value's.
-#[derive(Clone, Copy)]
+#[derive(Clone, Copy, Debug, PartialEq, Eq)]
 pub struct Mark {
     pub depth: u8,
     pub container: u32,
@@ -17,44 +17,22 @@ pub struct Mark {
 // The bytes of one.
 pub const SIZE: usize = 13;
 
-fn wide(x: u8) -> u32
-    ensures { (result ≡ x) × (result < 256) }
-{
-    x as u32
-}
-
-// Four bytes, the lowest first: one load of the machine, which is then turned round. Loaded the highest first they would be moved one by one in a sort.
-fn little4(s: &[u8], at: usize) -> u32
-    requires { at + 4 ≤ length s.now }
-    ensures { result ≡ get_or s.now at 0 + get_or s.now (at + 1) 0 * 256 + get_or s.now (at + 2) 0 * 65536 + get_or s.now (at + 3) 0 * 16777216 }
-{
-    wide(s[at])
-        + wide(s[at + 1]) * 0x100
-        + wide(s[at + 2]) * 0x1_0000
-        + wide(s[at + 3]) * 0x100_0000
-}
-
+// The four bytes of a number are loaded and stored at once, and turned round.
 fn load4(s: &[u8], at: usize) -> u32
     requires { at + 4 ≤ length s.now }
     ensures { (result ≡ number (bytes_at 4 s.now at)) × (result < 256 ^ 4) }
 {
-    let n = little4(s, at);
-    n % 0x100 * 0x100_0000
-        + n / 0x100 % 0x100 * 0x1_0000
-        + n / 0x1_0000 % 0x100 * 0x100
-        + n / 0x100_0000
+    u32::from_be_bytes([s[at], s[at + 1], s[at + 2], s[at + 3]])
 }
 
 fn store4(out: &mut [u8], at: usize, n: u32)
     requires { at + 4 ≤ length out.old }
     ensures { out.new ≡ sets out.old at (digits 4 n) }
 {
-    out[at] = (n / 0x100_0000 % 0x100) as u8;
-    out[at + 1] = (n / 0x1_0000 % 0x100) as u8;
-    out[at + 2] = (n / 0x100 % 0x100) as u8;
-    out[at + 3] = (n % 0x100) as u8;
+    out[at..at + 4].copy_from_slice(&n.to_be_bytes());
 }
 
+#[tactic(auto, unfolding(crate::specs::Mark::mark_at), using(crate::proofs::Rows::mark_means))]
 pub(crate) fn mark_at(index: &[u8], at: usize) -> Mark
     requires { at + 13 ≤ length index.now }
     ensures { (result ≡ mark_at index.now at) × Small result }

@@ -1,6 +1,6 @@
 // Sorting the marks in place: no memory but the index, no recursion. A heap puts them in order, by exchanges alone, and then a pass puts back each mark that comes
 // before the one that it stands behind. That is none, but it is the pass that is proved to sort: of the heap only that it keeps the marks, so its order is a matter
-// of time alone.
+// of time alone. The ways up and down the heap are a `while` each, since they double or halve a number, which no range does.
 ghost use Rattle.std.specs.Prelude.{◌≡◌, ℕ, ◌+◌, ◌*◌, ◌≤◌, ◌<◌, length, drop};
 ghost use Rattle.index.specs.Mark.{mark_at, rows};
 ghost use Rattle.index.specs.Order.{before};
@@ -39,10 +39,8 @@ fn leaf(image: &[u8], text: &[u8], index: &[u8], n: usize, i: usize) -> usize
     let mut at = i;
     while at < n / 2 {
         let mut child = 2 * at + 1;
-        if child + 1 < n {
-            if comes(image, text, index, child, child + 1) {
-                child += 1;
-            }
+        if child + 1 < n && comes(image, text, index, child, child + 1) {
+            child += 1;
         }
         at = child;
     }
@@ -55,16 +53,14 @@ fn belongs(image: &[u8], text: &[u8], index: &[u8], n: usize, i: usize, from: us
     ensures { result < n }
 {
     let mut at = from;
-    while i < at {
-        if comes(image, text, index, i, at) {
-            return at;
-        }
+    while i < at && !comes(image, text, index, i, at) {
         at = (at - 1) / 2;
     }
     at
 }
 
 // The mark of number i goes down to where it belongs in the heap of the first n, and those on the way go up.
+#[tactic(auto, using(crate::proofs::Sorting::mixed_same, crate::proofs::Sorting::mixed_then))]
 fn settle(image: &[u8], text: &[u8], index: &mut [u8], n: usize, i: usize)
     requires { (13 * n ≤ length index.old) × (i < n) }
     ensures { (m : ℕ) → n ≤ m → 13 * m ≤ length index.old → Mixed m index.old index.new }
@@ -77,18 +73,15 @@ fn settle(image: &[u8], text: &[u8], index: &mut [u8], n: usize, i: usize)
 }
 
 // The heap of all, from which the last is taken each time.
+#[tactic(auto, using(crate::proofs::Sorting::mixed_same, crate::proofs::Sorting::mixed_then))]
 fn heap(image: &[u8], text: &[u8], index: &mut [u8], n: usize)
     requires { 13 * n ≤ length index.old }
     ensures { Mixed n index.old index.new }
 {
-    let mut k = n / 2;
-    while 0 < k {
-        k -= 1;
+    for k in (0..n / 2).rev() {
         settle(image, text, index, n, k);
     }
-    let mut m = n;
-    while 1 < m {
-        m -= 1;
+    for m in (1..n).rev() {
         exchange(index, 0, m);
         settle(image, text, index, m, 0);
     }
@@ -104,26 +97,23 @@ fn sink(image: &[u8], text: &[u8], index: &mut [u8], n: usize, i: usize)
     let mut j = i;
     while 0 < j {
         let m = mark_at(index, SIZE * (j - 1));
-        if sooner(image, text, held, key, m) {
-            put_mark(index, SIZE * j, m);
-            j -= 1;
-        } else {
-            put_mark(index, SIZE * j, held);
-            return;
+        if !sooner(image, text, held, key, m) {
+            break;
         }
+        put_mark(index, SIZE * j, m);
+        j -= 1;
     }
     put_mark(index, SIZE * j, held);
 }
 
 // Every mark in turn.
+#[tactic(auto, using(crate::proofs::Sorting::mixed_same, crate::proofs::Sorting::mixed_then))]
 fn pass(image: &[u8], text: &[u8], index: &mut [u8], n: usize)
     requires { 13 * n ≤ length index.old }
     ensures { Passed (before image.now text.now) n n index.old index.new }
 {
-    let mut i: usize = 0;
-    while i < n {
+    for i in 0..n {
         sink(image, text, index, n, i);
-        i += 1;
     }
 }
 

@@ -11,15 +11,15 @@ use crate::mark::{Mark, SIZE, put_mark};
 use amf0::write::value_at;
 use image::reading::Step;
 use image::record::Record;
-use image::taking::{Taken, record_at};
-use wire::answer::{NO_TREE, TOO_DEEP};
+use image::taking::record_at;
+use wire::answer::Answer;
 use wire::cursor::Cursor;
 use wire::limit;
 use wire::text::{inside, part};
 use wire::utf8::is_utf8;
 
 // What follows a record: nothing, pairs up to the end, values without a key before such pairs, pairs up to the image's end, or so many values.
-#[derive(Clone, Copy)]
+#[derive(Clone, Copy, Debug, PartialEq, Eq)]
 pub enum Rest {
     Nothing,
     Pairs,
@@ -29,7 +29,7 @@ pub enum Rest {
 }
 
 // What a record is here, with the text that it names.
-#[derive(Clone, Copy)]
+#[derive(Clone, Copy, Debug, PartialEq, Eq)]
 pub enum Role {
     Value(usize, usize, Rest),
     Key(usize, usize),
@@ -42,24 +42,21 @@ pub(crate) fn role_of(r: Record) -> Role
     ensures { result ≡ role_of r }
 {
     match r {
-        Record::Number(_) => Role::Value(0, 0, Rest::Nothing),
-        Record::Boolean(_) => Role::Value(0, 0, Rest::Nothing),
-        Record::Text(p, n) => Role::Value(p, n, Rest::Nothing),
+        Record::Number(_)
+        | Record::Boolean(_)
+        | Record::Null
+        | Record::Undefined
+        | Record::Reference(_)
+        | Record::Date(_, _, _)
+        | Record::Unsupported => Role::Value(0, 0, Rest::Nothing),
+        Record::Text(p, n) | Record::Xml(p, n) => Role::Value(p, n, Rest::Nothing),
         Record::Object => Role::Value(0, 0, Rest::Pairs),
-        Record::Null => Role::Value(0, 0, Rest::Nothing),
-        Record::Undefined => Role::Value(0, 0, Rest::Nothing),
-        Record::Reference(_) => Role::Value(0, 0, Rest::Nothing),
         Record::EcmaArray(_) => Role::Value(0, 0, Rest::Dense),
-        Record::ObjectEnd => Role::End,
         Record::StrictArray(n) => Role::Value(0, 0, Rest::Values(n)),
-        Record::Date(_, _, _) => Role::Value(0, 0, Rest::Nothing),
-        Record::Unsupported => Role::Value(0, 0, Rest::Nothing),
-        Record::Xml(p, n) => Role::Value(p, n, Rest::Nothing),
         Record::TypedObject(p, n) => Role::Value(p, n, Rest::Pairs),
+        Record::ObjectEnd => Role::End,
         Record::Key(p, n) => Role::Key(p, n),
-        Record::Packet(_, _) => Role::Other,
-        Record::Header(_, _, _) => Role::Other,
-        Record::Message(_, _, _, _) => Role::Other,
+        Record::Packet(_, _) | Record::Header(_, _, _) | Record::Message(_, _, _, _) => Role::Other,
         Record::Lso(_, p, n) => Role::File(p, n),
     }
 }
@@ -74,82 +71,52 @@ pub(crate) fn named(text: &[u8], p: usize, n: usize) -> bool
     false
 }
 
-// A value's record: the cursor behind it, and what follows.
-#[derive(Clone, Copy)]
-pub enum Begun {
-    Next(Cursor, Rest),
-    Stop,
-}
+// The cursor behind a value's record, and what follows; or none stands there.
+pub type Begun = Option<(Cursor, Rest)>;
 
+#[tactic(auto, unfolding(crate::specs::Keys::own_of))]
 fn own(image: &[u8], text: &[u8], c: Cursor) -> Begun
     ensures { result ≡ own_of image.now text.now c.at }
 {
-    if let Taken::Found(r, d) = record_at(image, c) {
-        if let Role::Value(p, n, f) = role_of(r) {
-            if named(text, p, n) {
-                return Begun::Next(d, f);
-            }
-        }
+    let (r, d) = record_at(image, c)?;
+    match role_of(r) {
+        Role::Value(p, n, f) if named(text, p, n) => Some((d, f)),
+        _ => None,
     }
-    Begun::Stop
 }
 
 // What comes next: nothing any more; a value without a key; a key, whose value is at the cursor. Behind a value, this is due then.
-#[derive(Clone, Copy)]
+#[derive(Clone, Copy, Debug, PartialEq, Eq)]
 pub enum Coming {
     Done(Cursor),
     Value(Cursor, Rest),
     Key(Cursor, Rest),
-    Stop,
 }
 
 // A key's record, with what is due behind its value; or the end's, where it may stand.
-fn pair(image: &[u8], text: &[u8], c: Cursor, due: Rest, ends: bool) -> Coming
+#[tactic(auto, unfolding(crate::specs::Keys::pair_at))]
+fn pair(image: &[u8], text: &[u8], c: Cursor, due: Rest, ends: bool) -> Option<Coming>
     ensures { result ≡ pair_at image.now text.now due ends c.at }
 {
-    if let Taken::Found(r, d) = record_at(image, c) {
-        match role_of(r) {
-            Role::Key(p, n) => {
-                if named(text, p, n) {
-                    return Coming::Key(d, due);
-                }
-            }
-            Role::End => {
-                if ends {
-                    return Coming::Done(d);
-                }
-            }
-            _ => {}
-        }
+    let (r, d) = record_at(image, c)?;
+    match role_of(r) {
+        Role::Key(p, n) if named(text, p, n) => Some(Coming::Key(d, due)),
+        Role::End if ends => Some(Coming::Done(d)),
+        _ => None,
     }
-    Coming::Stop
 }
 
-fn turn(image: &[u8], text: &[u8], c: Cursor, due: Rest) -> Coming
+#[tactic(auto, unfolding(crate::specs::Keys::turn_of))]
+fn turn(image: &[u8], text: &[u8], c: Cursor, due: Rest) -> Option<Coming>
     ensures { result ≡ turn_of image.now text.now due c.at }
 {
     match due {
-        Rest::Nothing => Coming::Done(c),
-        Rest::Values(n) => {
-            if n == 0 {
-                return Coming::Done(c);
-            }
-            Coming::Value(c, Rest::Values(n - 1))
-        }
-        Rest::Dense => {
-            if value_at(image, c) {
-                return Coming::Value(c, Rest::Dense);
-            }
-            pair(image, text, c, Rest::Pairs, true)
-        }
-        Rest::Pairs => pair(image, text, c, Rest::Pairs, true),
-        Rest::Body => {
-            let at = c.at;
-            if image.len() <= at {
-                return Coming::Done(c);
-            }
-            pair(image, text, c, Rest::Body, false)
-        }
+        Rest::Nothing | Rest::Values(0) => Some(Coming::Done(c)),
+        Rest::Values(n) => Some(Coming::Value(c, Rest::Values(n - 1))),
+        Rest::Dense if value_at(image, c) => Some(Coming::Value(c, Rest::Dense)),
+        Rest::Dense | Rest::Pairs => pair(image, text, c, Rest::Pairs, true),
+        Rest::Body if image.len() <= c.at => Some(Coming::Done(c)),
+        Rest::Body => pair(image, text, c, Rest::Body, false),
     }
 }
 
@@ -164,11 +131,10 @@ fn emit(index: &mut [u8], count: usize, m: Mark)
 }
 
 // The next value, with its key's mark put behind so many bytes.
-#[derive(Clone, Copy)]
+#[derive(Clone, Copy, Debug, PartialEq, Eq)]
 pub enum Ahead {
     Done(Cursor),
     Value(Cursor, usize, Rest),
-    Stop,
 }
 
 fn go_on(
@@ -180,15 +146,14 @@ fn go_on(
     left: usize,
     place: usize,
     due: Rest,
-) -> Ahead
+) -> Option<Ahead>
     requires { (length image.now ≤ most_image) × (c.at ≤ length image.now) × (place ≤ length image.now) × (count ≤ 13 * c.at) × (left ≤ 32) }
     ensures by_index { (inner : ℕ → Out) → (f : ℕ) → 0 < f → pour (rest_of inner image.now text.now place (33 - left) f due c.at) count index.old ≡ pour (on_of result c.at inner (rest_of inner image.now text.now place (33 - left) (f - 1))) (count_of result count) index.new }
     ensures ready { Ready result c.at (length image.now) count }
 {
-    match turn(image, text, c, due) {
-        Coming::Stop => Ahead::Stop,
-        Coming::Done(e) => Ahead::Done(e),
-        Coming::Value(e, f) => Ahead::Value(e, count, f),
+    match turn(image, text, c, due)? {
+        Coming::Done(e) => Some(Ahead::Done(e)),
+        Coming::Value(e, f) => Some(Ahead::Value(e, count, f)),
         Coming::Key(e, f) => {
             let key = c.at;
             let at = e.at;
@@ -202,7 +167,7 @@ fn go_on(
                     value: at as u32,
                 },
             );
-            Ahead::Value(e, count + SIZE, f)
+            Some(Ahead::Value(e, count + SIZE, f))
         }
     }
 }
@@ -226,36 +191,28 @@ pub(crate) fn follow(
     let mut count = done;
     let mut due = rest;
     loop {
-        match go_on(image, text, index, c, count, left, place, due) {
-            Ahead::Stop => {
-                return Step::Stop(NO_TREE, c.at);
-            }
+        let Some(ahead) = go_on(image, text, index, c, count, left, place, due) else {
+            return Answer::NoTree.refuse(c.at);
+        };
+        match ahead {
             Ahead::Done(e) => {
-                return Step::Next(e, count);
+                return Ok((e, count));
             }
             Ahead::Value(e, n, f) => {
                 let at = e.at;
                 if left == 0 {
                     if value_at(image, e) {
-                        return Step::Stop(TOO_DEEP, at);
+                        return Answer::TooDeep.refuse(at);
                     }
-                    return Step::Stop(NO_TREE, at);
+                    return Answer::NoTree.refuse(at);
                 }
-                match own(image, text, e) {
-                    Begun::Stop => {
-                        return Step::Stop(NO_TREE, at);
-                    }
-                    Begun::Next(d, g) => match follow(image, text, index, d, n, left - 1, at, g) {
-                        Step::Stop(a, p) => {
-                            return Step::Stop(a, p);
-                        }
-                        Step::Next(b, m) => {
-                            c = b;
-                            count = m;
-                            due = f;
-                        }
-                    },
-                }
+                let Some((d, g)) = own(image, text, e) else {
+                    return Answer::NoTree.refuse(at);
+                };
+                let (b, m) = follow(image, text, index, d, n, left - 1, at, g)?;
+                c = b;
+                count = m;
+                due = f;
             }
         }
     }

@@ -1,16 +1,14 @@
 -- What the public call answers, whatever the image is.
-use Rattle.std.specs.Prelude.{◌*◌, ◌/◌, ◌≤◌, ◌<◌, ◌≡◌, ◌⊎◌, ◌≢◌, ◌↔◌}
+use Rattle.std.specs.Prelude.{◌*◌, ◌/◌, ◌≤◌, ◌<◌, ◌≡◌, ◌⊎◌, ◌≢◌, ◌↔◌, Some, None}
 use Rattle.wire.proofs.Kit.{ℕ, refl, sym, ap, ◌∙◌, List, [], Bool, true, false, inl, inr, ⊎_elim, arith, leb, length, le-leb, leb-true}
 use Rattle.wire.proofs.Kit.{leb-false, eqb}
 use Rattle.wire.specs.Choice.{pick}
 use Rattle.wire.specs.Limit as limit
 use Rattle.wire.specs.Number.{Bytes}
 use Rattle.wire.proofs.Laws.{picked}
-use Rattle.image.specs.declared.taking.Taken.{Taken}
-use Rattle.image.specs.declared.taking.Taken.TheVariants.{Found, Bad}
 use Rattle.image.specs.Kind as kind
 use Rattle.image.specs.Record.{layout_of}
-use Rattle.image.specs.Taking.{record_at}
+use Rattle.image.specs.Taking.{record_at, Taken}
 use Rattle.image.specs.Out.{Out, end, stop, put, bytes as bytes_out, Written, unwritten, ended, settled}
 use Rattle.amf0.specs.Writing as amf0
 use Rattle.lso.specs.Writing as lso
@@ -113,8 +111,8 @@ index_refused image text room = go (index_of image text room) (index_outcome ima
 
 -- what the public writer of files comes to, where the first record is a file's, else what that of values does
 abbrev pub writes_in : (image text : List ℕ) → ℕ → Taken → Written
-writes_in image text out (Found r c) = pick (eqb (layout_of r).kind kind.lso) (lso.write_of image text out) (amf0.write_of image text out)
-writes_in image text out Bad = amf0.write_of image text out
+writes_in image text out (Some x) = pick (eqb (layout_of x.0).kind kind.lso) (lso.write_of image text out) (amf0.write_of image text out)
+writes_in image text out None = amf0.write_of image text out
 
 unfoldable pub writes_of : (image text : List ℕ) → ℕ → Written
 writes_of image text out = writes_in image text out (record_at image 0)
@@ -134,8 +132,8 @@ writes_walk image text out = go (record_at image 0)
 
     go : (t : Taken) → writes_in image text out t
         ≡ pick (leb (length text) limit.bytes) (pick (leb (length image) limit.image) (settled (writing_in image text t) out) (unwritten 1)) (unwritten 1)
-    go (Found r c) = by (eqb (layout_of r).kind kind.lso)
-    go Bad = refl
+    go (Some x) = by (eqb (layout_of x.0).kind kind.lso)
+    go None = refl
 
 -- an answer for what the image holds
 abbrev pub Own : ℕ → Type 0

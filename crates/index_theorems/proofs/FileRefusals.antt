@@ -1,5 +1,5 @@
 -- The index of a file's image is refused where, and with what, the writing of that file is.
-use Rattle.std.specs.Prelude.{◌+◌, ◌≤◌, ◌<◌, ◌≡◌, ◌≢◌}
+use Rattle.std.specs.Prelude.{◌+◌, ◌≤◌, ◌<◌, ◌≡◌, ◌≢◌, Some, None}
 use Rattle.wire.proofs.Kit.{ℕ, zero, suc, refl, List, false, arith, leb, eqb, length, le-leb, leb-true}
 use Rattle.wire.specs.Choice.{pick}
 use Rattle.wire.specs.Limit as limit
@@ -7,11 +7,9 @@ use Rattle.wire.specs.Number.{Bytes}
 use Rattle.wire.specs.declared.cursor.Cursor.{Cursor}
 use Rattle.image.specs.declared.record.Record.{Record}
 use Rattle.image.specs.declared.record.Record.TheVariants as R
-use Rattle.image.specs.declared.taking.Taken.{Taken}
-use Rattle.image.specs.declared.taking.Taken.TheVariants.{Found, Bad}
 use Rattle.image.specs.Kind as kind
 use Rattle.image.specs.Record.{layout_of}
-use Rattle.image.specs.Taking.{record_at}
+use Rattle.image.specs.Taking.{record_at, Taken, taken_to}
 use Rattle.image.specs.Out.{Out, end, stop, put, ◌>>=◌, row, named_at, row_bytes}
 use Rattle.image.proofs.Pouring.{named_none}
 use Rattle.amf0.specs.Writing.{taken, value as written, whole}
@@ -109,8 +107,8 @@ module _ (image s : List ℕ) (known : Bytes image) where
           (λ q y. put (mark_bytes (mark 1 0 at q)) (value 32 image s q >>= rest (value 32 image s) image s 0 1 f y)))
           ((taken at t λ r q.
           pick (eqb (layout_of r).kind kind.key) (row s (keying (layout_of r).a.number (layout_of r).b.number) at (zeroed at q)) (stop 6 at)) >>= body image s g)
-      go (Found r c) e more = let p = behind image known at r c e in by r (role_of r) c p.from p.fits (kin r) more
-      go Bad e more = Alike.stops
+      go (Some x) e more = let p = behind image known at x.0 x.1 e in by x.0 (role_of x.0) x.1 p.from p.fits (kin x.0) more
+      go None e more = Alike.stops
 
   abbrev Any : ℕ → Type 0
   Any n = Unit {0}
@@ -124,7 +122,7 @@ module _ (image s : List ℕ) (known : Bytes image) where
   checked (Alike.aft a) = Alike.aft (checked a)
 
   -- an image that begins with a file's record
-  pub file_keys_alike : (says : ℕ → ℕ → ℕ) (stored p n : ℕ) (c : Cursor) → record_at image 0 ≡ Found (R.Lso stored p n) c
+  pub file_keys_alike : (says : ℕ → ℕ → ℕ) (stored p n : ℕ) (c : Cursor) → record_at image 0 ≡ taken_to (R.Lso stored p n) c
       → Alike Any (keys_of image s) (file says image s)
   unfolding keys_of root_of file row
   file_keys_alike says stored p n c e =
@@ -134,7 +132,7 @@ module _ (image s : List ℕ) (known : Bytes image) where
       (Alike.aft (Alike.aft (Alike.aft (checked (alike_body (suc (length image)) (length image) c.at b.fits (omega arith) (omega arith)))))))
       (λ t. rw (e, t, named_none s) (Alike.aft Alike.stops))
 
-  pub file_refused_alike : (says : ℕ → ℕ → ℕ) (stored p n : ℕ) (c : Cursor) → record_at image 0 ≡ Found (R.Lso stored p n) c
+  pub file_refused_alike : (says : ℕ → ℕ → ℕ) (stored p n : ℕ) (c : Cursor) → record_at image 0 ≡ taken_to (R.Lso stored p n) c
       → answer_of (keys_of image s) ≡ answer_of (file says image s)
   file_refused_alike says stored p n c e = same_answer (file_keys_alike says stored p n c e)
 
@@ -142,8 +140,8 @@ module _ (image s : List ℕ) (known : Bytes image) where
 
 module _ (image s : List ℕ) where
   abbrev pub writing_in : Taken → Out
-  writing_in (Found r c) = pick (eqb (layout_of r).kind kind.lso) (file length_of image s) (whole image (written limit.levels image s 0))
-  writing_in Bad = whole image (written limit.levels image s 0)
+  writing_in (Some x) = pick (eqb (layout_of x.0).kind kind.lso) (file length_of image s) (whole image (written limit.levels image s 0))
+  writing_in None = whole image (written limit.levels image s 0)
 
   -- the writing of an image: that of a file, where the first record is a file's, else that of a value
   unfoldable pub writing_of : Out
@@ -154,8 +152,8 @@ pub refused_as_written : (image s : List ℕ) → Bytes image → answer_of (key
 unfolding writing_of root_of
 refused_as_written image s known = go (record_at image 0) refl
   where
-    by : (r : Record) (c : Cursor) → record_at image 0 ≡ Found r c → (y : Role) → role_of r ≡ y → Kin r y
-        → answer_of (keys_of image s) ≡ answer_of (writing_in image s (Found r c))
+    by : (r : Record) (c : Cursor) → record_at image 0 ≡ taken_to r c → (y : Role) → role_of r ≡ y → Kin r y
+        → answer_of (keys_of image s) ≡ answer_of (writing_in image s (taken_to r c))
     by r c e y g (Kin.k_file {l} {p} {n}) = same_answer (file_keys_alike image s known length_of l p n c e)
     by r c e y g Kin.k_key = refused_alike image s known (rw e refl)
     by r c e y g (Kin.k_value i) = rw i.1 (refused_alike image s known (rw (e, g) refl))
@@ -163,8 +161,8 @@ refused_as_written image s known = go (record_at image 0) refl
     by r c e y g (Kin.k_other i) = rw i.1 (refused_alike image s known (rw (e, g) refl))
 
     go : (t : Taken) → record_at image 0 ≡ t → answer_of (keys_of image s) ≡ answer_of (writing_in image s t)
-    go (Found r c) e = by r c e (role_of r) refl (kin r)
-    go Bad e = refused_alike image s known (rw e refl)
+    go (Some x) e = by x.0 x.1 e (role_of x.0) refl (kin x.0)
+    go None e = refused_alike image s known (rw e refl)
 
 -- A writing as a file that is not refused with 6 goes as the index does: then a file's record is in front.
 pub refused_as_file : (image s : List ℕ) → Bytes image → (says : ℕ → ℕ → ℕ) → answer_of (file says image s) ≢ 6
@@ -172,7 +170,7 @@ pub refused_as_file : (image s : List ℕ) → Bytes image → (says : ℕ → �
 unfolding file answer_of
 refused_as_file image s known says ne = go (record_at image 0) refl
   where
-    by : (r : Record) (c : Cursor) → record_at image 0 ≡ Found r c → (y : Role) → Kin r y → answer_of (keys_of image s) ≡ answer_of (file says image s)
+    by : (r : Record) (c : Cursor) → record_at image 0 ≡ taken_to r c → (y : Role) → Kin r y → answer_of (keys_of image s) ≡ answer_of (file says image s)
     by r c e y (Kin.k_file {l} {p} {n}) = same_answer (file_keys_alike image s known says l p n c e)
     by r c e y Kin.k_key = absurd (ne (rw e refl))
     by r c e y (Kin.k_value i) = absurd (ne (rw (e, i.1) refl))
@@ -180,5 +178,5 @@ refused_as_file image s known says ne = go (record_at image 0) refl
     by r c e y (Kin.k_other i) = absurd (ne (rw (e, i.1) refl))
 
     go : (t : Taken) → record_at image 0 ≡ t → answer_of (keys_of image s) ≡ answer_of (file says image s)
-    go (Found r c) e = by r c e (role_of r) (kin r)
-    go Bad e = absurd (ne (rw e refl))
+    go (Some x) e = by x.0 x.1 e (role_of x.0) (kin x.0)
+    go None e = absurd (ne (rw e refl))

@@ -1,5 +1,5 @@
 -- The same for files: a file's elements are the pairs of its first record.
-use Rattle.std.specs.Prelude.{◌+◌, ◌*◌, ◌/◌, ◌≤◌, ◌<◌, ◌≡◌, ◌∷◌, ◌++◌, ◌⊎◌}
+use Rattle.std.specs.Prelude.{◌+◌, ◌*◌, ◌/◌, ◌≤◌, ◌<◌, ◌≡◌, ◌∷◌, ◌++◌, ◌⊎◌, Some}
 use Rattle.wire.proofs.Kit.{ℕ, zero, suc, refl, sym, ap, ◌∙◌, List, [], append-nil, true, false, inl, inr, ⊎_elim}
 use Rattle.wire.proofs.Kit.{arith, leb, length, le-leb, lt-leb, leb-true, leb-false, eq-eqb}
 use Rattle.wire.specs.Field.{to}
@@ -17,10 +17,9 @@ use Rattle.lso.specs.File as File
 use Rattle.lso.specs.Written.{Spells, Writable}
 use Rattle.index.specs.declared.mark.Mark.{Mark}
 use Rattle.index.specs.declared.walk.Rest.TheVariants.{Body}
-use Rattle.index.specs.declared.walk.Begun.TheVariants as Begun
 use Rattle.index.specs.declared.walk.Coming.TheVariants as Coming
 use Rattle.index.specs.Mark.{mark, mark_bytes, flat, rows, Small}
-use Rattle.index.specs.Keys.{role_at, pair_at, turn_of, rest, value}
+use Rattle.index.specs.Keys.{begun_to, role_at, pair_at, turn_of, rest, value}
 use Rattle.index.specs.Find.{opens_at, starts_at, step_of, thence, find_of}
 use Rattle.index.specs.Index.{root_of, keys_of, Indexed, unindexed, index_of, Holds}
 use Rattle.index_theorems.specs.Way.{marks, marks_of, shorts, Short, Perhaps, last_element, onward, way, place_of, way_of}
@@ -38,11 +37,11 @@ use Rattle.index_theorems.proofs.Paths.{found_looked}
 
 module _ (s image : List ℕ) where
   element_first : {at : ℕ} (p n : ℕ) (rs : List Record) (z : List ℕ) → Here image at (laid (R.Key p n ∷ rs)) z → Right s (R.Key p n ∷ rs)
-      → pair_at image s Body false at ≡ Coming.Key (to (at + size (R.Key p n))) Body
+      → pair_at image s Body false at ≡ Some (Coming.Key (to (at + size (R.Key p n))) Body)
   unfolding pair_at
   element_first p n rs z h g = rw (first s image (R.Key p n) rs z h g.0, stands s p n g.1.0)
 
-  key_turn : (v : ℕ → Out) (fuel at q : ℕ) {x : List ℕ} {n : ℕ} → at < length image → pair_at image s Body false at ≡ Coming.Key (to q) Body
+  key_turn : (v : ℕ → Out) (fuel at q : ℕ) {x : List ℕ} {n : ℕ} → at < length image → pair_at image s Body false at ≡ Some (Coming.Key (to q) Body)
       → Puts ⊥ (v q >>= rest v image s 0 1 fuel Body) x n → Puts ⊥ (rest v image s 0 1 (suc fuel) Body at) (mark_bytes (mark 1 0 at q) ++ x) n
   unfolding rest turn_of
   key_turn v fuel at q l e p = rw (lt-leb (length image) at l, e) (Puts.more p)
@@ -187,7 +186,7 @@ module _ (image s : List ℕ) {file : Lso} (w : Writable image s file) where
   whole_size : size head + length (laid w.images.records) ≡ length image
   whole_size = sym (ap length w.images.lies ∙ laid_size head w.images.records)
 
-  root_body : root_of image s ≡ Begun.Next (to (0 + size head)) Body
+  root_body : root_of image s ≡ begun_to (to (0 + size head)) Body
   unfolding root_of
   root_body = rw (first s image head w.images.records [] begins w.images.fits, stands s w.images.place (length file.name) w.images.stands)
 

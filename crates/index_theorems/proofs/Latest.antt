@@ -1,13 +1,13 @@
 -- A step finds the latest pair of a key in a container, and nothing only where there is none.
-use Rattle.std.specs.Prelude.{◌+◌, ◌-◌, ◌≤◌, ◌<◌, ◌≡◌, ◌∷◌, ◌++◌, ◌⊎◌}
+use Rattle.std.specs.Prelude.{◌+◌, ◌-◌, ◌≤◌, ◌<◌, ◌≡◌, ◌∷◌, ◌++◌, ◌⊎◌, Some, None}
 use Rattle.wire.proofs.Kit.{ℕ, zero, suc, refl, sym, ◌∙◌, List, [], true, false, inl, inr, ⊎_elim, add-zero, arith}
 use Rattle.wire.proofs.Kit.{length, get_or}
 use Rattle.index.specs.declared.mark.Mark.{Mark}
-use Rattle.index.specs.declared.order.Order.TheVariants.{Same}
-use Rattle.index.specs.declared.find.Way.TheVariants as Way
+use Rattle.std.specs.declared.cmp.Ordering.TheVariants.{Equal}
 use Rattle.index.specs.Mark.{nothing}
 use Rattle.index.specs.Order.{order_of, key_of, before}
 use Rattle.index.specs.Sort.{Shuffled, Rising, Sorted}
+use Rattle.std.specs.Ordering.{}
 use Rattle.index.specs.Find.{opens_at, last_of, step_of}
 use Rattle.index.proofs.Ordering.{total, lower_le, by_key}
 use Rattle.index_theorems.specs.Stand.{In, Standing}
@@ -106,14 +106,14 @@ module _ (image text : List ℕ) where
     later e x g f b =
         let n = fits_means image text c key e g in
         let m = fits_means image text c key x f in
-        let o : Same ≡ order_of (key_of image text e.key) (key_of image text x.key) = rw (← n.1, ← m.1) (sym (order_same key)) in
+        let o : Equal ≡ order_of (key_of image text e.key) (key_of image text x.key) = rw (← n.1, ← m.1) (sym (order_same key)) in
         lower_le e.key x.key (e.value ∷ e.depth ∷ []) (x.value ∷ x.depth ∷ [])
-        (by_key image text e x (sym n.0 ∙ m.0) Same _ _ refl refl o ∙ b)
+        (by_key image text e x (sym n.0 ∙ m.0) Equal _ _ refl refl o ∙ b)
 
     abbrev row : List Mark
     row = k.row
 
-    last_finds : (v : ℕ) → last_of image text es c key ≡ Way.At v → Latest v
+    last_finds : (v : ℕ) → last_of image text es c key ≡ Some v → Latest v
     last_finds v s =
         let o = ordered all es k in
         let r = found image text c key row es o v s in
@@ -130,17 +130,17 @@ module _ (image text : List ℕ) where
               later e x r.fits f (rw p.same at (o.sorted p.number r.number (r.last p.number p.inside (rw p.same f)) r.inside));
         }
 
-    last_misses : last_of image text es c key ≡ Way.Nothing → (x : Mark) → In x all → fits_of image text c key x ≡ true → ⊥
+    last_misses : last_of image text es c key ≡ None → (x : Mark) → In x all → fits_of image text c key x ≡ true → ⊥
     last_misses s x i f =
         let p = at_in x row (into k.sorted.same x i) in
         none image text c key row es (ordered all es k) s p.number p.inside (rw p.same f)
 
-    pub step_finds : (v : ℕ) → step_of image text es c key ≡ Way.At v → Latest v
+    pub step_finds : (v : ℕ) → step_of image text es c key ≡ Some v → Latest v
     unfolding step_of
     step_finds v =
         cases (opens_at image c) (λ h. rw h (λ s. last_finds v s))
         (λ h. rw h (λ s. let z : ◌≡◌ {A = ℕ} 0 1 = cc in absurd (omega arith)))
 
-    pub step_misses : opens_at image c ≡ true → step_of image text es c key ≡ Way.Nothing → (x : Mark) → In x all → fits_of image text c key x ≡ true → ⊥
+    pub step_misses : opens_at image c ≡ true → step_of image text es c key ≡ None → (x : Mark) → In x all → fits_of image text c key x ≡ true → ⊥
     unfolding step_of
     step_misses h = rw h (λ s. last_misses s)

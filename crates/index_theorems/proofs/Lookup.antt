@@ -1,28 +1,26 @@
 -- Among marks in order, with nothing but zeros behind them, looking up a key of a container finds the last mark that fits, and nothing only where none fits.
-use Rattle.std.specs.Prelude.{◌+◌, ◌-◌, ◌/◌, ◌≤◌, ◌<◌, ◌≡◌, ◌∷◌}
+use Rattle.std.specs.Prelude.{◌+◌, ◌-◌, ◌/◌, ◌≤◌, ◌<◌, ◌≡◌, ◌∷◌, Some, None}
 use Rattle.wire.proofs.Kit.{ℕ, zero, suc, refl, sym, ap, ◌∙◌, List, [], Bool, true, false, ⊎_elim, arith, ltb, eqb, length}
 use Rattle.wire.proofs.Kit.{get_or, take, drop, le-ltb, ltb-true, ltb-false, le-leb, eqb-true, eqb-false, eq-eqb, ne_eqb}
 use Rattle.wire.specs.Choice.{pick}
 use Rattle.wire.specs.Text.{inside_of}
 use Rattle.wire.specs.declared.cursor.Cursor.{Cursor}
 use Rattle.wire.proofs.Laws.{false_true}
-use Rattle.image.specs.declared.taking.Taken.{Taken}
-use Rattle.image.specs.declared.taking.Taken.TheVariants.{Found, Bad}
-use Rattle.image.specs.Taking.{record_at}
+use Rattle.image.specs.Taking.{record_at, Taken}
 use Rattle.index.specs.declared.mark.Mark.{Mark}
-use Rattle.index.specs.declared.order.Order.{Order}
-use Rattle.index.specs.declared.order.Order.TheVariants.{Less, Same, More}
+use Rattle.std.specs.declared.cmp.Ordering.{Ordering}
+use Rattle.std.specs.declared.cmp.Ordering.TheVariants.{Less, Equal, Greater}
 use Rattle.index.specs.declared.walk.Role.{Role}
-use Rattle.index.specs.declared.find.Way.{Way}
 use Rattle.index.specs.Mark.{nothing}
 use Rattle.index.specs.Keys.{role_of, role_in, role_at}
 use Rattle.index.specs.Order.{order_of, key_of, text_by, lower, rank, before}
-use Rattle.index.specs.Find.{is_less, is_same, past_of, behind_by, behind_in, leads_of, upper_of, last_of}
+use Rattle.std.specs.Ordering.{is_lt, is_eq}
+use Rattle.index.specs.Find.{past_of, behind_by, behind_in, leads_of, upper_of, last_of}
 use Rattle.index.proofs.Rows.{cases, decide}
 use Rattle.index.proofs.Ordering.{ended, by_order, lower_text, lower_eq, lower_lt, lower_gt, lower_differs, lower_asym, lower_same, lower_trans, three}
 use Rattle.index_theorems.specs.Stand.{Standing}
 
-same_text : (a b : List ℕ) → order_of a b ≡ Same → a ≡ b
+same_text : (a b : List ℕ) → order_of a b ≡ Equal → a ≡ b
 unfolding order_of
 same_text [] [] = λ e. refl
 same_text [] (y ∷ b) = λ e. let z : ◌≡◌ {A = ℕ} 0 1 = cc in absurd (omega arith)
@@ -32,12 +30,12 @@ same_text (x ∷ a) (y ∷ b) =
     (λ h. cases (ltb y x) (λ g. rw (h, g) (λ e. let z : ◌≡◌ {A = ℕ} 0 1 = cc in absurd (omega arith)))
     (λ g. rw (h, g) (λ e. let p : x ≡ y = omega (arith, ltb-false x y h, ltb-false y x g) in let q : a ≡ b = same_text a b e in cc)))
 
-is_same_lem : (o : Order) → is_same o ≡ true → o ≡ Same
-is_same_lem Less g = absurd (false_true g)
-is_same_lem Same g = refl
-is_same_lem More g = absurd (false_true g)
+is_eq_lem : (o : Ordering) → is_eq o ≡ true → o ≡ Equal
+is_eq_lem Less g = absurd (false_true g)
+is_eq_lem Equal g = refl
+is_eq_lem Greater g = absurd (false_true g)
 
-pub order_same : (t : List ℕ) → order_of t t ≡ Same
+pub order_same : (t : List ℕ) → order_of t t ≡ Equal
 unfolding order_of
 order_same [] = refl
 order_same (x ∷ t) = rw (le-ltb x x (omega arith)) (order_same t)
@@ -58,19 +56,19 @@ module _ (image text : List ℕ) where
   of : Mark → List ℕ
   of e = short e.container (key_of image text e.key)
 
-  by_less : (o : Order) → is_less o ≡ by_order o false
+  by_less : (o : Ordering) → is_lt o ≡ by_order o false
   by_less Less = refl
-  by_less Same = refl
-  by_less More = refl
+  by_less Equal = refl
+  by_less Greater = refl
 
   nil_nil : lower [] [] ≡ false
   unfolding lower
   nil_nil = refl
 
-  weaker : (o : Order) (t : Bool) → by_order o t ≡ false → by_order o false ≡ false
+  weaker : (o : Ordering) (t : Bool) → by_order o t ≡ false → by_order o false ≡ false
   weaker Less t e = e
-  weaker Same t e = refl
-  weaker More t e = refl
+  weaker Equal t e = refl
+  weaker Greater t e = refl
 
   -- the order of marks is that of what they are looked up by, where it tells them apart
   of_order : (a b : Mark) → before image text a b ≡ false → lower (of a) (of b) ≡ false
@@ -91,7 +89,7 @@ module _ (image text : List ℕ) where
   module _ (c : ℕ) (key : List ℕ) where
     -- a mark of the container and the key
     unfoldable pub fits_of : Mark → Bool
-    fits_of m = pick (eqb c m.container) (is_same (order_of key (key_of image text m.key))) false
+    fits_of m = pick (eqb c m.container) (is_eq (order_of key (key_of image text m.key))) false
 
     past_zero : (e : Mark) → e.depth ≡ 0 → past_of image text c key e ≡ true
     unfolding past_of
@@ -114,7 +112,7 @@ module _ (image text : List ℕ) where
     unfolding fits_of
     fits_means e =
         cases (eqb c e.container)
-        (λ h. rw h (λ g. (eqb-true c e.container h, same_text key _ (is_same_lem _ g))))
+        (λ h. rw h (λ g. (eqb-true c e.container h, same_text key _ (is_eq_lem _ g))))
         (λ h. rw h (λ g. absurd (false_true g)))
 
     pub fits_is : (e : Mark) → c ≡ e.container → key ≡ key_of image text e.key → fits_of e ≡ true
@@ -137,8 +135,8 @@ module _ (image text : List ℕ) where
     by_role v (Role.Key p n) d =
         cases (eqb d.at v)
         (λ h. cases (inside_of text p n)
-        (λ g. cases (is_same (order_of key (take n (drop p text))))
-        (λ f. rw (h, g, f) (λ e. same_text key _ (is_same_lem _ f)))
+        (λ g. cases (is_eq (order_of key (take n (drop p text))))
+        (λ f. rw (h, g, f) (λ e. same_text key _ (is_eq_lem _ f)))
         (λ f. rw (h, g, f) (λ e. absurd (false_true e))))
         (λ g. rw (h, g) (λ e. absurd (false_true e))))
         (λ h. rw h (λ e. absurd (false_true e)))
@@ -148,8 +146,8 @@ module _ (image text : List ℕ) where
     by_role v Role.Other d = λ e. absurd (false_true e)
 
     by_taken : (v : ℕ) (t : Taken) → behind_in image text c key v t ≡ true → key ≡ text_by text (role_in t)
-    by_taken v (Found r d) e = by_role v (role_of r) d e
-    by_taken v Bad e = absurd (false_true e)
+    by_taken v (Some x) e = by_role v (role_of x.0) x.1 e
+    by_taken v None e = absurd (false_true e)
 
     -- it fits
     leads_fits : (e : Mark) → leads_of image text c key e ≡ true → fits_of e ≡ true
@@ -271,7 +269,7 @@ module _ (image text : List ℕ) (c : ℕ) (key : List ℕ) (row es : List Mark)
       cases (ltb i top) (λ t. ltb-true i top t)
       (λ t. absurd (false_true (sym (fits_low image text c key (at i) (o.deep i a) f) ∙ whole.high i (ltb-false i top t))))
 
-  pub found : (v : ℕ) → last_of image text es c key ≡ Way.At v → Last v
+  pub found : (v : ℕ) → last_of image text es c key ≡ Some v → Last v
   unfolding last_of
   found v =
       cases (eqb top 0) (λ h. rw h (λ g. let z : ◌≡◌ {A = ℕ} 0 1 = cc in absurd (omega arith)))
@@ -289,7 +287,7 @@ module _ (image text : List ℕ) (c : ℕ) (key : List ℕ) (row es : List Mark)
       }))
       (λ f. rw (h, q, f) (λ g. let z : ◌≡◌ {A = ℕ} 0 1 = cc in absurd (omega arith))))
 
-  pub none : last_of image text es c key ≡ Way.Nothing → (i : ℕ) → i < length row → fits_of image text c key (get_or row i nothing) ≡ true → ⊥
+  pub none : last_of image text es c key ≡ None → (i : ℕ) → i < length row → fits_of image text c key (get_or row i nothing) ≡ true → ⊥
   unfolding last_of
   none =
       cases (eqb top 0) (λ h g i b f. omega (arith, fits_before i b f, eqb-true top 0 h))

@@ -1,5 +1,5 @@
 -- The keys of an image are those of the tree that its records spell, each with its depth and the places of its container and its value.
-use Rattle.std.specs.Prelude.{◌+◌, ◌-◌, ◌≤◌, ◌<◌, ◌≡◌, ◌∷◌, ◌++◌}
+use Rattle.std.specs.Prelude.{◌+◌, ◌-◌, ◌≤◌, ◌<◌, ◌≡◌, ◌∷◌, ◌++◌, Some}
 use Rattle.wire.proofs.Kit.{ℕ, zero, suc, refl, sym, List, [], append_assoc, true, false, sub-one, arith, length, le-leb}
 use Rattle.wire.proofs.Kit.{ne_eqb}
 use Rattle.wire.specs.Field.{to, bytes_at}
@@ -116,20 +116,20 @@ module _ (s image : List ℕ) where
         let w : Valued s r i = rw e at (means s r g.1) in
         rw (first s image r rs z h g.0, w.role, w.named) (rest_part (value left image s) at (33 - left) (length image) (content i) (at + size r))
 
-    pair_first : (k : List ℕ) → look s r ≡ Word.name k → Right s (r ∷ rs) → pair_at image s Pairs true at ≡ Coming.Key (to (at + size r)) Pairs
+    pair_first : (k : List ℕ) → look s r ≡ Word.name k → Right s (r ∷ rs) → pair_at image s Pairs true at ≡ Some (Coming.Key (to (at + size r)) Pairs)
     unfolding pair_at
     pair_first k e g =
         let w : Keyed s r k = rw e at (means s r g.1) in
         rw (first s image r rs z h g.0, w.role, w.named)
 
-    end_first : look s r ≡ Word.close → Right s (r ∷ rs) → pair_at image s Pairs true at ≡ Coming.Done (to (at + size r))
+    end_first : look s r ≡ Word.close → Right s (r ∷ rs) → pair_at image s Pairs true at ≡ Some (Coming.Done (to (at + size r)))
     unfolding pair_at
     end_first e g =
         let w : Closed r = rw e at (means s r g.1) in
         rw (first s image r rs z h g.0, w.role)
 
   module _ (v : ℕ → Out) (place d fuel at : ℕ) {D : Type 0} {x : List ℕ} {n : ℕ} where
-    key_turn : (q : ℕ) → pair_at image s Pairs true at ≡ Coming.Key (to q) Pairs → Puts D (v q >>= rest v image s place d fuel Pairs) x n
+    key_turn : (q : ℕ) → pair_at image s Pairs true at ≡ Some (Coming.Key (to q) Pairs) → Puts D (v q >>= rest v image s place d fuel Pairs) x n
         → Puts D (rest v image s place d (suc fuel) Pairs at) (mark_bytes (mark d place at q) ++ x) n
     unfolding rest turn_of
     key_turn q e p = rw e (Puts.more p)
@@ -146,7 +146,7 @@ module _ (s image : List ℕ) where
     unfolding rest turn_of
     last_turn e p = rw e p
 
-  end_turn : (v : ℕ → Out) (place d fuel at q : ℕ) {D : Type 0} → pair_at image s Pairs true at ≡ Coming.Done (to q) → Puts D (rest v image s place d (suc fuel) Pairs at) [] q
+  end_turn : (v : ℕ → Out) (place d fuel at q : ℕ) {D : Type 0} → pair_at image s Pairs true at ≡ Some (Coming.Done (to q)) → Puts D (rest v image s place d (suc fuel) Pairs at) [] q
   unfolding rest turn_of
   end_turn v place d fuel at q e = rw e Puts.done
 

@@ -1,16 +1,14 @@
 -- A path is looked up key by key, and only one that is keys behind their lengths, in a row, is found.
-use Rattle.std.specs.Prelude.{◌+◌, ◌-◌, ◌*◌, ◌/◌, ◌≤◌, ◌≡◌, ◌∷◌, ◌++◌}
+use Rattle.std.specs.Prelude.{◌+◌, ◌-◌, ◌*◌, ◌/◌, ◌≤◌, ◌≡◌, ◌∷◌, ◌++◌, Some, None, Option}
 use Rattle.wire.proofs.Kit.{ℕ, zero, suc, refl, sym, ap, ◌∙◌, List, [], append-nil, true, arith, ltb, leb, length}
 use Rattle.wire.proofs.Kit.{drop, length-append, length-drop, drop_of_length-le, take_at, drop_at, drop-drop, le-leb, leb-true, leb-false, ltb-false}
 use Rattle.wire.specs.Number.{digits, Bytes}
-use Rattle.wire.specs.Field.{to, bytes_at, u16_at}
+use Rattle.wire.specs.Field.{to, bytes_at, u16_at, got_to}
 use Rattle.wire.specs.Text.{inside_of, part_of}
-use Rattle.wire.specs.declared.cursor.U16.TheVariants as U16
 use Rattle.wire.proofs.Stands.{Here, cut, after, u16_at_lem, Stood, end16, length_bytes, stood}
 use Rattle.amf0.specs.Standard.{Sort, Tree}
 use Rattle.amf0.specs.Written.{Writable}
 use Rattle.index.specs.declared.mark.Mark.{Mark}
-use Rattle.index.specs.declared.find.Way.{Way}
 use Rattle.index.specs.Mark.{rows}
 use Rattle.index.specs.Find.{starts_at, step_of, thence, down_of, find_of}
 use Rattle.index.specs.Index.{Indexed, index_of, Holds}
@@ -22,9 +20,9 @@ use Rattle.index_theorems.proofs.Ways.{looked, path_leads}
 use Rattle.index_theorems.proofs.Whole.{keys, fill, index_is, index_not, index_kept}
 
 module _ (s image : List ℕ) (es : List Mark) (path : List ℕ) where
-  thence_same : (f : Way) (k l : ℕ → Way) → ((p : ℕ) → k p ≡ l p) → thence image s es f k ≡ thence image s es f l
-  thence_same (Way.At p) k l h = h p
-  thence_same Way.Nothing k l h = refl
+  thence_same : (f : Option ℕ) (k l : ℕ → (Option ℕ)) → ((p : ℕ) → k p ≡ l p) → thence image s es f k ≡ thence image s es f l
+  thence_same (Some p) k l h = h p
+  thence_same None k l h = refl
 
   down_looked : (ks : List (List ℕ)) → Short ks → (i fuel place : ℕ) → drop i path ≡ shorts ks → i ≤ length path → length (shorts ks) ≤ fuel
       → down_of image s es path fuel i place ≡ looked s image es place ks
@@ -36,7 +34,7 @@ module _ (s image : List ℕ) (es : List Mark) (path : List ℕ) where
       let size : length path - i ≡ length (shorts (k ∷ ks)) = sym (length-drop i path) ∙ ap length h in
       let total = length-append k (shorts ks) in
       let here : Here path i (digits 2 n ++ (k ++ shorts ks)) [] = record { same = h ∙ sym (append-nil (shorts (k ∷ ks))) } in
-      let e : u16_at path i ≡ U16.Got n (to (i + 2)) = u16_at_lem n (cut (digits 2 n) (k ++ shorts ks) here) b.0 in
+      let e : u16_at path i ≡ got_to n (to (i + 2)) = u16_at_lem n (cut (digits 2 n) (k ++ shorts ks) here) b.0 in
       let behind : drop (i + 2) path ≡ k ++ shorts ks = after (cut (digits 2 n) (k ++ shorts ks) here) refl ∙ append-nil (k ++ shorts ks) in
       let room : i + 2 + n ≤ length path = omega arith in
       let t : inside_of path (i + 2) n ≡ true = le-leb (i + 2 + n) (length path) room in
@@ -79,9 +77,9 @@ found_made image s w index a h ks b =
 -- ---- only whole keys are found
 
 module _ (image s : List ℕ) (es : List Mark) (path : List ℕ) (bytes : Bytes path) (v : ℕ) where
-  on_at : (f : Way) (k : ℕ → Way) {P : Type 0} → thence image s es f k ≡ Way.At v → ((p : ℕ) → k p ≡ Way.At v → P) → P
-  on_at (Way.At p) k e g = g p e
-  on_at Way.Nothing k e g = let z : ◌≡◌ {A = ℕ} 0 1 = cc in absurd (omega arith)
+  on_at : (f : Option ℕ) (k : ℕ → (Option ℕ)) {P : Type 0} → thence image s es f k ≡ Some v → ((p : ℕ) → k p ≡ Some v → P) → P
+  on_at (Some p) k e g = g p e
+  on_at None k e g = let z : ◌≡◌ {A = ℕ} 0 1 = cc in absurd (omega arith)
 
   key_first : (i n : ℕ) → Stood 2 path i n → i + 2 + n ≤ length path → Keys (drop (i + 2 + n) path) → Keys (drop i path)
   key_first i n d l r =
@@ -95,13 +93,13 @@ module _ (image s : List ℕ) (es : List Mark) (path : List ℕ) (bytes : Bytes 
             (ap (λ (x : List ℕ). digits 2 n ++ x) ((stood n path (i + 2)).same ∙ ap (λ (x : List ℕ). bytes_at n path (i + 2) ++ x) r.same));
       }
 
-  down_keys : (fuel i place : ℕ) → length path ≤ i + fuel → down_of image s es path fuel i place ≡ Way.At v → Keys (drop i path)
+  down_keys : (fuel i place : ℕ) → length path ≤ i + fuel → down_of image s es path fuel i place ≡ Some v → Keys (drop i path)
   unfolding down_of
   down_keys zero i place h = λ e. let l : length path ≤ i = omega arith in record { keys = []; short = tt; same = drop_of_length-le path l }
   down_keys (suc fuel) i place h =
       cases (ltb i (length path))
       (λ t. rw t
-      (end16 (λ (w : Way). w ≡ Way.At v → Keys (drop i path)) (λ a p. Way.Nothing) (λ a p e. let z : ◌≡◌ {A = ℕ} 0 1 = cc in absurd (omega arith)) path bytes i
+      (end16 (λ (w : Option ℕ). w ≡ Some v → Keys (drop i path)) (λ a p. None) (λ a p e. let z : ◌≡◌ {A = ℕ} 0 1 = cc in absurd (omega arith)) path bytes i
       (λ n q. _)
       (λ n d.
       cases (inside_of path (i + 2) n)
@@ -112,7 +110,7 @@ module _ (image s : List ℕ) (es : List Mark) (path : List ℕ) (bytes : Bytes 
       (λ t. rw t (λ e. record { keys = []; short = tt; same = drop_of_length-le path (ltb-false i (length path) t) }))
 
   -- whatever the marks are
-  pub found_keys : find_of image s es path ≡ Way.At v → Keys path
+  pub found_keys : find_of image s es path ≡ Some v → Keys path
   unfolding find_of
   found_keys =
       cases (starts_at image) (λ t. rw t (λ e. down_keys (length path) 0 0 (omega arith) e))

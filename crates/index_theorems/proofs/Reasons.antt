@@ -1,5 +1,5 @@
 -- Why an index is refused, in terms of the trees and the files whose image is given: it has an index exactly where it is the image of one that is not too deep.
-use Rattle.std.specs.Prelude.{◌*◌, ◌≤◌, ◌<◌, ◌≡◌, ◌∷◌, ◌++◌, ◌⊎◌, ◌≢◌, ◌↔◌}
+use Rattle.std.specs.Prelude.{◌*◌, ◌≤◌, ◌<◌, ◌≡◌, ◌∷◌, ◌++◌, ◌⊎◌, ◌≢◌, ◌↔◌, Some, None}
 use Rattle.wire.proofs.Kit.{ℕ, zero, suc, refl, ap, ◌∙◌, List, [], Bool, true, false, inl, inr, ⊎_elim, arith, length}
 use Rattle.wire.proofs.Kit.{eqb}
 use Rattle.wire.specs.Choice.{pick}
@@ -10,9 +10,7 @@ use Rattle.image.specs.declared.record.Record.TheVariants as R
 use Rattle.image.specs.declared.record.Layout.{Layout}
 use Rattle.image.specs.Kind as kind
 use Rattle.image.specs.Record.{layout_of, bytes_of, field_bytes}
-use Rattle.image.specs.declared.taking.Taken.{Taken}
-use Rattle.image.specs.declared.taking.Taken.TheVariants.{Found, Bad}
-use Rattle.image.specs.Taking.{record_at}
+use Rattle.image.specs.Taking.{record_at, Taken}
 use Rattle.image.specs.Out.{Out, Written}
 use Rattle.image.proofs.Laws.{small}
 use Rattle.amf0.specs.Standard.{Sort, Tree, depth}
@@ -133,8 +131,8 @@ meant {image} {text} known x = go (record_at image 0) (none 5 (inl refl)) (none 
     by false = tree
 
     go : (t : Taken) → (writes_in image text 0 t).writing.answer ≢ 5 → (writes_in image text 0 t).writing.answer ≢ 6 → Meant image text
-    go (Found r c) = by (eqb (layout_of r).kind kind.lso)
-    go Bad = tree
+    go (Some x) = by (eqb (layout_of x.0).kind kind.lso)
+    go None = tree
 
 -- ---- the call
 

@@ -1,5 +1,5 @@
 -- The index of an image is refused where, and with what, the writing of that image is: whatever the image is.
-use Rattle.std.specs.Prelude.{◌+◌, ◌-◌, ◌≤◌, ◌<◌, ◌≡◌, ◌≢◌}
+use Rattle.std.specs.Prelude.{◌+◌, ◌-◌, ◌≤◌, ◌<◌, ◌≡◌, ◌≢◌, Some, None}
 use Rattle.wire.proofs.Kit.{ℕ, zero, suc, refl, ap, List, Bool, true, false, sub-one, arith, leb, length, lt-leb, ne_eqb}
 use Rattle.wire.specs.Choice.{pick}
 use Rattle.wire.specs.Field.{u8_at}
@@ -9,10 +9,8 @@ use Rattle.wire.specs.declared.cursor.Cursor.{Cursor}
 use Rattle.wire.proofs.Laws.{picked}
 use Rattle.image.specs.declared.record.Record.{Record}
 use Rattle.image.specs.declared.record.Record.TheVariants as R
-use Rattle.image.specs.declared.taking.Taken.{Taken}
-use Rattle.image.specs.declared.taking.Taken.TheVariants.{Found, Bad}
 use Rattle.image.specs.declared.writing.Row.{Row}
-use Rattle.image.specs.Taking.{record_at}
+use Rattle.image.specs.Taking.{record_at, Taken, taken_to}
 use Rattle.image.specs.Out.{Out, end, stop, put, ◌>>=◌, row, named_at, named_of}
 use Rattle.image.proofs.Found.{found_stood}
 use Rattle.image.proofs.Laws.{size_some}
@@ -99,13 +97,13 @@ pub record Behind (image : List ℕ) (at : ℕ) (c : Cursor) : Type 0 where
   pub from : at + 1 ≤ c.at
   pub fits : c.at ≤ length image
 
-pub behind : (image : List ℕ) → Bytes image → (at : ℕ) (r : Record) (c : Cursor) → record_at image at ≡ Found r c → Behind image at c
+pub behind : (image : List ℕ) → Bytes image → (at : ℕ) (r : Record) (c : Cursor) → record_at image at ≡ taken_to r c → Behind image at c
 behind image known at r c e =
     let h = found_stood image known at r c e in
     record { from = omega (arith, h.next, size_some r); fits = h.within }
 
 module _ (image s : List ℕ) (known : Bytes image) where
-  nothing_past : (at : ℕ) → length image ≤ at → record_at image at ≡ Bad
+  nothing_past : (at : ℕ) → length image ≤ at → record_at image at ≡ None
   unfolding record_at u8_at
   nothing_past at h = rw (lt-leb (at + 1) (length image) (omega arith))
 
@@ -156,8 +154,8 @@ module _ (image s : List ℕ) (known : Bytes image) where
             (turned at (key_in s Pairs true t) (λ q y. v q >>= rest v image s place d f y)
             (λ q y. put (mark_bytes (mark d place at q)) (v q >>= rest v image s place d f y)))
             (taken at t λ r q. paired at (shape_of r) (λ x. row s x at (w q >>= pairs w image s g)) (λ x. row s x at (end q)))
-        go (Found r c) e more = let p = behind image known at r c e in by (shape_of r) (role_of r) c p.from p.fits (kin s r) more
-        go Bad e more = Alike.stops
+        go (Some x) e more = let p = behind image known at x.0 x.1 e in by (shape_of x.0) (role_of x.0) x.1 p.from p.fits (kin s x.0) more
+        go None e more = Alike.stops
 
     alike_dense : (f g k at : ℕ) → at ≤ length image → length image < f + at → length image < g + at
         → Alike (From at) (rest v image s place d f Dense at) (dense w image s g k at)
@@ -200,8 +198,8 @@ module _ (image s : List ℕ) (known : Bytes image) where
       go : (t : Taken) → record_at image at ≡ t → ((n : ℕ) → n ≤ length image → Alike (Ahead n) (value left image s n) (written left image s n))
           → Alike (Ahead at) (owned at (own_in s t) λ q due. rest (value left image s) image s at (33 - left) (suc (length image)) due q)
           (taken at t λ r q. valued at (shape_of r) λ w a. row s w at (following (written left image s) image s a q))
-      go (Found r c) e more = let p = behind image known at r c e in by (shape_of r) (role_of r) c p.from p.fits (kin s r) more
-      go Bad e more = Alike.stops
+      go (Some x) e more = let p = behind image known at x.0 x.1 e in by (shape_of x.0) (role_of x.0) x.1 p.from p.fits (kin s x.0) more
+      go None e more = Alike.stops
 
   abbrev Any : ℕ → Type 0
   Any n = Unit {0}
@@ -247,7 +245,7 @@ pub refused_as_value : (image s : List ℕ) → Bytes image → answer_of (whole
 unfolding root_of written answer_of
 refused_as_value image s known ne = go (record_at image 0) refl
   where
-    by : (r : Record) (c : Cursor) → record_at image 0 ≡ Found r c → (x : Shape) (y : Role) → shape_of r ≡ x → role_of r ≡ y → Kin s x y
+    by : (r : Record) (c : Cursor) → record_at image 0 ≡ taken_to r c → (x : Shape) (y : Role) → shape_of r ≡ x → role_of r ≡ y → Kin s x y
         → answer_of (keys_of image s) ≡ answer_of (whole image (written limit.levels image s 0))
     by r c e x y f g (Kin.k_value q u) = refused_alike image s known (rw (e, g) refl)
     by r c e x y f g (Kin.k_key q) = refused_alike image s known (rw (e, g) refl)
@@ -256,5 +254,5 @@ refused_as_value image s known ne = go (record_at image 0) refl
     by r c e x y f g Kin.k_other = refused_alike image s known (rw (e, g) refl)
 
     go : (t : Taken) → record_at image 0 ≡ t → answer_of (keys_of image s) ≡ answer_of (whole image (written limit.levels image s 0))
-    go (Found r c) e = by r c e (shape_of r) (role_of r) refl refl (kin s r)
-    go Bad e = refused_alike image s known (rw e refl)
+    go (Some x) e = by x.0 x.1 e (shape_of x.0) (role_of x.0) refl refl (kin s x.0)
+    go None e = refused_alike image s known (rw e refl)

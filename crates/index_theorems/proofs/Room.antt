@@ -1,6 +1,6 @@
 -- How much a walk over an image puts out: marks alone, and for each of them it passes seven bytes of the image. So a buffer twice as long as the image is always
 -- room enough for its index. And it is refused with 5 or 6 alone. All of it holds of any image.
-use Rattle.std.specs.Prelude.{◌+◌, ◌-◌, ◌*◌, ◌≤◌, ◌≡◌, ◌⊎◌}
+use Rattle.std.specs.Prelude.{◌+◌, ◌-◌, ◌*◌, ◌≤◌, ◌≡◌, ◌⊎◌, Some, None, Option}
 use Rattle.wire.proofs.Kit.{ℕ, zero, suc, refl, List, Bool, true, false, inl, inr, arith, leb, eqb, length, length-append}
 use Rattle.wire.specs.Choice.{pick}
 use Rattle.wire.specs.Field.{to}
@@ -10,20 +10,17 @@ use Rattle.wire.specs.declared.cursor.Cursor.{Cursor}
 use Rattle.wire.proofs.Laws.{picked}
 use Rattle.image.specs.declared.record.Record.{Record}
 use Rattle.image.specs.declared.record.Record.TheVariants as R
-use Rattle.image.specs.declared.taking.Taken.{Taken}
-use Rattle.image.specs.declared.taking.Taken.TheVariants.{Found, Bad}
 use Rattle.image.specs.Record.{size}
-use Rattle.image.specs.Taking.{record_at}
+use Rattle.image.specs.Taking.{record_at, Taken, taken_to}
 use Rattle.image.specs.Out.{Out, end, stop, put, ◌>>=◌, named_at, bytes as bytes_out}
 use Rattle.image.proofs.Found.{found_stood}
 use Rattle.amf0.specs.Writing.{value_at}
 use Rattle.index.specs.declared.walk.Rest.{Rest}
 use Rattle.index.specs.declared.walk.Rest.TheVariants.{Nothing, Pairs, Dense, Body, Values}
 use Rattle.index.specs.declared.walk.Role.{Role}
-use Rattle.index.specs.declared.walk.Begun.{Begun}
 use Rattle.index.specs.declared.walk.Coming.{Coming}
 use Rattle.index.specs.Mark.{mark, mark_bytes}
-use Rattle.index.specs.Keys.{role_of, own_by, own_in, key_by, key_in, own_of, pair_at, turn_of, turned, owned, rest, value}
+use Rattle.index.specs.Keys.{Begun, begun_to, role_of, own_by, own_in, key_by, key_in, own_of, pair_at, turn_of, turned, owned, rest, value}
 use Rattle.index.specs.Index.{root_by, root_in, root_of, keys_of}
 use Rattle.index_theorems.proofs.Refusals.{Behind, behind, answer_of}
 
@@ -56,14 +53,14 @@ module _ (image s : List ℕ) where
   Paced more at k m n = Bytes image → at ≤ length image → (7 * m + at + more ≤ 7 * k + n) × (n ≤ length image)
 
   -- what comes at a place
-  abbrev Comes : ℕ → Coming → Type 0
-  Comes at (Coming.Done c) = Bytes image → at ≤ length image → (at ≤ c.at) × (c.at ≤ length image)
-  Comes at (Coming.Value c t) = c.at ≡ at
-  Comes at (Coming.Key c t) = Bytes image → (c.at ≡ at + 6) × (c.at ≤ length image)
-  Comes at Coming.Stop = Unit {0}
+  abbrev Comes : ℕ → Option Coming → Type 0
+  Comes at (Some (Coming.Done c)) = Bytes image → at ≤ length image → (at ≤ c.at) × (c.at ≤ length image)
+  Comes at (Some (Coming.Value c t)) = c.at ≡ at
+  Comes at (Some (Coming.Key c t)) = Bytes image → (c.at ≡ at + 6) × (c.at ≤ length image)
+  Comes at None = Unit {0}
 
   module _ (at : ℕ) (due : Rest) (ends : Bool) where
-    came : (r : Record) (c : Cursor) → record_at image at ≡ Found r c → Comes at (key_by s due ends (role_of r) c)
+    came : (r : Record) (c : Cursor) → record_at image at ≡ taken_to r c → Comes at (key_by s due ends (role_of r) c)
     unfolding size
     came (R.Number n) c e = tt
     came (R.Boolean b) c e = tt
@@ -74,14 +71,14 @@ module _ (image s : List ℕ) where
     came (R.Reference n) c e = tt
     came (R.EcmaArray n) c e = tt
     came R.ObjectEnd c e =
-        picked (Comes at) ends (Coming.Done c) Coming.Stop (λ _ known l. let p = behind image known at R.ObjectEnd c e in (omega (arith, p.from), p.fits)) (λ _. tt)
+        picked (Comes at) ends (Some (Coming.Done c)) None (λ _ known l. let p = behind image known at R.ObjectEnd c e in (omega (arith, p.from), p.fits)) (λ _. tt)
     came (R.StrictArray n) c e = tt
     came (R.Date n present zone) c e = tt
     came R.Unsupported c e = tt
     came (R.Xml p n) c e = tt
     came (R.TypedObject p n) c e = tt
     came (R.Key p n) c e =
-        picked (Comes at) (named_at s p n) (Coming.Key c due) Coming.Stop
+        picked (Comes at) (named_at s p n) (Some (Coming.Key c due)) None
         (λ _ known. let f = found_stood image known at (R.Key p n) c e in (f.next, f.within))
         (λ _. tt)
     came (R.Packet h m) c e = tt
@@ -90,8 +87,8 @@ module _ (image s : List ℕ) where
     came (R.Lso l p n) c e = tt
 
     came_in : (t : Taken) → record_at image at ≡ t → Comes at (key_in s due ends t)
-    came_in (Found r c) e = came r c e
-    came_in Bad e = tt
+    came_in (Some x) e = came x.0 x.1 e
+    came_in None e = tt
 
     pair_comes : Comes at (pair_at image s due ends at)
     unfolding pair_at
@@ -101,11 +98,11 @@ module _ (image s : List ℕ) where
   unfolding turn_of
   turn_comes Nothing at = λ known l. (omega arith, l)
   turn_comes (Values n) at =
-      picked (Comes at) (eqb n 0) (Coming.Done (to at)) (Coming.Value (to at) (Values (n - 1))) (λ _ known l. (omega arith, l)) (λ _. refl)
-  turn_comes Dense at = picked (Comes at) (value_at image at) (Coming.Value (to at) Dense) (pair_at image s Pairs true at) (λ _. refl) (λ _. pair_comes at Pairs true)
+      picked (Comes at) (eqb n 0) (Some (Coming.Done (to at))) (Some (Coming.Value (to at) (Values (n - 1)))) (λ _ known l. (omega arith, l)) (λ _. refl)
+  turn_comes Dense at = picked (Comes at) (value_at image at) (Some (Coming.Value (to at) Dense)) (pair_at image s Pairs true at) (λ _. refl) (λ _. pair_comes at Pairs true)
   turn_comes Pairs at = pair_comes at Pairs true
   turn_comes Body at =
-      picked (Comes at) (leb (length image) at) (Coming.Done (to at)) (pair_at image s Body false at)
+      picked (Comes at) (leb (length image) at) (Some (Coming.Done (to at))) (pair_at image s Body false at)
       (λ _ known l. (omega arith, l))
       (λ _. pair_comes at Body false)
 
@@ -115,14 +112,14 @@ module _ (image s : List ℕ) where
     rest_rowed zero due at k = Rowed.bad
     rest_rowed (suc f) due at k = go (turn_of image s due at) (turn_comes due at) (rest_rowed f)
       where
-        go : (x : Coming) → Comes at x → ((t : Rest) (q j : ℕ) → Rowed (Paced 0 q j) j (rest v image s place d f t q))
+        go : (x : Option Coming) → Comes at x → ((t : Rest) (q j : ℕ) → Rowed (Paced 0 q j) j (rest v image s place d f t q))
             → Rowed (Paced 0 at k) k
             (turned at x (λ q t. v q >>= rest v image s place d f t) (λ q t. put (mark_bytes (mark d place at q)) (v q >>= rest v image s place d f t)))
-        go (Coming.Done c) h more = Rowed.ends {k = k} {n = c.at} (λ known l. let b = h known l in (omega (arith, b.0), b.1))
-        go (Coming.Value c t) h more =
+        go (Some (Coming.Done c)) h more = Rowed.ends {k = k} {n = c.at} (λ known l. let b = h known l in (omega (arith, b.0), b.1))
+        go (Some (Coming.Value c t)) h more =
             onward (rest v image s place d f t) (inner k c.at) λ m n p.
             wider (λ i o q known l. let a = p known (omega arith) in let b = q known a.1 in (omega (arith, a.0, b.0), b.1)) (more t n m)
-        go (Coming.Key c t) h more =
+        go (Some (Coming.Key c t)) h more =
             Rowed.one refl
             (onward (rest v image s place d f t) (inner (suc k) c.at) λ m n p.
             wider (λ i o q known l.
@@ -130,23 +127,23 @@ module _ (image s : List ℕ) where
             let a = p known e.1 in
             let b = q known a.1 in
             (omega (arith, e.0, a.0, b.0), b.1)) (more t n m))
-        go Coming.Stop h more = Rowed.bad
+        go None h more = Rowed.bad
 
   -- a value's record
   abbrev Starts : ℕ → Begun → Type 0
-  Starts at (Begun.Next c f) = Bytes image → Behind image at c
-  Starts at Begun.Stop = Unit {0}
+  Starts at (Some x) = Bytes image → Behind image at x.0
+  Starts at None = Unit {0}
 
   own_by_lem : (at : ℕ) (y : Role) (c : Cursor) → (Bytes image → Behind image at c) → Starts at (own_by s y c)
-  own_by_lem at (Role.Value p n f) c b = picked (Starts at) (named_at s p n) (Begun.Next c f) Begun.Stop (λ _. b) (λ _. tt)
+  own_by_lem at (Role.Value p n f) c b = picked (Starts at) (named_at s p n) (begun_to c f) None (λ _. b) (λ _. tt)
   own_by_lem at (Role.Key p n) c b = tt
   own_by_lem at (Role.File p n) c b = tt
   own_by_lem at Role.End c b = tt
   own_by_lem at Role.Other c b = tt
 
   own_in_lem : (at : ℕ) (t : Taken) → record_at image at ≡ t → Starts at (own_in s t)
-  own_in_lem at (Found r c) e = own_by_lem at (role_of r) c (λ known. behind image known at r c e)
-  own_in_lem at Bad e = tt
+  own_in_lem at (Some x) e = own_by_lem at (role_of x.0) x.1 (λ known. behind image known at x.0 x.1 e)
+  own_in_lem at None e = tt
 
   value_rowed : (left k at : ℕ) → Rowed (Paced 1 at k) k (value left image s at)
   unfolding value Paced own_of
@@ -155,26 +152,26 @@ module _ (image s : List ℕ) where
     where
       go : (x : Begun) → Starts at x → ((j q : ℕ) → Rowed (Paced 1 q j) j (value left image s q))
           → Rowed (Paced 1 at k) k (owned at x λ q due. rest (value left image s) image s at (limit.levels + 1 - left) (suc (length image)) due q)
-      go (Begun.Next c due) h more =
+      go (Some x) h more =
           wider (λ m n p known l. let b = h known in let a = p known b.fits in (omega (arith, b.from, a.0), a.1))
-          (rest_rowed (value left image s) more at (limit.levels + 1 - left) (suc (length image)) due c.at k)
-      go Begun.Stop h more = Rowed.bad
+          (rest_rowed (value left image s) more at (limit.levels + 1 - left) (suc (length image)) x.1 x.0.at k)
+      go None h more = Rowed.bad
 
   -- the first record
   abbrev Roots : Begun → Type 0
-  Roots (Begun.Next c f) = Bytes image → c.at ≤ length image
-  Roots Begun.Stop = Unit {0}
+  Roots (Some x) = Bytes image → x.0.at ≤ length image
+  Roots None = Unit {0}
 
   root_by_lem : (y : Role) (c : Cursor) → (Bytes image → c.at ≤ length image) → Roots (root_by s y c)
   root_by_lem (Role.Value p n f) c b = λ known. omega arith
   root_by_lem (Role.Key p n) c b = λ known. omega arith
-  root_by_lem (Role.File p n) c b = picked Roots (named_at s p n) (Begun.Next c Body) Begun.Stop (λ _. b) (λ _. tt)
+  root_by_lem (Role.File p n) c b = picked Roots (named_at s p n) (begun_to c Body) None (λ _. b) (λ _. tt)
   root_by_lem Role.End c b = λ known. omega arith
   root_by_lem Role.Other c b = λ known. omega arith
 
   root_in_lem : (t : Taken) → record_at image 0 ≡ t → Roots (root_in s t)
-  root_in_lem (Found r c) e = root_by_lem (role_of r) c (λ known. (behind image known 0 r c e).fits)
-  root_in_lem Bad e = λ known. omega arith
+  root_in_lem (Some x) e = root_by_lem (role_of x.0) x.1 (λ known. (behind image known 0 x.0 x.1 e).fits)
+  root_in_lem None e = λ known. omega arith
 
   pub keys_rowed : Rowed (λ m n. Bytes image → (7 * m ≤ n) × (n ≤ length image)) 0 (keys_of image s)
   unfolding keys_of root_of Paced
@@ -185,10 +182,10 @@ module _ (image s : List ℕ) where
       go : (x : Begun) → Roots x
           → Rowed (λ m n. Bytes image → (7 * m ≤ n) × (n ≤ length image)) 0
           (owned 0 x λ q due. rest (value limit.levels image s) image s 0 1 (suc (length image)) due q)
-      go (Begun.Next c due) h =
+      go (Some x) h =
           wider (λ m n p known. let a = p known (h known) in (omega (arith, a.0), a.1))
-          (rest_rowed (value limit.levels image s) (value_rowed limit.levels) 0 1 (suc (length image)) due c.at 0)
-      go Begun.Stop h = Rowed.bad
+          (rest_rowed (value limit.levels image s) (value_rowed limit.levels) 0 1 (suc (length image)) x.1 x.0.at 0)
+      go None h = Rowed.bad
 
 -- ---- what a walk of marks comes to
 

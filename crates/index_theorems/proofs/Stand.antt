@@ -6,9 +6,8 @@ use Rattle.wire.proofs.Laws.{false_true}
 use Rattle.wire.proofs.Stands.{Here, cut, skip}
 use Rattle.image.specs.declared.record.Record.{Record}
 use Rattle.image.specs.declared.record.Record.TheVariants as R
-use Rattle.image.specs.declared.taking.Taken.TheVariants.{Found}
 use Rattle.image.specs.Record.{size}
-use Rattle.image.specs.Taking.{record_at}
+use Rattle.image.specs.Taking.{record_at, taken_to}
 use Rattle.amf0.specs.Standard.{Item, Sort, Content, content, sort_of, Tree}
 use Rattle.amf0.specs.Shown.{Word, look, laid, Right}
 use Rattle.amf0.specs.Written.{Lead, lead_of, Spells}
@@ -39,8 +38,8 @@ module _ (s image : List ℕ) where
         record {
           place = w.p;
           size = w.n;
-          key = ap (record_at image) a ∙ first s image r rs z h g.0 ∙ ap (λ (x : Record). Found x (to (at + size r))) w.is
-              ∙ ap (λ (x : ℕ). Found (R.Key w.p w.n) (to x)) (sym b);
+          key = ap (record_at image) a ∙ first s image r rs z h g.0 ∙ ap (λ (x : Record). taken_to x (to (at + size r))) w.is
+              ∙ ap (λ (x : ℕ). taken_to (R.Key w.p w.n) (to x)) (sym b);
           stands = w.stands;
           value = rw b v;
         }

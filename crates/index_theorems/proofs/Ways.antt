@@ -1,5 +1,5 @@
 -- A path of keys leads down the tree exactly where looking it up in the index does.
-use Rattle.std.specs.Prelude.{◌+◌, ◌≤◌, ◌<◌, ◌≡◌, ◌∷◌, ◌++◌, ◌⊎◌}
+use Rattle.std.specs.Prelude.{◌+◌, ◌≤◌, ◌<◌, ◌≡◌, ◌∷◌, ◌++◌, ◌⊎◌, Some, None, Option}
 use Rattle.wire.proofs.Kit.{ℕ, refl, sym, ap, ◌∙◌, List, [], append-nil, true, false, inl, inr, ⊎_elim, arith, length}
 use Rattle.wire.specs.Choice.{pick}
 use Rattle.wire.specs.Field.{equal}
@@ -14,7 +14,6 @@ use Rattle.amf0.specs.Written.{Lead, Spells}
 use Rattle.amf0.specs.Written.Lead.{keyed}
 use Rattle.amf0_theorems.proofs.Puts.{laid_append, laid_length, laid_size, right_left, right_right, others}
 use Rattle.index.specs.declared.mark.Mark.{Mark}
-use Rattle.index.specs.declared.find.Way.{Way}
 use Rattle.index.specs.Mark.{mark}
 use Rattle.index.specs.Order.{key_of}
 use Rattle.index.specs.Find.{has_pairs, opens_at, step_of, thence}
@@ -230,8 +229,8 @@ module _ (s image : List ℕ) (place : ℕ) (key : List ℕ) where
 
 module _ (s image : List ℕ) (es : List Mark) where
   -- a path of keys, looked up from a place on
-  unfoldable pub looked : ℕ → List (List ℕ) → Way
-  looked place [] = Way.At place
+  unfoldable pub looked : ℕ → List (List ℕ) → (Option ℕ)
+  looked place [] = Some place
   looked place (key ∷ path) = thence image s es (step_of image s es place key) λ p. looked p path
 
 module _ (s image : List ℕ) (all es : List Mark) (kept : Kept image s all es) where
@@ -245,21 +244,21 @@ module _ (s image : List ℕ) (all es : List Mark) (kept : Kept image s all es) 
     pub owns : (e : Mark) → In e all → x.at ≤ e.container → e.container < x.at + length (laid x.records) → In e (marks x.spells place level x.at)
     pub gives : (e : Mark) → In e (marks x.spells place level x.at) → In e all
 
-  pub record Goes (f : Way) (y : Sub s) : Type 0 where
-    pub is : f ≡ Way.At y.at
+  pub record Goes (f : Option ℕ) (y : Sub s) : Type 0 where
+    pub is : f ≡ Some y.at
     pub owned : Owned y
 
-  abbrev pub Stepped : Perhaps s → Way → Type 0
-  Stepped nowhere f = f ≡ Way.Nothing
+  abbrev pub Stepped : Perhaps s → (Option ℕ) → Type 0
+  Stepped nowhere f = f ≡ None
   Stepped (found y) f = Goes f y
 
-  either : (f : Way) {P : Type 0} → (f ≡ Way.Nothing → P) → ((v : ℕ) → f ≡ Way.At v → P) → P
-  either (Way.At v) a b = b v refl
-  either Way.Nothing a b = a refl
+  either : (f : Option ℕ) {P : Type 0} → (f ≡ None → P) → ((v : ℕ) → f ≡ Some v → P) → P
+  either (Some v) a b = b v refl
+  either None a b = a refl
 
   module _ (key : List ℕ) (at n level : ℕ) (own : List Mark)
       (owns : (e : Mark) → In e all → at ≤ e.container → e.container < at + n → In e own) (gives : (e : Mark) → In e own → In e all) (some : 0 < n) where
-    abbrev pub result : Way
+    abbrev pub result : (Option ℕ)
     result = step_of image s es at key
 
     pub finish : opens_at image at ≡ true → (low : ℕ) → at ≤ low → (p : Perhaps s) → Outcome s image at key own level low (at + n) p → Stepped p result
@@ -284,7 +283,7 @@ module _ (s image : List ℕ) (all es : List Mark) (kept : Kept image s all es) 
         ⊎_elim (λ u. ap (λ (g : Mark). g.value) u ∙ b.value) (λ u. absurd (omega (arith, l.latest b.best (gives b.best b.among) fit)))
         (b.latest l.pair i (sym d) (sym l.key_text)) in
         record {
-          is = f ∙ ap Way.At (sym l.value ∙ w);
+          is = f ∙ ap Some (sym l.value ∙ w);
           owned = record {
             place = at;
             level = level;

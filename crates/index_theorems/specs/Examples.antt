@@ -1,13 +1,11 @@
 -- Indexes of small images, and paths looked up in one: two tables that the checker computes.
-use Rattle.std.specs.Prelude.{ℕ, ◌≡◌, refl, List, [], ◌∷◌, map}
+use Rattle.std.specs.Prelude.{ℕ, ◌≡◌, refl, List, [], ◌∷◌, map, Some, None, Option}
 use Rattle.wire.specs.Utf8.{ends}
 use Rattle.wire.specs.Field.{u8_at, u16_at, u24_at, u32_at, u64_at}
 use Rattle.image.specs.Taking.{flag_at, short_at, long_at, u16, u32, u64, flag, short, long, zoned, body_at, record_at}
 use Rattle.image.specs.Out as out
 use Rattle.amf0.specs.Writing as writing
 use Rattle.index.specs.declared.mark.Mark.{Mark}
-use Rattle.index.specs.declared.find.Way.{Way}
-use Rattle.index.specs.declared.find.Way.TheVariants.{At, Nothing}
 use Rattle.index.specs.Mark.{mark, mark_at, rows_at}
 use Rattle.index.specs.Order.{order_of, key_of}
 use Rattle.index.specs.Keys.{role_at, own_of, pair_at, turn_of, rest, value}
@@ -81,10 +79,10 @@ record Look : Type 0 where
   image : List ℕ
   marks : List Mark
   path : List ℕ
-  result : Way
+  result : (Option ℕ)
 
 infix 1 ◌among◌by◌finds◌
-abbrev ◌among◌by◌finds◌ : List ℕ → List Mark → List ℕ → Way → Look
+abbrev ◌among◌by◌finds◌ : List ℕ → List Mark → List ℕ → (Option ℕ) → Look
 i among ms by p finds w = record { image = i; marks = ms; path = p; result = w }
 
 abbrev zeros : List Mark
@@ -110,22 +108,22 @@ b_key = 0x62 ∷ []
 -- zeros. In the last a mark names a place for its value that is not behind its key.
 abbrev looks_table : List Look
 looks_table =
-    pairs among marked by shorts (a_key ∷ []) finds At 15
-    and pairs among marked by shorts (b_key ∷ []) finds At 7
-    and pairs among marked by [] finds At 0
-    and pairs among marked by shorts ([] ∷ []) finds Nothing
-    and pairs among marked by shorts (b_key ∷ a_key ∷ []) finds Nothing
-    and pairs among marked by (0x00 ∷ 0x01 ∷ []) finds Nothing
-    and pairs among marked by (0x00 ∷ 0x01 ∷ 0x61 ∷ 0x00 ∷ []) finds Nothing
-    and pairs among zeros by shorts (a_key ∷ []) finds Nothing
-    and pairs among zeros by [] finds At 0
-    and file among filed by shorts (a_key ∷ []) finds At 36
-    and file among filed by shorts (b_key ∷ []) finds At 16
-    and file among filed by shorts (b_key ∷ a_key ∷ []) finds Nothing
-    and dense among densed by shorts (b_key ∷ []) finds At 12
-    and (0x05 ∷ []) among zeros by [] finds At 0
-    and (0x30 ∷ 0x00 ∷ 0x00 ∷ 0x00 ∷ 0x00 ∷ []) among zeros by [] finds Nothing
-    and pairs among mark 2 0 1 8 ∷ zeros by shorts (b_key ∷ []) finds Nothing
+    pairs among marked by shorts (a_key ∷ []) finds Some 15
+    and pairs among marked by shorts (b_key ∷ []) finds Some 7
+    and pairs among marked by [] finds Some 0
+    and pairs among marked by shorts ([] ∷ []) finds None
+    and pairs among marked by shorts (b_key ∷ a_key ∷ []) finds None
+    and pairs among marked by (0x00 ∷ 0x01 ∷ []) finds None
+    and pairs among marked by (0x00 ∷ 0x01 ∷ 0x61 ∷ 0x00 ∷ []) finds None
+    and pairs among zeros by shorts (a_key ∷ []) finds None
+    and pairs among zeros by [] finds Some 0
+    and file among filed by shorts (a_key ∷ []) finds Some 36
+    and file among filed by shorts (b_key ∷ []) finds Some 16
+    and file among filed by shorts (b_key ∷ a_key ∷ []) finds None
+    and dense among densed by shorts (b_key ∷ []) finds Some 12
+    and (0x05 ∷ []) among zeros by [] finds Some 0
+    and (0x30 ∷ 0x00 ∷ 0x00 ∷ 0x00 ∷ 0x00 ∷ []) among zeros by [] finds None
+    and pairs among mark 2 0 1 8 ∷ zeros by shorts (b_key ∷ []) finds None
     and []
 
 pub looks : map (λ x. find_of x.image text x.marks x.path) looks_table ≡ map (λ x. x.result) looks_table

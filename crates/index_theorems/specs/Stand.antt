@@ -2,8 +2,7 @@
 use Rattle.std.specs.Prelude.{ℕ, ◌≡◌, List, [], ◌∷◌, ◌⊎◌, true}
 use Rattle.wire.specs.Field.{to}
 use Rattle.image.specs.declared.record.Record.TheVariants as R
-use Rattle.image.specs.declared.taking.Taken.TheVariants.{Found}
-use Rattle.image.specs.Taking.{record_at}
+use Rattle.image.specs.Taking.{record_at, taken_to}
 use Rattle.amf0.specs.Shown.{Stands}
 use Rattle.index.specs.declared.mark.Mark.{Mark}
 use Rattle.index.specs.Find.{is_value}
@@ -17,6 +16,6 @@ In e (x ∷ l) = (e ≡ x) ⊎ In e l
 pub record Standing (image text : List ℕ) (m : Mark) : Type 0 where
   pub place : ℕ
   pub size : ℕ
-  pub key : record_at image m.key ≡ Found (R.Key place size) (to m.value)
+  pub key : record_at image m.key ≡ taken_to (R.Key place size) (to m.value)
   pub stands : Stands text place size
   pub value : is_value image m.value ≡ true

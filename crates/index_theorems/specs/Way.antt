@@ -1,6 +1,6 @@
 -- The words of the theorems of the index: the keys of a tree, and the way down a tree that a path of keys tells. Trees and files are told by the records of their
 -- images, as the writers have it (`Spells`); a place is one of the image.
-use Rattle.std.specs.Prelude.{ℕ, ◌+◌, ◌^◌, ◌<◌, ◌≡◌, List, [], ◌∷◌, ◌++◌, map, Bool, true, false, length}
+use Rattle.std.specs.Prelude.{ℕ, ◌+◌, ◌^◌, ◌<◌, ◌≡◌, List, [], ◌∷◌, ◌++◌, map, Bool, true, false, length, Some, None, Option}
 use Rattle.wire.specs.Choice.{pick}
 use Rattle.wire.specs.Number.{digits}
 use Rattle.wire.specs.Field.{equal}
@@ -14,7 +14,6 @@ use Rattle.amf0.specs.Written.Lead.{keyed}
 use Rattle.lso.specs.File.{Body}
 use Rattle.lso.specs.Written as file
 use Rattle.index.specs.declared.mark.Mark.{Mark}
-use Rattle.index.specs.declared.find.Way.{Way}
 use Rattle.index.specs.declared.walk.Role.{Role}
 use Rattle.index.specs.Mark.{mark}
 use Rattle.index.specs.Keys.{role_of}
@@ -123,11 +122,11 @@ module _ (s : List ℕ) where
   way x (key ∷ path) = onward (below x.spells key x.at) λ y. way y path
 
   -- the place of what a way leads to
-  abbrev pub place_of : Perhaps → Way
-  place_of nowhere = Way.Nothing
-  place_of (found x) = Way.At x.at
+  abbrev pub place_of : Perhaps → (Option ℕ)
+  place_of nowhere = None
+  place_of (found x) = Some x.at
 
   -- the way down from a file whose elements begin at a place: no keys are its own record
-  unfoldable pub way_of : {b : Body} {rs : List Record} → file.Spells s b rs → ℕ → List (List ℕ) → Way
-  way_of c at [] = Way.At 0
+  unfoldable pub way_of : {b : Body} {rs : List Record} → file.Spells s b rs → ℕ → List (List ℕ) → (Option ℕ)
+  way_of c at [] = Some 0
   way_of c at (key ∷ path) = place_of (onward (last_element c key at) λ y. way y path)

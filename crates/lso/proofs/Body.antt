@@ -1,19 +1,16 @@
 -- The laws of a header, of an element and of a body: how far each reads, how each stops, and that a body's elements stand in a row.
-use Rattle.std.specs.Prelude.{◌+◌, ◌-◌, ◌*◌, ◌≤◌, ◌≡◌, ◌≢◌, ◌∷◌, ◌++◌}
+use Rattle.std.specs.Prelude.{◌+◌, ◌-◌, ◌*◌, ◌≤◌, ◌≡◌, ◌≢◌, ◌∷◌, ◌++◌, Ok, Err, Result}
 use Rattle.wire.proofs.Kit.{ℕ, zero, suc, refl, sym, ap, inl, inr, ⊎_elim, List, [], sub-one, arith, length}
 use Rattle.wire.proofs.Kit.{length-append, lt-leb, eq-eqb, ne_eqb}
 use Rattle.wire.specs.declared.cursor.Cursor.{Cursor}
-use Rattle.wire.specs.declared.cursor.Tag.{Tag}
-use Rattle.wire.specs.declared.cursor.Text.{Text}
-use Rattle.wire.specs.Field.{to, tag_at, past_tag, text_at, got_text}
+use Rattle.wire.specs.Field.{to, tag_at, past_tag, text_at, got_text, text_to, Parsed}
 use Rattle.wire.specs.Limit as limit
 use Rattle.wire.proofs.Laws.{tag_next, tag_stop}
 use Rattle.wire.proofs.Stands.{go32, go_text}
 use Rattle.image.specs.declared.record.Record.{Record}
 use Rattle.image.specs.declared.record.Record.TheVariants.{Key, Lso}
 use Rattle.image.specs.Record.{bytes_of}
-use Rattle.image.specs.declared.reading.Step.TheVariants.{Next, Stop}
-use Rattle.image.specs.Due.{Due, end, stop, due, ◌>>=◌, Ends, Stops, on_end, ran, run}
+use Rattle.image.specs.Due.{Due, end, stop, due, ◌>>=◌, Ends, Stops, on_end, ran, run, went_to}
 use Rattle.image.specs.Whole.{bytes}
 use Rattle.image.proofs.Laws.{size_bytes, size_some, run_then, run_halt}
 use Rattle.image.proofs.Kept.{Kept, fewer, bind_kept, ends_kept, stops_kept, small, due_inside}
@@ -26,10 +23,26 @@ use Rattle.lso.specs.Reading.{header_at, closing, keyed_at, element_at, Element,
 use Rattle.lso.specs.Code.{run_body}
 use Rattle.lso.proofs.Laws.{element_cut, element_key}
 use Rattle.lso.proofs.Stands.{Either, go_tag, go_zeros}
+use Rattle.wire.specs.Answer.{denied, Verdict, number_of}
+use Rattle.wire.specs.declared.answer.Answer.{Answer}
+use Rattle.wire.specs.declared.answer.Answer.TheVariants.{OverLimit, NotWhole, NotRight, NoRoom, TooDeep, NoTree, OtherVersion, NoEntry, Damaged}
+use Rattle.wire.specs.declared.cursor.Span.{Span}
 
 pub field_named : {a : ℕ} → Either a → Named a
 field_named (inl e) = rw e two
 field_named (inr e) = rw e three
+
+-- another answer has another number
+pub other_answer : {x : Answer} {a : ℕ} → number_of x ≡ a → (x ≡ NotWhole → ⊥) → (x ≡ NotRight → ⊥) → (a ≢ 2) × (a ≢ 3)
+other_answer {x = OverLimit} e f g = (omega arith, omega arith)
+other_answer {x = NotWhole} e f g = absurd (f refl)
+other_answer {x = NotRight} e f g = absurd (g refl)
+other_answer {x = NoRoom} e f g = (omega arith, omega arith)
+other_answer {x = TooDeep} e f g = (omega arith, omega arith)
+other_answer {x = NoTree} e f g = (omega arith, omega arith)
+other_answer {x = OtherVersion} e f g = (omega arith, omega arith)
+other_answer {x = NoEntry} e f g = (omega arith, omega arith)
+other_answer {x = Damaged} e f g = (omega arith, omega arith)
 
 -- ---- the header
 
@@ -78,9 +91,9 @@ element_out s at h = rw (lt-leb (at + 2) (length s) (omega arith))
 closing_kept : (s : List ℕ) (n : ℕ) → n ≤ length s → Kept Named s (3 * n) (closing s n)
 closing_kept s n h = go (tag_at (0 ∷ []) s n) refl
   where
-    go : (t : Tag) → tag_at (0 ∷ []) s n ≡ t → Kept Named s (3 * n) (past_tag stop t end)
-    go (Tag.Past c) e = let r = tag_next s n (0 ∷ []) c e in (omega arith, omega arith)
-    go (Tag.Stop a p) e = let r = tag_stop s n (0 ∷ []) a p e h in (omega arith, field_named r.answer, r.within)
+    go : (t : Result Cursor Verdict) → tag_at (0 ∷ []) s n ≡ t → Kept Named s (3 * n) (past_tag stop t end)
+    go (Ok c) e = let r = tag_next s n (0 ∷ []) c e in (omega arith, omega arith)
+    go (Err x) e = let r = tag_stop s n (0 ∷ []) x.answer x.place e h in (omega arith, field_named r.answer, r.within)
 
 element_kept : (s : List ℕ) (at : ℕ) → at ≤ length s → Kept Named s (3 * at) (element_at s at)
 unfolding element_at bytes_of
@@ -98,7 +111,7 @@ element_kept s at h = go_text (Kept Named s (3 * at)) stop s at 2 _
 -- an element that was read at a place: its key stands there, and it is what the definition reads
 pub record Stood (s : List ℕ) (at : ℕ) (e : Element) : Type 0 where
   pub begins : e.at ≡ at
-  pub key : text_at 2 s at ≡ Text.Got e.place e.size (to e.value)
+  pub key : text_at 2 s at ≡ text_to e.place e.size (to e.value)
   pub read : e.read ≡ element_at s at
   pub ends : Ends (element_at s at) e.next
 
@@ -115,15 +128,15 @@ body_case : (P : Body → Type 0) (s : List ℕ) (fuel at : ℕ) → ((e : Eleme
 unfolding body_at
 body_case P s fuel at f g = go (text_at 2 s at) refl
   where
-    go : (t : Text) → text_at 2 s at ≡ t
+    go : (t : Parsed Span) → text_at 2 s at ≡ t
         → P (got_text (λ a w. tries at (stop a w)) t λ p n q.
         on_end (keyed_at s at p n q)
         (λ e. takes (record { at = at; place = p; size = n; value = q; next = e; read = keyed_at s at p n q }) (body_at s fuel e))
         (λ a w. tries at (keyed_at s at p n q)))
-    go (Text.Stop a p) e = rw (element_cut s at e) at (g a p (rw (element_cut s at e) (refl, refl)))
-    go (Text.Got p n c) e =
+    go (Err r) e = rw (element_cut s at e) at (g r.answer r.place (rw (element_cut s at e) (refl, refl)))
+    go (Ok x) e =
         let k = element_key s at e in
-        on_case P (keyed_at s at p n c.at) _ _ (λ m h. f _ (record { begins = refl; key = e; read = sym k; ends = rw k h }))
+        on_case P (keyed_at s at x.0.place x.0.length x.1.at) _ _ (λ m h. f _ (record { begins = refl; key = e; read = sym k; ends = rw k h }))
         (λ a w h. rw k at (g a w (rw k h)))
 
 -- elements that stand in a row, from a place to another
@@ -214,7 +227,7 @@ module _ (s : List ℕ) (at : ℕ) (fuel : ℕ) (h : length s ≤ fuel + at) whe
 
   module _ (made : ℕ) (image : List ℕ) where
     -- behind an element that was read it goes on
-    pub body_next : {c : Cursor} {m : ℕ} {i : List ℕ} → ran (Next c m) i ≡ run (element_at s at) made image
+    pub body_next : {c : Cursor} {m : ℕ} {i : List ℕ} → ran (went_to c m) i ≡ run (element_at s at) made image
         → run_body (body_at s fuel at) made image ≡ run_body (body_at s (fuel - 1) c.at) m i
     unfolding run_body
     body_next {c} {m} {i} r =
@@ -225,29 +238,29 @@ module _ (s : List ℕ) (at : ℕ) (fuel : ℕ) (h : length s ≤ fuel + at) whe
         let total : made + length (bytes e.read ++ kept b.elements) ≡ m + length (kept b.elements) =
         omega (arith, length-append (bytes e.read) (kept b.elements), w.0, ap (λ d. length (bytes d)) t.read) in
         let n : e.next ≡ c.at = one_end (element_at s at) t.ends w.1 in
-        let own : ran (Next c m) i ≡ run e.read made image = rw t.read r in
+        let own : ran (went_to c m) i ≡ run e.read made image = rw t.read r in
         rw (run_then e.read (λ n. due_in b.elements b.tried) made image own, total) (ap (λ q. run_body (body_at s (fuel - 1) q) m i) n))
         (λ a p t. absurd (ends_not (element_at s at) c.at a p w.1 t))
 
-    module _ {a p : ℕ} {i : List ℕ} (r : ran (Stop a p) i ≡ run (element_at s at) made image) where
+    module _ {a p : ℕ} {i : List ℕ} (r : ran (denied a p) i ≡ run (element_at s at) made image) where
       -- an element that gave 2 or 3 ends the body before it
-      pub body_ends : Either a → run_body (body_at s fuel at) made image ≡ ran (Next (to at) made) i
+      pub body_ends : Either a → run_body (body_at s fuel at) made image ≡ ran (went_to (to at) made) i
       unfolding run_body
       body_ends w =
           let not : a ≢ 4 = λ z. ⊎_elim (λ y. omega arith) (λ y. omega arith) w in
-          body_either (λ b. run_body b made image ≡ ran (Next (to at) made) i)
+          body_either (λ b. run_body b made image ≡ ran (went_to (to at) made) i)
           (λ e t. absurd (ends_not (element_at s at) e.next a p t.ends (run_stopped (element_at s at) made image r not)))
           (λ b q t.
-          let same : ran (Next (to at) (made + 0)) i ≡ ran (Next (to at) made) i = ap (λ m. ran (Next (to at) m) i) (omega arith) in
+          let same : ran (went_to (to at) (made + 0)) i ≡ ran (went_to (to at) made) i = ap (λ m. ran (went_to (to at) m) i) (omega arith) in
           rw (← r) (⊎_elim (λ y. rw (eq-eqb a 2 y) same) (λ y. rw (ne_eqb a 2 λ z. omega arith, eq-eqb a 3 y) same) w))
 
       -- any other answer ends the call
-      pub body_stops : a ≢ 2 → a ≢ 3 → run_body (body_at s fuel at) made image ≡ ran (Stop a p) i
+      pub body_stops : a ≢ 2 → a ≢ 3 → run_body (body_at s fuel at) made image ≡ ran (denied a p) i
       unfolding run_body
       body_stops x y =
-          body_either (λ b. run_body b made image ≡ ran (Stop a p) i)
+          body_either (λ b. run_body b made image ≡ ran (denied a p) i)
           (λ e t.
           let b : Body = body_at s (fuel - 1) e.next in
-          let own : ran (Stop a p) i ≡ run e.read made image = rw t.read r in
+          let own : ran (denied a p) i ≡ run e.read made image = rw t.read r in
           rw (run_halt e.read (λ n. due_in b.elements b.tried) made image own, ne_eqb a 2 x, ne_eqb a 3 y))
           (λ b q t. rw (← r, ne_eqb a 2 x, ne_eqb a 3 y))

@@ -1,19 +1,18 @@
 -- What the file's reading comes to, as `Reading` has it: the bytes of the records that it keeps, with room also for those of the element that it drops.
-use Rattle.std.specs.Prelude.{◌+◌, ◌≤◌, ◌≡◌, ◌++◌}
+use Rattle.std.specs.Prelude.{◌+◌, ◌≤◌, ◌≡◌, ◌++◌, Ok, Err}
 use Rattle.wire.proofs.Kit.{ℕ, refl, sym, ap, ◌∙◌, ⊎_elim, List, [], append_assoc, append-nil, Bool, true, false, arith, length}
 use Rattle.wire.proofs.Kit.{take, length-append, sets, length-sets, leb, eqb}
 use Rattle.wire.specs.Choice.{pick}
 use Rattle.wire.specs.Field.{to}
 use Rattle.wire.specs.Limit as limit
-use Rattle.image.specs.declared.reading.Step.{Step}
-use Rattle.image.specs.declared.reading.Step.TheVariants.{Next, Stop}
-use Rattle.image.specs.Due.{Due, Ends, Stops, Ran, ran, run, on_end}
+use Rattle.image.specs.Due.{Due, Ends, Stops, Ran, ran, run, on_end, Step, went_to}
 use Rattle.image.specs.Whole.{bytes, Whole, accepted, refused, finished}
 use Rattle.image.proofs.Laws.{run_then, run_halt}
 use Rattle.image.proofs.Settle.{either, ends_or_stops, on_ends, on_stops, one_end, bytes_bind, stops_behind, over_lacks, run_fits, run_lacks, run_went, in_room_fits, in_room_lacks, take_sets}
 use Rattle.lso.specs.Reading.{header_at, Element, Body, body_at, kept, due_in, ever_due, halted, settle, incomplete_of}
 use Rattle.lso.specs.Code.{dropped, run_body, bodied, run_file}
 use Rattle.lso.proofs.Body.{header_stops, Row, behind}
+use Rattle.wire.specs.Answer.{denied}
 
 abbrev comes : Ran → Whole
 comes x = finished x.step x.image
@@ -33,11 +32,11 @@ module _ {s : List ℕ} (d : Due) where
   row_stops a p (Row.more {e} {es} t r) h = stops_behind e.read (λ n. due_in es d) e.next a p (rw t.read t.ends) (row_stops a p r h)
 
 -- an element that stops leaves the made part as it was
-drops : (a p at made : ℕ) (h image : List ℕ) → take made image ≡ h → made ≡ length h → comes (dropped (Stop a p) image at made) ≡ halted a p (accepted at h)
+drops : (a p at made : ℕ) (h image : List ℕ) → take made image ≡ h → made ≡ length h → comes (dropped (denied a p) image at made) ≡ halted a p (accepted at h)
 drops a p at made h image e l = go (eqb a 2) (eqb a 3) (rw (e, l))
   where
-    go : (t u : Bool) → comes (ran (Next (to at) made) image) ≡ accepted at h
-        → comes (pick t (ran (Next (to at) made) image) (pick u (ran (Next (to at) made) image) (ran (Stop a p) image)))
+    go : (t u : Bool) → comes (ran (went_to (to at) made) image) ≡ accepted at h
+        → comes (pick t (ran (went_to (to at) made) image) (pick u (ran (went_to (to at) made) image) (ran (denied a p) image)))
         ≡ pick t (accepted at h) (pick u (accepted at h) (refused a p))
     go true u same = same
     go false true same = same
@@ -59,16 +58,16 @@ module _ (s : List ℕ) (p : ℕ) (e : Ends (header_at s) p) where
 
   module _ (image : List ℕ) where
     -- without room for all of it
-    tight : {q : ℕ} (x : Step) (i : List ℕ) → ran x i ≡ run (header_at s) 0 image → (run (ever_due s p) 0 image).step ≡ Stop 4 q
+    tight : {q : ℕ} (x : Step) (i : List ℕ) → ran x i ≡ run (header_at s) 0 image → (run (ever_due s p) 0 image).step ≡ denied 4 q
         → comes (bodied x i s) ≡ refused 4 q
     unfolding run_body
-    tight {q} (Stop a w) i r l =
-        let same : Stop a w ≡ Stop 4 q = sym (ap (λ (y : Ran). y.step) (run_halt (header_at s) (λ n. due_in b.elements b.tried) 0 image r)) ∙ l in
-        let f : a ≡ 4 = cc in
-        let g : w ≡ q = cc in
+    tight {q} (Err x) i r l =
+        let same : denied x.answer x.place ≡ denied 4 q = sym (ap (λ (y : Ran). y.step) (run_halt (header_at s) (λ n. due_in b.elements b.tried) 0 image r)) ∙ l in
+        let f : x.answer ≡ 4 = cc in
+        let g : x.place ≡ q = cc in
         rw (f, g)
-    tight {q} (Next c m) i r l =
-        let same : (run (due_in b.elements b.tried) m i).step ≡ Stop 4 q =
+    tight {q} (Ok x) i r l =
+        let same : (run (due_in b.elements b.tried) x.1 i).step ≡ denied 4 q =
         sym (ap (λ (y : Ran). y.step) (run_then (header_at s) (λ n. due_in b.elements b.tried) 0 image r)) ∙ l in
         rw (one_end (header_at s) (run_went (header_at s) 0 image r).1 e, same)
 
@@ -93,9 +92,9 @@ module _ (s : List ℕ) (p : ℕ) (e : Ends (header_at s) p) where
         let front : take m i ≡ h = rw append-nil at (take_sets image 0 h [] (rw append-nil (omega arith))) in
         let left : Ran → Whole = λ r. comes (bodied r.step r.image s) in
         let later : Ran → Whole = λ r. comes (dropped r.step r.image b.at (m + length k)) in
-        let z = on_stops d t.answer t.place (λ n. Next (to n) (m + length (bytes d))) Stop (row_stops b.tried t.answer t.place t.row halts) in
+        let z = on_stops d t.answer t.place (λ n. went_to (to n) (m + length (bytes d))) denied (row_stops b.tried t.answer t.place t.row halts) in
         ap left (run_fits (header_at s) 0 image (omega arith))
-        ∙ rw (on_ends (header_at s) p (λ n. Next (to n) m) Stop e)
+        ∙ rw (on_ends (header_at s) p (λ n. went_to (to n) m) denied e)
         (ap later (run_fits d m i (rw y (omega arith)))
         ∙ rw (z, y) (drops t.answer t.place b.at (m + length k) (h ++ k) (sets i m (k ++ x)) (take_sets i m k x (omega arith) ∙ rw front) (omega arith)))
         ∙ sym (in_room_fits accepted _ (length image) [] (ever_due s p) (omega arith) ∙ on_stops (ever_due s p) t.answer t.place _ _ (ever_stops t.answer t.place halts))
@@ -119,7 +118,7 @@ module _ (s image : List ℕ) where
       ⊎_elim (λ e. headed s e.0 e.1 image ∙ sym (on_ends d e.0 _ _ e.1))
       (λ e.
       let none = (header_stops s e.0 e.1 e.2).1 in
-      ap left (run_fits d 0 image (omega (arith, ap length none))) ∙ rw (on_stops d e.0 e.1 (λ n. Next (to n) (0 + length (bytes d))) Stop e.2)
+      ap left (run_fits d 0 image (omega (arith, ap length none))) ∙ rw (on_stops d e.0 e.1 (λ n. went_to (to n) (0 + length (bytes d))) denied e.2)
       (sym (on_stops d e.0 e.1 _ _ e.2)))
       (ends_or_stops d)
 

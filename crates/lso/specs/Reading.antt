@@ -1,9 +1,10 @@
 -- What reading a file finds, and what it comes to in a room: the rule "LSO file" (docs/DEMANDS.md).
-use Rattle.std.specs.Prelude.{ℕ, zero, suc, List, [], ◌∷◌, ◌++◌, length, leb, eqb}
+use Rattle.std.specs.Prelude.{ℕ, zero, suc, List, [], ◌∷◌, ◌++◌, length, leb, eqb, Result, Ok}
 use Rattle.wire.specs.Choice.{pick}
 use Rattle.wire.specs.Limit as limit
-use Rattle.wire.specs.Field.{to, u32_at, text_at, tag_at, got32, got_text, past_tag}
-use Rattle.wire.specs.declared.cursor.Tag.{Tag}
+use Rattle.wire.specs.Field.{to, u32_at, text_at, tag_at, got, got_text, past_tag}
+use Rattle.wire.specs.Answer.{Verdict, denied}
+use Rattle.wire.specs.declared.cursor.Cursor.{Cursor}
 use Rattle.image.specs.declared.record.Record.TheVariants.{Key, Lso}
 use Rattle.image.specs.Due.{Due, end, stop, due, ◌>>=◌, on_end}
 use Rattle.image.specs.Whole.{Whole, bytes, accepted, refused, in_room, all}
@@ -13,15 +14,15 @@ use Rattle.lso.specs.File.{version, signature}
 -- ---- the fields
 
 -- n bytes of zero, each a field
-unfoldable pub zeros_at : ℕ → List ℕ → ℕ → Tag
-zeros_at zero s at = Tag.Past (to at)
-zeros_at (suc n) s at = past_tag Tag.Stop (tag_at (0 ∷ []) s at) λ p. zeros_at n s p
+unfoldable pub zeros_at : ℕ → List ℕ → ℕ → Result Cursor Verdict
+zeros_at zero s at = Ok (to at)
+zeros_at (suc n) s at = past_tag denied (tag_at (0 ∷ []) s at) λ p. zeros_at n s p
 
 -- the header, and then the file's record is due
 unfoldable pub header_at : List ℕ → Due
 header_at s =
     past_tag stop (tag_at version s 0) λ p.
-    got32 stop (u32_at s p) λ stored q.
+    got stop (u32_at s p) λ stored q.
     past_tag stop (tag_at signature s q) λ e.
     got_text stop (text_at 2 s e) λ name n f.
     past_tag stop (zeros_at 4 s f) λ g.

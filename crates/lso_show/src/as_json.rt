@@ -1,226 +1,155 @@
 // A file, a packet or a row of values as one JSON document, as docs/JSON.md says.
-ghost use Rattle.std.specs.Prelude.{◌≤◌};
-
-use crate::{not_right, wrong_in};
+use crate::form::{Kind, why_unknown};
+use crate::tree::Tree;
+use crate::wrong::{failed, in_element, not_right};
 use amf0::read::parse_value;
 use faults::fault::words;
 use faults::field::{Spot, of_file, of_packet, of_value};
-use figures::page::{Page, word};
-use image::reading::{Reading, Step};
+use figures::page::word;
+use image::reading::Reading;
 use image::record::Record;
-use image::taking::{Taken, record_at};
+use image::taking::record_at;
 use index::make::make_index;
 use std::io;
 use std::io::Write;
 use to_json::document;
 use to_json::tree::tree;
-use wire::answer::{ACCEPTED, NOT_RIGHT, NOT_WHOLE, OVER_LIMIT};
+use wire::answer::{ACCEPTED, Answer};
 use wire::cursor::Cursor;
 use wire::text::part;
 
 // How deep the values of a list of the document stand.
 const ITEM: usize = 2;
+// How long a reason may be. It is far shorter (faults::fault::words).
+const REASON: usize = 4096;
 
-// What an input is to be read as.
-#[derive(Clone, Copy)]
-pub enum Kind {
-    File,
-    Packet,
-    Values,
-    // Nothing that a guess knows.
-    Unknown,
-}
-
-// Why and where goes onto a page of its own: what it holds at the end, and how many bytes that is.
-fn told<W: Write>(
-    page: &mut Page<W>,
-    input: &[u8],
-    from: Spot,
-    r: Reading,
-) -> io::Result<([u8; 4096], usize)> {
-    let mut other = Page::onto(page.beneath());
-    words(&mut other, input, from, r)?;
-    Ok(other.held())
-}
-
-// And is quoted from there.
-fn reason<W: Write>(page: &mut Page<W>, input: &[u8], from: Spot, r: Reading) -> io::Result<()> {
-    let (text, length) = told(page, input, from, r)?;
-    document::reason(page, part(&text, 0, length))
+// Why and where is written by itself first, and quoted from there.
+fn reason(page: &mut impl Write, input: &[u8], from: Spot, r: Reading) -> io::Result<()> {
+    let mut said = io::Cursor::new([0u8; REASON]);
+    words(&mut said, input, from, r)?;
+    document::reason(page, part(said.get_ref(), 0, said.position() as usize))
 }
 
 // Too long an input is refused at no place.
-fn refused<W: Write>(page: &mut Page<W>, input: &[u8], from: Spot, r: Reading) -> io::Result<()> {
+fn refused(page: &mut impl Write, input: &[u8], from: Spot, r: Reading) -> io::Result<()> {
     document::refused(page, r.answer)?;
-    if r.answer != OVER_LIMIT {
+    if r.answer != u8::from(Answer::OverLimit) {
         document::place(page, b"place", r.used)?;
     }
     reason(page, input, from, r)
 }
 
 // A file's end that can't be read, from a place on.
-fn unread<W: Write>(
-    page: &mut Page<W>,
-    input: &[u8],
-    image: &mut [u8],
-    place: usize,
-) -> io::Result<()> {
-    let r = not_right(wrong_in(input, image, place));
+fn unread(page: &mut impl Write, input: &[u8], image: &mut [u8], place: usize) -> io::Result<()> {
+    let r = in_element(input, image, place);
     document::refused(page, r.answer)?;
     document::place(page, b"place", r.used)?;
     document::place(page, b"unreadFrom", place)?;
     reason(page, input, of_file(), r)
 }
 
-// How much of a buffer the index of an image takes at most; the rest need not be cleared.
-fn room_of(image: usize, buffer: usize) -> usize
-    ensures { result ≤ buffer }
-{
-    if image <= buffer / 2 {
-        2 * image
+// Makes the index of a tree; None where it does not fit.
+fn indexed<'a>(t: Tree, index: &'a mut [u8]) -> Option<&'a [u8]> {
+    if make_index(t.image, t.text, index).answer == ACCEPTED {
+        Some(index)
     } else {
-        buffer
+        None
     }
 }
 
-// Makes the index of an image, and says whether it did not fit.
-fn not_indexed(input: &[u8], image: &[u8], index: &mut [u8]) -> bool {
-    let made = make_index(image, input, index);
-    made.answer != ACCEPTED
+// The index of a value takes twice its image's length at most; the rest of the buffer need not be cleared.
+fn value(page: &mut impl Write, t: Tree, index: &mut [u8]) -> io::Result<()> {
+    let room = index.len().min(t.image.len().saturating_mul(2));
+    let made = indexed(t, &mut index[..room]);
+    tree(page, t.text, t.image, made, ITEM)
 }
 
-fn value(page: &mut impl Write, input: &[u8], image: &[u8], index: &mut [u8]) -> io::Result<()> {
-    let room = room_of(image.len(), index.len());
-    let listed = not_indexed(input, image, &mut index[..room]);
-    tree(page, input, image, index, listed, ITEM)
+fn pairs(page: &mut impl Write, t: Tree, index: &mut [u8]) -> io::Result<()> {
+    let made = indexed(t, index);
+    document::file(page, t.text, t.image, made)
 }
 
-fn pairs(page: &mut impl Write, input: &[u8], image: &[u8], index: &mut [u8]) -> io::Result<()> {
-    let listed = not_indexed(input, image, index);
-    document::file(page, input, image, index, listed)
-}
-
-fn file<W: Write>(
-    page: &mut Page<W>,
-    input: &[u8],
-    image: &mut [u8],
-    index: &mut [u8],
-) -> io::Result<()> {
+fn file(page: &mut impl Write, input: &[u8], image: &mut [u8], index: &mut [u8]) -> io::Result<()> {
     document::begin(page, b"lso")?;
     let r = lso::read::parse_incomplete(input, image);
     if r.answer != ACCEPTED {
         return refused(page, input, of_file(), r);
     }
-    pairs(page, input, part(image, 0, r.made), index)?;
+    pairs(page, Tree::of(input, image, r.made), index)?;
     if r.used < input.len() {
         unread(page, input, image, r.used)?;
     }
     Ok(())
 }
 
-fn is_entry(r: Record) -> bool {
-    match r {
-        Record::Header(_, _, _) => true,
-        Record::Message(_, _, _, _) => true,
-        _ => false,
-    }
-}
-
-// Where the value ends that begins at a place of a packet's image: at the next entry.
-fn value_end(image: &[u8], from: usize) -> usize {
-    let mut at = from;
-    let mut turns = image.len();
-    while 0 < turns && at < image.len() {
-        turns -= 1;
-        match record_at(image, Cursor { at: at }) {
-            Taken::Bad => {
-                return at;
-            }
-            Taken::Found(r, next) => {
-                if is_entry(r) {
-                    return at;
-                }
-                at = next.at;
-            }
+// Where the value ends that begins at a cursor of a packet's image: at the next entry.
+fn value_end(image: &[u8], start: Cursor) -> Cursor {
+    let mut c = start;
+    for _ in 0..image.len() {
+        match record_at(image, c) {
+            None | Some((Record::Header(..) | Record::Message(..), _)) => break,
+            Some((_, next)) => c = next,
         }
     }
-    at
+    c
 }
 
-fn span(image: &[u8], from: usize, end: usize) -> &[u8] {
-    if from <= end {
-        part(image, from, end - from)
-    } else {
-        part(image, 0, 0)
-    }
-}
-
-fn head(page: &mut impl Write, input: &[u8], r: Record) -> io::Result<()> {
+fn head(page: &mut impl Write, text: &[u8], r: Record) -> io::Result<()> {
     match r {
-        Record::Header(p, n, flag) => document::header(page, part(input, p, n), flag),
-        Record::Message(p, n, q, m) => document::message(
-            page,
-            part(input, p, n),
-            part(input, q, m),
-        ),
+        Record::Header(p, n, flag) => document::header(page, part(text, p, n), flag),
+        Record::Message(p, n, q, m) => document::message(page, part(text, p, n), part(text, q, m)),
         _ => Ok(()),
     }
 }
 
-// The entry whose record stands at a place of a packet's image; returns where the next one does.
+// The entry whose record stands at a cursor of a packet's image; returns where the next one does.
 fn entry(
     page: &mut impl Write,
-    input: &[u8],
-    image: &[u8],
+    t: Tree,
     index: &mut [u8],
-    at: usize,
+    c: Cursor,
     first: bool,
-) -> io::Result<usize> {
-    match record_at(image, Cursor { at: at }) {
-        Taken::Bad => Ok(at),
-        Taken::Found(r, next) => {
-            let end = value_end(image, next.at);
-            document::item(page, first)?;
-            head(page, input, r)?;
-            value(page, input, span(image, next.at, end), index)?;
-            word(page, b"}")?;
-            Ok(end)
-        }
-    }
+) -> io::Result<Cursor> {
+    let Some((r, d)) = record_at(t.image, c) else {
+        return Ok(c);
+    };
+    let end = value_end(t.image, d);
+    let image = part(t.image, d.at, end.at.saturating_sub(d.at));
+    document::item(page, first)?;
+    head(page, t.text, r)?;
+    value(page, Tree { image, ..t }, index)?;
+    word(page, b"}")?;
+    Ok(end)
 }
 
+// A list of so many entries from a cursor on; returns the cursor behind them.
 fn entries(
     page: &mut impl Write,
-    input: &[u8],
-    image: &[u8],
+    t: Tree,
     index: &mut [u8],
-    from: usize,
+    name: &[u8],
     count: u16,
-) -> io::Result<usize> {
-    let mut at = from;
-    let mut i: u16 = 0;
-    while i < count {
-        at = entry(page, input, image, index, at, i == 0)?;
-        i += 1;
+    start: Cursor,
+) -> io::Result<Cursor> {
+    document::list(page, name)?;
+    let mut c = start;
+    for i in 0..count {
+        c = entry(page, t, index, c, i == 0)?;
     }
     document::list_end(page, 0 < count)?;
-    Ok(at)
+    Ok(c)
 }
 
-fn lists(page: &mut impl Write, input: &[u8], image: &[u8], index: &mut [u8]) -> io::Result<()> {
-    if let Taken::Found(r, c) = record_at(image, Cursor { at: 0 }) {
-        if let Record::Packet(headers, messages) = r {
-            document::list(page, b"headers")?;
-            let at = entries(page, input, image, index, c.at, headers)?;
-            document::list(page, b"messages")?;
-            entries(page, input, image, index, at, messages)?;
-        }
+fn lists(page: &mut impl Write, t: Tree, index: &mut [u8]) -> io::Result<()> {
+    if let Some((Record::Packet(headers, messages), c)) = record_at(t.image, Cursor { at: 0 }) {
+        let d = entries(page, t, index, b"headers", headers, c)?;
+        entries(page, t, index, b"messages", messages, d)?;
     }
     Ok(())
 }
 
-fn packet<W: Write>(
-    page: &mut Page<W>,
+fn packet(
+    page: &mut impl Write,
     input: &[u8],
     image: &mut [u8],
     index: &mut [u8],
@@ -230,114 +159,80 @@ fn packet<W: Write>(
     if r.answer != ACCEPTED {
         return refused(page, input, of_packet(false), r);
     }
-    lists(page, input, part(image, 0, r.made), index)?;
+    lists(page, Tree::of(input, image, r.made), index)?;
     if r.used < input.len() {
         refused(page, input, of_packet(false), not_right(r.used))?;
     }
     Ok(())
 }
 
-fn value_refused<W: Write>(
-    page: &mut Page<W>,
-    input: &[u8],
-    at: usize,
-    answer: u8,
-    place: usize,
-) -> io::Result<()> {
-    let r = Reading {
-        answer: answer,
-        used: place,
-        made: 0,
-    };
-    document::list_end(page, 0 < at)?;
-    refused(page, input, of_value(at), r)
-}
-
-// One value, and where the next one begins: past the end, where there is none or it is refused.
-fn one_of_values<W: Write>(
-    page: &mut Page<W>,
+// One value, and where the next one begins, where there is one and this is not refused.
+fn one_of_values(
+    page: &mut impl Write,
     input: &[u8],
     image: &mut [u8],
     index: &mut [u8],
-    at: usize,
-) -> io::Result<usize> {
-    match parse_value(image, input, 0, Cursor { at: at }, 0) {
-        Step::Stop(answer, place) => {
-            value_refused(page, input, at, answer, place)?;
-            Ok(input.len())
+    c: Cursor,
+) -> io::Result<Option<Cursor>> {
+    match parse_value(image, input, 0, c, 0) {
+        Err(r) => {
+            document::list_end(page, 0 < c.at)?;
+            refused(page, input, of_value(c.at), failed(r))?;
+            Ok(None)
         }
-        Step::Next(c, made) => {
-            document::item(page, at == 0)?;
-            value(page, input, part(image, 0, made), index)?;
-            if input.len() <= c.at {
-                document::list_end(page, true)?;
+        Ok((next, made)) => {
+            document::item(page, c.at == 0)?;
+            value(page, Tree::of(input, image, made), index)?;
+            if next.at < input.len() {
+                return Ok(Some(next));
             }
-            Ok(c.at)
+            document::list_end(page, true)?;
+            Ok(None)
         }
     }
 }
 
 // There is one value at least, and a value has a byte at least.
-fn values<W: Write>(
-    page: &mut Page<W>,
+fn values(
+    page: &mut impl Write,
     input: &[u8],
     image: &mut [u8],
     index: &mut [u8],
 ) -> io::Result<()> {
     document::begin(page, b"values")?;
     document::list(page, b"values")?;
-    let mut at = one_of_values(page, input, image, index, 0)?;
-    let mut turns = input.len();
-    while 0 < turns && at < input.len() {
-        turns -= 1;
-        at = one_of_values(page, input, image, index, at)?;
+    let mut next = one_of_values(page, input, image, index, Cursor { at: 0 })?;
+    for _ in 0..input.len() {
+        match next {
+            Some(c) => next = one_of_values(page, input, image, index, c)?,
+            None => break,
+        }
     }
     Ok(())
 }
 
 // An input that is refused by its first bytes.
-fn front(page: &mut impl Write, answer: u8, why: &[u8]) -> io::Result<()> {
-    document::refused(page, answer)?;
-    document::place(page, b"place", 0)?;
-    document::reason(page, why)
-}
-
-fn unknown<W: Write>(page: &mut Page<W>, input: &[u8]) -> io::Result<()> {
+fn unknown(page: &mut impl Write, input: &[u8]) -> io::Result<()> {
+    let (answer, why) = why_unknown(input);
     document::begin(page, b"unknown")?;
-    if input.len() == 0 {
-        front(page, NOT_WHOLE, b"the input is empty")
-    } else {
-        front(
-            page,
-            NOT_RIGHT,
-            b"no LSO file, AMF packet or AMF0 value begins so",
-        )
-    }
+    document::refused(page, u8::from(answer))?;
+    document::place(page, b"place", 0)?;
+    document::reason(page, why.as_bytes())
 }
 
-fn by_kind<W: Write>(
-    page: &mut Page<W>,
-    kind: Kind,
+// The index of each value is made in a buffer; where a value has more keys than there is room for, each of its objects is told as a list of its pairs.
+pub fn as_json(
+    page: &mut impl Write,
+    kind: Option<Kind>,
     input: &[u8],
     image: &mut [u8],
     index: &mut [u8],
 ) -> io::Result<()> {
     match kind {
-        Kind::File => file(page, input, image, index),
-        Kind::Packet => packet(page, input, image, index),
-        Kind::Values => values(page, input, image, index),
-        Kind::Unknown => unknown(page, input),
+        Some(Kind::File) => file(page, input, image, index)?,
+        Some(Kind::Packet) => packet(page, input, image, index)?,
+        Some(Kind::Values) => values(page, input, image, index)?,
+        None => unknown(page, input)?,
     }
-}
-
-// The index of each value is made in a buffer; where a value has more keys than there is room for, each of its objects is told as a list of its pairs.
-pub fn as_json<W: Write>(
-    page: &mut Page<W>,
-    kind: Kind,
-    input: &[u8],
-    image: &mut [u8],
-    index: &mut [u8],
-) -> io::Result<()> {
-    by_kind(page, kind, input, image, index)?;
     document::end(page)
 }

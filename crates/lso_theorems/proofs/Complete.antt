@@ -1,13 +1,12 @@
 -- What is a file is read as that file, up to where no further element can be read. Its elements' records can stand in an image, spell the elements, and are
 -- known but for places.
-use Rattle.std.specs.Prelude.{◌+◌, ◌^◌, ◌≤◌, ◌<◌, ◌≡◌, ◌∷◌, ◌++◌}
+use Rattle.std.specs.Prelude.{◌+◌, ◌^◌, ◌≤◌, ◌<◌, ◌≡◌, ◌∷◌, ◌++◌, Ok}
 use Rattle.wire.proofs.Kit.{ℕ, refl, sym, ap, ap₂, ◌∙◌, List, [], map, append_assoc, append-nil, true, arith, length}
 use Rattle.wire.proofs.Kit.{length-append, lit<, map-append, zero, suc, replicate}
 use Rattle.wire.specs.Number.{digits}
 use Rattle.wire.specs.Utf8.{utf8}
 use Rattle.wire.specs.Field.{to, bytes_at, text_at, got_text, past_tag}
 use Rattle.wire.specs.Limit as limit
-use Rattle.wire.specs.declared.cursor.Tag.TheVariants as Tag
 use Rattle.wire.proofs.Stands.{Here, cut, skip, inside, there, u32_at_lem, text_at_lem, tag_at_lem}
 use Rattle.image.specs.declared.record.Record.{Record}
 use Rattle.image.specs.Record.{bytes_of, unplaced}
@@ -162,11 +161,11 @@ pub record Reads (s : List ℕ) (f : Lso) (n : ℕ) : Type 0 where
   pub alike : (l : length s ≤ limit.bytes) → map unplaced (images l).records ≡ of_body f.body
 
 -- zeros that stand there are read
-zeros_at_lem : (n : ℕ) {s r : List ℕ} {at : ℕ} → Here s at (replicate n 0) r → zeros_at n s at ≡ Tag.Past (to (at + n))
+zeros_at_lem : (n : ℕ) {s r : List ℕ} {at : ℕ} → Here s at (replicate n 0) r → zeros_at n s at ≡ Ok (to (at + n))
 unfolding zeros_at
-zeros_at_lem zero h = ap (λ q. Tag.Past (to q)) (omega arith)
+zeros_at_lem zero h = ap (λ q. Ok (to q)) (omega arith)
 zeros_at_lem (suc n) h =
-    rw (tag_at_lem (0 ∷ []) (cut (0 ∷ []) (replicate n 0) h) (omega arith)) (zeros_at_lem n (skip (0 ∷ []) (replicate n 0) h) ∙ ap (λ q. Tag.Past (to q)) (omega arith))
+    rw (tag_at_lem (0 ∷ []) (cut (0 ∷ []) (replicate n 0) h) (omega arith)) (zeros_at_lem n (skip (0 ∷ []) (replicate n 0) h) ∙ ap (λ q. Ok (to q)) (omega arith))
 
 -- a header is read past its signature, and what stands behind that
 pub header_past : (stored : ℕ) (x : List ℕ) {s r : List ℕ} → stored < 256 ^ 4 → Here s 0 (version ++ (digits 4 stored ++ (signature ++ x))) r

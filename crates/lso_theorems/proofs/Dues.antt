@@ -1,10 +1,9 @@
 -- What stands where a record of a file's reading is due.
-use Rattle.std.specs.Prelude.{◌+◌, ◌∷◌}
+use Rattle.std.specs.Prelude.{◌+◌, ◌∷◌, Ok, Err, Result}
 use Rattle.wire.proofs.Kit.{ℕ, refl, List, [], length}
 use Rattle.wire.specs.Number.{Bytes}
 use Rattle.wire.specs.Limit as limit
 use Rattle.wire.specs.Field.{tag_at, past_tag}
-use Rattle.wire.specs.declared.cursor.Tag.{Tag}
 use Rattle.wire.proofs.Stands.{end_text}
 use Rattle.image.specs.declared.record.Record.{Record}
 use Rattle.image.specs.Due.{end, stop, Lacks}
@@ -18,14 +17,16 @@ use Rattle.lso.proofs.Body.{ever_due_lem}
 use Rattle.lso_theorems.specs.Due.{DueAt}
 use Rattle.lso_theorems.specs.Refusal.{Heads}
 use Rattle.lso_theorems.proofs.Stopping.{heads_end}
+use Rattle.wire.specs.Answer.{Verdict}
+use Rattle.wire.specs.declared.cursor.Cursor.{Cursor}
 
 -- behind its value an element has no record
 closing_due : (P : Record → ℕ → Type 0) (s : List ℕ) (at : ℕ) → AllDue P (closing s at)
 closing_due P s at = go (tag_at (0 ∷ []) s at)
   where
-    go : (t : Tag) → AllDue P (past_tag stop t end)
-    go (Tag.Past c) = tt
-    go (Tag.Stop a p) = tt
+    go : (t : Result Cursor Verdict) → AllDue P (past_tag stop t end)
+    go (Ok c) = tt
+    go (Err r) = tt
 
 element_due : (s : List ℕ) → Bytes s → (at : ℕ) → AllDue (value.DueAt s) (element_at s at)
 unfolding element_at

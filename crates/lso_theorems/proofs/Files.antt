@@ -1,6 +1,8 @@
 -- The rows of bytes that are a file: each is of bytes, none is two files, and what a file is written as is that file, but for the length that it says, and
 -- none is shorter.
 use Rattle.std.specs.Prelude.{◌∷◌, ◌++◌, ◌≡◌, ◌+◌, ◌≤◌, ◌-◌}
+use Rattle.wire.specs.declared.cursor.Span.{Span}
+use Rattle.wire.proofs.Same.{ok_first}
 use Rattle.wire.proofs.Kit.{ℕ, List, length, lit<, refl, sym, ap, ◌∙◌, arith, take, drop, length-append, take-append_seam, drop-append_seam}
 use Rattle.wire.proofs.Kit.{take_at, drop_at, le_refl}
 use Rattle.wire.specs.Number.{digits, Bytes, number}
@@ -9,6 +11,8 @@ use Rattle.amf0_theorems.proofs.Bytes.{◌also◌, both, number as numbers, text
 use Rattle.lso.specs.File.{Body, Lso, Elements, File, version, signature, padding}
 use Rattle.wire.proofs.Laws.{number_digits}
 use Rattle.wire.proofs.Stands.{text_at_lem}
+use Rattle.wire.proofs.Same.{ok_first}
+use Rattle.wire.specs.declared.cursor.Span.{Span}
 use Rattle.amf0.specs.Standard.{UTF-8}
 use Rattle.amf0_theorems.proofs.Theorems as values
 use Rattle.wire.specs.Limit as limit
@@ -54,7 +58,7 @@ same_text r q (short k h u) (short l g v) e =
     let s : List ℕ = (digits 2 (length k) ++ k) ++ r in
     let a = text_at_lem {s = s} {r = r} {at = 0} 2 k (record { same = refl }) h u (omega arith) in
     let b = text_at_lem {s = s} {r = q} {at = 0} 2 l (record { same = e }) g v (omega arith) in
-    let n : length k ≡ length l = cc in
+    let n : length k ≡ length l = ap (λ (t : Span). t.length) (ok_first (sym a ∙ b)) in
     split k l r q n (ap (drop 2) e)
 
 same_elements : {a b : Body} {x y : List ℕ} → Elements a x → Elements b y → x ≡ y → a ≡ b

@@ -1,11 +1,9 @@
 -- A field, a header and an element are refused exactly as the grammar of refusals says, and are else read.
-use Rattle.std.specs.Prelude.{◌+◌, ◌≤◌, ◌<◌, ◌≡◌, ◌∷◌, ◌↔◌, ◌++◌}
+use Rattle.std.specs.Prelude.{◌+◌, ◌≤◌, ◌<◌, ◌≡◌, ◌∷◌, ◌↔◌, ◌++◌, Ok, Result}
 use Rattle.wire.proofs.Kit.{ℕ, zero, suc, refl, sym, ap, ◌∙◌, List, [], arith, length, drop, length-drop, length-append, replicate}
 use Rattle.wire.proofs.Kit.{leb, lt-leb, le-leb, leb-true, leb-false, inl, inr, length-replicate}
-use Rattle.wire.specs.declared.cursor.U32.TheVariants as U32
-use Rattle.wire.specs.declared.cursor.Tag.{Tag}
 use Rattle.wire.specs.Number.{Bytes, digits}
-use Rattle.wire.specs.Field.{to, bytes_at, u32_at, equal, tag_at, got32, past_tag}
+use Rattle.wire.specs.Field.{to, bytes_at, u32_at, equal, tag_at, got, past_tag}
 use Rattle.wire.proofs.Laws.{picked, length_digits, equal_same, equal_means, false_true}
 use Rattle.wire.proofs.Stands.{Here, join, cut, skip, stood, Stood, number_stood, tag_at_lem, go32, after, inside, u32_at_lem, text_at_lem}
 use Rattle.lso.specs.Reading.{zeros_at, header_at, closing, element_at}
@@ -29,6 +27,8 @@ use Rattle.lso.proofs.Stands.{Either}
 use Rattle.lso.proofs.Laws.{element_cut, element_key}
 use Rattle.lso_theorems.proofs.Complete.{header_past}
 use Rattle.lso_theorems.specs.Refusal.{LeadsHeader, LeadsElement, RefusedHeader, RefusedElement, Halts}
+use Rattle.wire.specs.Answer.{denied, Verdict}
+use Rattle.wire.specs.declared.cursor.Cursor.{Cursor}
 
 -- ---- fixed bytes
 
@@ -39,7 +39,7 @@ module _ (s : List ℕ) (at : ℕ) (x : List ℕ) (some_byte : 1 ≤ length x) w
       → ((a : ℕ) → Refuses (fixed x) (drop at s) a → P (halt a at)) → P (past_tag halt (tag_at x s at) k)
   unfolding tag_at
   case_tag P halt k is halts =
-      let Q : Tag → Type 0 = λ t. P (past_tag halt t k) in
+      let Q : Result Cursor Verdict → Type 0 = λ t. P (past_tag halt t k) in
       let l = length-drop at s in
       picked Q (leb (at + length x) (length s)) _ _
       (λ h.
@@ -49,25 +49,25 @@ module _ (s : List ℕ) (at : ℕ) (x : List ℕ) (some_byte : 1 ≤ length x) w
       (λ h. halts 2 (Refuses.short {f = fixed x} {r = drop at s} (omega (arith, leb-false (at + length x) (length s) h))))
 
   -- and what the grammar refuses is refused
-  pub tag_stops : {a : ℕ} → Refuses (fixed x) (drop at s) a → tag_at x s at ≡ Tag.Stop a at
+  pub tag_stops : {a : ℕ} → Refuses (fixed x) (drop at s) a → tag_at x s at ≡ denied a at
   unfolding tag_at
   tag_stops (Refuses.short l) = rw (lt-leb (at + length x) (length s) (omega (arith, length-drop at s)))
   tag_stops (Refuses.other_bytes l ne) =
       rw (le-leb (at + length x) (length s) (omega (arith, length-drop at s)))
-      (picked (λ (t : Tag). t ≡ Tag.Stop 3 at) (equal (bytes_at (length x) s at) x) _ _ (λ u. absurd (ne (equal_means _ _ u))) (λ u. refl))
+      (picked (λ (t : Result Cursor Verdict). t ≡ denied 3 at) (equal (bytes_at (length x) s at) x) _ _ (λ u. absurd (ne (equal_means _ _ u))) (λ u. refl))
 
 -- ---- a number of four bytes
 
 module _ (s : List ℕ) (at : ℕ) where
   -- a number that the grammar refuses is refused
-  pub u32_stops : {a : ℕ} → Refuses (some 4) (drop at s) a → u32_at s at ≡ U32.Stop a at
+  pub u32_stops : {a : ℕ} → Refuses (some 4) (drop at s) a → u32_at s at ≡ denied a at
   unfolding u32_at
   u32_stops (Refuses.short l) = rw (lt-leb (at + 4) (length s) (omega (arith, length-drop at s)))
 
   -- it stands there, or the grammar refuses it
   pub case32 : {A : Type 0} (P : A → Type 0) (halt : ℕ → ℕ → A) (k : ℕ → ℕ → A) → Bytes s
       → ((n : ℕ) → Stood 4 s at n → at + 4 ≤ length s → P (k n (at + 4))) → ((a : ℕ) → Refuses (some 4) (drop at s) a → P (halt a at))
-      → P (got32 halt (u32_at s at) k)
+      → P (got halt (u32_at s at) k)
   case32 P halt k bs is halts =
       go32 P halt s at k (λ h. is _ (number_stood s bs at 4 h) h)
       (λ h. halts 2 (Refuses.short {f = some 4} {r = drop at s} (omega (arith, length-drop at s))))
@@ -84,7 +84,7 @@ pub record Broken (s : List ℕ) (at n a p : ℕ) : Type 0 where
 
 -- zeros of which the grammar refuses one are refused
 pub zeros_stop : {s r : List ℕ} {a : ℕ} (n at k p : ℕ) → k < n → p ≡ at + k → Here s at (replicate k 0) r → Refuses (fixed (0 ∷ [])) r a
-    → zeros_at n s at ≡ Tag.Stop a p
+    → zeros_at n s at ≡ denied a p
 unfolding zeros_at
 zeros_stop zero at k p h e g f = absurd (omega arith)
 zeros_stop {s} {r} {a} (suc n) at zero p h e g f =
@@ -94,13 +94,13 @@ zeros_stop {s} {r} (suc n) at (suc k) p h e g f =
     let z = cut (0 ∷ []) (replicate k 0) g in
     rw (tag_at_lem (0 ∷ []) z (omega arith)) (zeros_stop n (at + 1) k p (omega arith) (omega arith) (skip (0 ∷ []) (replicate k 0) g) f)
 
-module _ (Q : Tag → Type 0) (s : List ℕ) where
-  zeros_case : (n at : ℕ) → at ≤ length s → ((q : ℕ) → q ≡ at + n → Here s at (replicate n 0) (drop q s) → q ≤ length s → Q (Tag.Past (to q)))
-      → ((a p : ℕ) → Broken s at n a p → Q (Tag.Stop a p)) → Q (zeros_at n s at)
+module _ (Q : Result Cursor Verdict → Type 0) (s : List ℕ) where
+  zeros_case : (n at : ℕ) → at ≤ length s → ((q : ℕ) → q ≡ at + n → Here s at (replicate n 0) (drop q s) → q ≤ length s → Q (Ok (to q)))
+      → ((a p : ℕ) → Broken s at n a p → Q (denied a p)) → Q (zeros_at n s at)
   unfolding zeros_at
   zeros_case zero at l is halts = is at (omega arith) (record { same = refl }) l
   zeros_case (suc n) at l is halts =
-      case_tag s at (0 ∷ []) (omega arith) Q Tag.Stop (λ p. zeros_at n s p)
+      case_tag s at (0 ∷ []) (omega arith) Q denied (λ p. zeros_at n s p)
       (λ h i. zeros_case n (at + 1) i (λ q e g j. is q (omega arith) (join h refl g) j)
       (λ a p b.
       halts a p

@@ -1,10 +1,9 @@
 -- What is read as a file is one.
-use Rattle.std.specs.Prelude.{◌+◌, ◌^◌, ◌≤◌, ◌<◌, ◌≡◌, ◌∷◌, ◌++◌}
+use Rattle.std.specs.Prelude.{◌+◌, ◌^◌, ◌≤◌, ◌<◌, ◌≡◌, ◌∷◌, ◌++◌, Ok, Err, Result}
 use Rattle.wire.proofs.Kit.{ℕ, refl, sym, ap, ◌∙◌, List, [], append_assoc, arith, length, take, drop, length-append, take_at}
 use Rattle.wire.specs.Number.{digits, Bytes}
 use Rattle.wire.specs.Field.{tag_at, past_tag}
 use Rattle.wire.specs.Limit as limit
-use Rattle.wire.specs.declared.cursor.Tag.{Tag}
 use Rattle.wire.proofs.Laws.{tag_next, length_digits}
 use Rattle.wire.proofs.Stands.{Here, join, inside, tag_ends, end32, end_text}
 use Rattle.image.specs.Due.{Due, end, stop, Ends}
@@ -18,6 +17,8 @@ use Rattle.lso.specs.Reading.{header_at, closing, element_at, Element, body_at}
 use Rattle.lso.proofs.Body.{Row, behind}
 use Rattle.lso.proofs.Stands.{go_tag, go_zeros}
 use Rattle.lso_theorems.specs.Refusal.{Begins, Heads}
+use Rattle.wire.specs.Answer.{Verdict}
+use Rattle.wire.specs.declared.cursor.Cursor.{Cursor}
 
 -- ---- the body
 
@@ -35,9 +36,9 @@ record FoundBody (s : List ℕ) (at n : ℕ) : Type 0 where
 closing_sound : (s : List ℕ) (at n : ℕ) → Ends (closing s at) n → Here s at (0 ∷ []) (drop n s) × (n ≡ at + 1)
 closing_sound s at n = go (tag_at (0 ∷ []) s at) refl
   where
-    go : (t : Tag) → tag_at (0 ∷ []) s at ≡ t → Ends (past_tag stop t end) n → Here s at (0 ∷ []) (drop n s) × (n ≡ at + 1)
-    go (Tag.Past c) e f = let r = tag_next s at (0 ∷ []) c e in let m : n ≡ at + 1 = omega arith in (rw m (tag_ends (0 ∷ []) s at c e), m)
-    go (Tag.Stop a p) e f = absurd f
+    go : (t : Result Cursor Verdict) → tag_at (0 ∷ []) s at ≡ t → Ends (past_tag stop t end) n → Here s at (0 ∷ []) (drop n s) × (n ≡ at + 1)
+    go (Ok c) e f = let r = tag_next s at (0 ∷ []) c e in let m : n ≡ at + 1 = omega arith in (rw m (tag_ends (0 ∷ []) s at c e), m)
+    go (Err r) e f = absurd f
 
 module _ {s : List ℕ} (bs : Bytes s) where
   -- an element, and what stands behind it

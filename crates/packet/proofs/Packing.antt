@@ -1,31 +1,27 @@
 -- The laws of the whole reading: entry by entry, and with the packet's record laid before its count of messages is known.
-use Rattle.std.specs.Prelude.{◌+◌, ◌-◌, ◌≤◌, ◌<◌, ◌≡◌, ◌∷◌}
+use Rattle.std.specs.Prelude.{◌+◌, ◌-◌, ◌≤◌, ◌<◌, ◌≡◌, ◌∷◌, Ok, Err, Result}
 use Rattle.wire.proofs.Kit.{ℕ, zero, suc, refl, sym, ap, ◌∙◌, List, [], Bool, true, false, sub-one, arith, length, set}
 use Rattle.wire.proofs.Kit.{length-append, sets, length-sets, set_comm, set-set, leb, le-leb, lt-leb, ne_eqb}
 use Rattle.wire.specs.Choice.{pick}
 use Rattle.wire.specs.Limit as limit
 use Rattle.wire.specs.Number.{digits}
 use Rattle.wire.specs.declared.cursor.Cursor.{Cursor}
-use Rattle.wire.specs.declared.cursor.U16.{U16}
-use Rattle.wire.specs.declared.cursor.Tag.{Tag}
-use Rattle.wire.specs.Field.{u16_at, got16, past_tag}
+use Rattle.wire.specs.Field.{u16_at, got, past_tag, got_to, Parsed}
 use Rattle.wire.proofs.Laws.{picked, set_sets}
 use Rattle.image.specs.declared.record.Record.TheVariants.{Packet}
-use Rattle.image.specs.declared.reading.Step.{Step}
-use Rattle.image.specs.declared.reading.Step.TheVariants.{Next, Stop}
 use Rattle.image.specs.Record.{bytes_of, size}
-use Rattle.image.specs.Due.{Due, end, stop, seen, due, ◌>>=◌, Ends, Ran, ran, run}
+use Rattle.image.specs.Due.{Due, end, stop, seen, due, ◌>>=◌, Ends, Ran, ran, run, Step, went_to}
 use Rattle.image.specs.Whole.{bytes, refused, settled, finished}
 use Rattle.image.proofs.Laws.{run_length, run_stop, size_bytes}
 use Rattle.image.proofs.Settle.{finished_run, settled_stop}
 use Rattle.amf0.specs.Reading.{top_value}
 use Rattle.packet.specs.declared.head.Entry.{Entry}
-use Rattle.packet.specs.declared.head.Head.TheVariants as Head
 use Rattle.packet.specs.Head.{version_at, front_of, head_at}
 use Rattle.packet.specs.Reading.{record_of, entries_at, count_after, body_at, packet_at, incomplete_of, whole_of}
 use Rattle.packet.specs.Code.{packet_in, run_messages, Packed}
 use Rattle.packet.proofs.Laws.{Tells, Answers, Halts, run_halts, answered}
 use Rattle.packet.proofs.Reasons.{packet_kept}
+use Rattle.wire.specs.Answer.{denied, Verdict}
 
 -- ---- entry by entry
 
@@ -38,7 +34,7 @@ module _ (kind : ℕ) (s : List ℕ) (n at : ℕ) where
       go zero h = refl
       go (suc n) h = absurd (omega arith)
 
-  pub entries_cut : {a p : ℕ} → 0 < n → head_at kind s at ≡ Head.Stop a p → entries_at kind s n at ≡ stop a p
+  pub entries_cut : {a p : ℕ} → 0 < n → head_at kind s at ≡ denied a p → entries_at kind s n at ≡ stop a p
   unfolding entries_at
   entries_cut {a} {p} h e = go n h
     where
@@ -46,7 +42,7 @@ module _ (kind : ℕ) (s : List ℕ) (n at : ℕ) where
       go zero h = absurd (omega arith)
       go (suc n) h = rw e
 
-  pub entries_more : {e : Entry} {c : Cursor} → 0 < n → head_at kind s at ≡ Head.Got e c
+  pub entries_more : {e : Entry} {c : Cursor} → 0 < n → head_at kind s at ≡ got_to e c
       → entries_at kind s n at ≡ due (record_of e) at (top_value s c.at >>= entries_at kind s (n - 1))
   unfolding entries_at
   entries_more {e} {c} h g = go n h
@@ -59,8 +55,8 @@ module _ (kind : ℕ) (s : List ℕ) (n at : ℕ) where
 
 -- at its end, with its records' bytes made
 abbrev pub Nexts : Due → ℕ → Step → Type 0
-Nexts d made (Next c m) = (m ≡ made + length (bytes d)) × Ends d c.at
-Nexts d made (Stop a p) = Unit {0}
+Nexts d made (Ok x) = (x.1 ≡ made + length (bytes d)) × Ends d x.0.at
+Nexts d made (Err r) = Unit {0}
 
 pub run_nexts : (d : Due) (made : ℕ) (image : List ℕ) → Nexts d made (run d made image).step
 unfolding run bytes
@@ -69,22 +65,22 @@ run_nexts (stop a p) made image = tt
 run_nexts (seen fact d) made image = further (run d made image).step (run_nexts d made image)
   where
     further : (x : Step) → Nexts d made x → Nexts (seen fact d) made x
-    further (Next c m) n = n
-    further (Stop a p) n = tt
+    further (Ok x) n = n
+    further (Err r) n = tt
 run_nexts (due r p d) made image =
     picked (λ (x : Ran). Nexts (due r p d) made x.step) (leb (made + size r) (length image)) _ _
     (λ t. further (run d (made + size r) (sets image made (bytes_of r))).step (run_nexts d (made + size r) (sets image made (bytes_of r))))
     (λ t. tt)
   where
     further : (x : Step) → Nexts d (made + size r) x → Nexts (due r p d) made x
-    further (Next c m) n = (omega (arith, n.0, length-append (bytes_of r) (bytes d), size_bytes r), n.1)
-    further (Stop a p) n = tt
+    further (Ok x) n = (omega (arith, n.0, length-append (bytes_of r) (bytes d), size_bytes r), n.1)
+    further (Err r) n = tt
 
-pub run_next : (d : Due) (made : ℕ) (image : List ℕ) {c : Cursor} {m : ℕ} {i : List ℕ} → ran (Next c m) i ≡ run d made image
+pub run_next : (d : Due) (made : ℕ) (image : List ℕ) {c : Cursor} {m : ℕ} {i : List ℕ} → ran (went_to c m) i ≡ run d made image
     → (m ≡ made + length (bytes d)) × Ends d c.at
 run_next d made image e = rw (sym (ap (λ (x : Ran). x.step) e)) at (run_nexts d made image)
 
-count_ends : (s : List ℕ) (d : Due) (n : ℕ) → Ends d n → count_after s d ≡ got16 (λ a p. 0) (u16_at s n) λ m p. m
+count_ends : (s : List ℕ) (d : Due) (n : ℕ) → Ends d n → count_after s d ≡ got (λ a p. 0) (u16_at s n) λ m p. m
 count_ends s (end m) n e = rw e
 count_ends s (stop a p) n e = absurd e
 count_ends s (seen fact d) n e = count_ends s d n e
@@ -123,11 +119,11 @@ packet_bytes image h n = sym (two_again (sets image 0 (0x30 ∷ digits 2 h)) 3 _
 -- the same reading carried out with no count in the packet's record, and with the count n
 record Counted (n : ℕ) (plain full : Ran) : Type 0 where
   step : full.step ≡ plain.step
-  laid : (c : Cursor) (m : ℕ) → plain.step ≡ Next c m → full.image ≡ sets plain.image 3 (digits 2 n)
+  laid : (c : Cursor) (m : ℕ) → plain.step ≡ went_to c m → full.image ≡ sets plain.image 3 (digits 2 n)
 
 -- the messages from a place on, and the packet with no count of them in its record
 abbrev pub messages_at : List ℕ → ℕ → Due
-messages_at s e = got16 stop (u16_at s e) λ m f. entries_at 0x32 s m f
+messages_at s e = got stop (u16_at s e) λ m f. entries_at 0x32 s m f
 
 abbrev pub uncounted : List ℕ → ℕ → ℕ → Due
 uncounted s h q = due (Packet h 0) 0 (entries_at 0x31 s h q >>= messages_at s)
@@ -136,23 +132,23 @@ packet_counted : (h n : ℕ) (d : Due) (image : List ℕ) → Counted n (run (du
 unfolding run size
 packet_counted h n d image = go (leb 5 (length image))
   where
-    go : (t : Bool) → Counted n (pick t (run d 5 (sets image 0 (bytes_of (Packet h 0)))) (ran (Stop 4 0) image)) (pick t (run d 5 (sets image 0 (bytes_of (Packet h n)))) (ran (Stop 4 0) image))
+    go : (t : Bool) → Counted n (pick t (run d 5 (sets image 0 (bytes_of (Packet h 0)))) (ran (denied 4 0) image)) (pick t (run d 5 (sets image 0 (bytes_of (Packet h n)))) (ran (denied 4 0) image))
     go true = rw (packet_bytes image h n, run_counted d 5 (sets image 0 (bytes_of (Packet h 0))) (digits 2 n) (omega arith)) (record { step = refl; laid = λ c m e. refl })
     go false = record { step = refl; laid = λ c m e. let z : ◌≡◌ {A = ℕ} 0 1 = cc in absurd (omega arith) }
 
 -- the packet, from its front on
-front_packet : (s : List ℕ) → packet_in s ≡ got16 stop (front_of s) (body_at s)
+front_packet : (s : List ℕ) → packet_in s ≡ got stop (front_of s) (body_at s)
 unfolding packet_at front_of
 front_packet s = go (leb (length s) limit.bytes) (version_at s) (body_at s)
   where
-    go : (t : Bool) (x : Tag) (k : ℕ → ℕ → Due)
-        → pick t (past_tag stop x λ p. got16 stop (u16_at s p) k) (stop 1 0) ≡ got16 stop (pick t (past_tag U16.Stop x λ p. u16_at s p) (U16.Stop 1 0)) k
-    go true (Tag.Past c) k = refl
-    go true (Tag.Stop a p) k = refl
+    go : (t : Bool) (x : Result Cursor Verdict) (k : ℕ → ℕ → Due)
+        → pick t (past_tag stop x λ p. got stop (u16_at s p) k) (stop 1 0) ≡ got stop (pick t (past_tag denied x λ p. u16_at s p) (denied 1 0)) k
+    go true (Ok c) k = refl
+    go true (Err r) k = refl
     go false x k = refl
 
 -- a packet whose front is refused
-pub packed_none : (s image : List ℕ) {a p : ℕ} → front_of s ≡ U16.Stop a p → Packed (Stop a p) image s image
+pub packed_none : (s image : List ℕ) {a p : ℕ} → front_of s ≡ denied a p → Packed (denied a p) image s image
 packed_none s image {a} {p} g =
     let e : packet_in s ≡ stop a p = front_packet s ∙ rw g in
     record {
@@ -161,9 +157,9 @@ packed_none s image {a} {p} g =
       laid = λ c m g. let z : ◌≡◌ {A = ℕ} 0 1 = cc in absurd (omega arith);
     }
 
-module _ (s image : List ℕ) {h : ℕ} {d : Cursor} (g : front_of s ≡ U16.Got h d) where
+module _ (s image : List ℕ) {h : ℕ} {d : Cursor} (g : front_of s ≡ got_to h d) where
   packed : (x : Step) (after : List ℕ) → x ≡ (run (uncounted s h d.at) 0 image).step → length after ≡ length image
-      → ((c : Cursor) (m : ℕ) → x ≡ Next c m
+      → ((c : Cursor) (m : ℕ) → x ≡ went_to c m
       → after ≡ sets (run (uncounted s h d.at) 0 image).image 3 (digits 2 (count_after s (entries_at 0x31 s h d.at))))
       → Packed x after s image
   packed x after e n f =
@@ -177,9 +173,9 @@ module _ (s image : List ℕ) {h : ℕ} {d : Cursor} (g : front_of s ≡ U16.Got
       }
 
   -- the reading stops before the messages
-  pub packed_stop : {a p : ℕ} {i : List ℕ} → run (uncounted s h d.at) 0 image ≡ ran (Stop a p) i → Packed (Stop a p) i s image
+  pub packed_stop : {a p : ℕ} {i : List ℕ} → run (uncounted s h d.at) 0 image ≡ ran (denied a p) i → Packed (denied a p) i s image
   packed_stop {a} {p} {i} e =
-      packed (Stop a p) i (ap (λ (y : Ran). y.step) (sym e)) (ap (λ (y : Ran). length y.image) (sym e) ∙ run_length (uncounted s h d.at) 0 image)
+      packed (denied a p) i (ap (λ (y : Ran). y.step) (sym e)) (ap (λ (y : Ran). length y.image) (sym e) ∙ run_length (uncounted s h d.at) 0 image)
       (λ c m g. let z : ◌≡◌ {A = ℕ} 0 1 = cc in absurd (omega arith))
 
   -- the messages are read
@@ -187,19 +183,19 @@ module _ (s image : List ℕ) {h : ℕ} {d : Cursor} (g : front_of s ≡ U16.Got
       → run (uncounted s h d.at) 0 image ≡ run (messages_at s at) total j → ran x after ≡ run_messages s at total j → Packed x after s image
   packed_messages at total j {x} {after} g k e r = go (u16_at s at) refl e r
     where
-      go : (y : U16) → u16_at s at ≡ y → run (uncounted s h d.at) 0 image ≡ run (got16 stop y λ m f. entries_at 0x32 s m f) total j
-          → ran x after ≡ got16 (λ a p. ran (Stop a p) j) y (λ m p. run (entries_at 0x32 s m p) total (sets j 3 (digits 2 m))) → Packed x after s image
-      go (U16.Stop a p) w e r =
-          let y = e ∙ run_stop total j a p in
+      go : (y : Parsed ℕ) → u16_at s at ≡ y → run (uncounted s h d.at) 0 image ≡ run (got stop y λ m f. entries_at 0x32 s m f) total j
+          → ran x after ≡ got (λ a p. ran (denied a p) j) y (λ m p. run (entries_at 0x32 s m p) total (sets j 3 (digits 2 m))) → Packed x after s image
+      go (Err v) w e r =
+          let y = e ∙ run_stop total j v.answer v.place in
           let t = ap (λ (z : Ran). z.step) r in
           packed x after (t ∙ ap (λ (z : Ran). z.step) (sym y)) (ap (λ (z : Ran). length z.image) (r ∙ sym y) ∙ run_length (uncounted s h d.at) 0 image)
           (λ c m g. let f = sym t ∙ g in let z : ◌≡◌ {A = ℕ} 0 1 = cc in absurd (omega arith))
-      go (U16.Got n q) w e r =
-          let t = r ∙ run_counted (entries_at 0x32 s n q.at) total j (digits 2 n) (omega arith) ∙ ap (counted (digits 2 n)) (sym e) in
+      go (Ok v) w e r =
+          let t = r ∙ run_counted (entries_at 0x32 s v.0 v.1.at) total j (digits 2 v.0) (omega arith) ∙ ap (counted (digits 2 v.0)) (sym e) in
           let y = run (uncounted s h d.at) 0 image in
           let f = ap (λ (z : Ran). z.image) t in
-          let m : count_after s (entries_at 0x31 s h d.at) ≡ n = rw w at (count_ends s (entries_at 0x31 s h d.at) at k) in
-          packed x after (ap (λ (z : Ran). z.step) t) (ap length f ∙ length-sets y.image 3 (digits 2 n) ∙ run_length (uncounted s h d.at) 0 image)
+          let m : count_after s (entries_at 0x31 s h d.at) ≡ v.0 = rw w at (count_ends s (entries_at 0x31 s h d.at) at k) in
+          packed x after (ap (λ (z : Ran). z.step) t) (ap length f ∙ length-sets y.image 3 (digits 2 v.0) ∙ run_length (uncounted s h d.at) 0 image)
           (λ c i g. rw m f)
 
 -- ---- what the packet comes to
@@ -212,9 +208,9 @@ incomplete_read s room = go (leb (length s) limit.bytes)
     go true = refl
     go false = settled_stop 1 0 room
 
-finished_same : (x : Step) (i j : List ℕ) → ((c : Cursor) (m : ℕ) → x ≡ Next c m → i ≡ j) → finished x i ≡ finished x j
-finished_same (Next c m) i j h = rw (h c m refl)
-finished_same (Stop a p) i j h = refl
+finished_same : (x : Step) (i j : List ℕ) → ((c : Cursor) (m : ℕ) → x ≡ went_to c m → i ≡ j) → finished x i ≡ finished x j
+finished_same (Ok x) i j h = rw (h x.0 x.1 refl)
+finished_same (Err r) i j h = refl
 
 pub packed_finished : (s image : List ℕ) {x : Step} {after : List ℕ} → Packed x after s image → finished x after ≡ incomplete_of s (length image)
 packed_finished s image {x} {after} p =
@@ -230,14 +226,14 @@ packed_halts s image p =
     (picked Answers (leb (length s) limit.bytes) (packet_at s) (stop 1 0) (λ t. answered (Tells 2) (λ a m. m.low) s 0 (packet_at s) (packet_kept s)) (λ t. omega arith)))
 
 module _ (s image : List ℕ) {after : List ℕ} where
-  pub whole_stop : {a p : ℕ} → Packed (Stop a p) after s image → whole_of s (length image) ≡ refused a p
+  pub whole_stop : {a p : ℕ} → Packed (denied a p) after s image → whole_of s (length image) ≡ refused a p
   unfolding whole_of
   whole_stop {a} {p} k = let h = packed_halts s image k in rw (← packed_finished s image k, ne_eqb a 0 λ e. omega arith)
 
-  pub whole_more : {c : Cursor} {m : ℕ} → Packed (Next c m) after s image → c.at < length s → whole_of s (length image) ≡ refused 3 c.at
+  pub whole_more : {c : Cursor} {m : ℕ} → Packed (went_to c m) after s image → c.at < length s → whole_of s (length image) ≡ refused 3 c.at
   unfolding whole_of
   whole_more {c} k h = rw (← packed_finished s image k, lt-leb (length s) c.at h)
 
-  pub whole_all : {c : Cursor} {m : ℕ} → Packed (Next c m) after s image → length s ≤ c.at → whole_of s (length image) ≡ finished (Next c m) after
+  pub whole_all : {c : Cursor} {m : ℕ} → Packed (went_to c m) after s image → length s ≤ c.at → whole_of s (length image) ≡ finished (went_to c m) after
   unfolding whole_of
   whole_all {c} k h = rw (← packed_finished s image k, le-leb (length s) c.at h)

@@ -9,8 +9,6 @@ use Rattle.wire.specs.Limit as limit
 use Rattle.wire.specs.declared.cursor.Cursor.{Cursor}
 use Rattle.wire.proofs.Laws.{pick_yes, pick_no, picked, laid_room, laid_none, length_laid, set_sets}
 use Rattle.image.specs.declared.record.Layout.{Layout}
-use Rattle.image.specs.declared.reading.Step.{Step}
-use Rattle.image.specs.declared.reading.Step.TheVariants.{Next, Stop}
 use Rattle.image.specs.declared.writing.Row.{Row}
 use Rattle.image.specs.Kind as kind
 use Rattle.image.specs.Record.{◌bytes◌, none}
@@ -20,6 +18,8 @@ use Rattle.amf0.specs.Writing.{texted, top_value, asked, whole}
 use Rattle.amf0.proofs.Putting.{whole_halt, whole_past, whole_over, whole_full, whole_fits, whole_size}
 use Rattle.packet.specs.Carried.{Carried}
 use Rattle.packet.specs.Writing.{labelled, label, declared, entry, entries, packet, write_of}
+use Rattle.wire.specs.Answer.{denied}
+use Rattle.image.specs.Due.{Step, went_to}
 
 -- ---- stores at places apart, and in the same place
 
@@ -95,18 +95,18 @@ module _ {d : Out} {count : ℕ} {out : List ℕ} where
   carried e = record { step = ap (λ (y : Poured). y.step) e; out = λ c n f. ap (λ (y : Poured). y.out) e }
 
   -- it is refused, whatever then stands in the output
-  pub carried_stop : {a p : ℕ} {o : List ℕ} → (pour d count out).step ≡ Stop a p → Carried d count out (Stop a p) o
+  pub carried_stop : {a p : ℕ} {o : List ℕ} → (pour d count out).step ≡ denied a p → Carried d count out (denied a p) o
   carried_stop e = record { step = sym e; out = λ c n f. let z : ◌≡◌ {A = ℕ} 0 1 = cc in absurd (omega arith) }
 
-  pub went_on : {c : Cursor} {n : ℕ} {o : List ℕ} → Carried d count out (Next c n) o → poured (Next c n) o ≡ pour d count out
+  pub went_on : {c : Cursor} {n : ℕ} {o : List ℕ} → Carried d count out (went_to c n) o → poured (went_to c n) o ≡ pour d count out
   went_on {c} {n} {o} w =
       ap (λ (x : Step). poured x o) w.step ∙ ap (λ (l : List ℕ). poured (pour d count out).step l) (w.out c n refl)
 
-  pub halted : {a p : ℕ} {o : List ℕ} → Carried d count out (Stop a p) o → poured (Stop a p) (pour d count out).out ≡ pour d count out
+  pub halted : {a p : ℕ} {o : List ℕ} → Carried d count out (denied a p) o → poured (denied a p) (pour d count out).out ≡ pour d count out
   halted w = ap (λ (x : Step). poured x (pour d count out).out) w.step
 
   -- another pass went on, and so does this
-  pub again : (z : List ℕ) {x : Step} {o l : List ℕ} {c : Cursor} {n : ℕ} → Carried d count out x o → poured (Next c n) l ≡ pour d count z → poured x o ≡ pour d count out
+  pub again : (z : List ℕ) {x : Step} {o l : List ℕ} {c : Cursor} {n : ℕ} → Carried d count out x o → poured (went_to c n) l ≡ pour d count z → poured x o ≡ pour d count out
   again z {x} {o} {l} {c} {n} w e =
       ap (λ (y : Step). poured y o) w.step
       ∙ ap (λ (k : List ℕ). poured (pour d count out).step k) (w.out c n (w.step ∙ pour_step d count out z ∙ sym (ap (λ (y : Poured). y.step) e)))
@@ -138,8 +138,8 @@ module _ (d : Out) (a b : List ℕ) (e : length a ≡ length b) (at k : ℕ) (ou
       ∙ ap (λ (l : List ℕ). pour d (k + length a) l) (laid_again a b k out e)
       ∙ ap (λ (n : ℕ). pour d (k + n) (laid b k out)) e
 
-  pick_set : (t : Bool) {c : Cursor} {n : ℕ} {o : List ℕ} → poured (Next c n) o ≡ pour (pick t (put a d) (stop 6 at)) k out
-      → poured (Next c n) (laid b k o) ≡ pour (pick t (put b d) (stop 6 at)) k out
+  pick_set : (t : Bool) {c : Cursor} {n : ℕ} {o : List ℕ} → poured (went_to c n) o ≡ pour (pick t (put a d) (stop 6 at)) k out
+      → poured (went_to c n) (laid b k o) ≡ pour (pick t (put b d) (stop 6 at)) k out
   pick_set true f = put_set f
   pick_set false f =
       let s = ap (λ (y : Poured). y.step) (f ∙ pour_stop k out 6 at) in
@@ -156,11 +156,11 @@ module _ (text : List ℕ) (d : Out) (at m n k : ℕ) (out : List ℕ) where
   same_size = length_row text (sizing m) ∙ sym (length_row text (sizing n))
 
   -- the four bytes set to another length are what that length is put out as
-  pub size_set : {c : Cursor} {t : ℕ} {o : List ℕ} → poured (Next c t) o ≡ pour (row text (sizing m) at d) k out
-      → poured (Next c t) (laid (digits 4 n) k o) ≡ pour (row text (sizing n) at d) k out
+  pub size_set : {c : Cursor} {t : ℕ} {o : List ℕ} → poured (went_to c t) o ≡ pour (row text (sizing m) at d) k out
+      → poured (went_to c t) (laid (digits 4 n) k o) ≡ pour (row text (sizing n) at d) k out
   unfolding row
   size_set {c} {t} {o} e =
-      ap (λ (b : List ℕ). poured (Next c t) (laid b k o)) (sym (row_digits text n))
+      ap (λ (b : List ℕ). poured (went_to c t) (laid b k o)) (sym (row_digits text n))
       ∙ pick_set d (row_bytes text (sizing m)) (row_bytes text (sizing n)) same_size at k out (named_of text (sizing m)) e
 
   -- either length goes on or stops alike
@@ -245,10 +245,10 @@ module _ (image text : List ℕ) (exact : Bool) (room : ℕ) where
       within : write_of image text exact room ≡ settled (whole image (packet exact image text)) room
       within = pick_yes (length text) limit.bytes _ _ t ∙ pick_yes (length image) limit.image _ _ i
 
-      pub write_halt : {a p : ℕ} {o : List ℕ} → poured (Stop a p) o ≡ pour (packet exact image text) 0 z → write_of image text exact room ≡ unwritten a
+      pub write_halt : {a p : ℕ} {o : List ℕ} → poured (denied a p) o ≡ pour (packet exact image text) 0 z → write_of image text exact room ≡ unwritten a
       write_halt e = within ∙ whole_halt image (packet exact image text) room z e
 
-      module _ {c : Cursor} {n : ℕ} {o : List ℕ} (e : poured (Next c n) o ≡ pour (packet exact image text) 0 z) where
+      module _ {c : Cursor} {n : ℕ} {o : List ℕ} (e : poured (went_to c n) o ≡ pour (packet exact image text) 0 z) where
         pub write_past : c.at < length image → write_of image text exact room ≡ unwritten 6
         write_past h = within ∙ whole_past image (packet exact image text) room z e h
 

@@ -1,11 +1,10 @@
 -- A packet's reading goes forward and ends inside the input, lays at most three bytes for each byte that it reads, and is refused with 2, 3, 5 or 7,
 -- at a place inside the input.
-use Rattle.std.specs.Prelude.{◌+◌, ◌*◌, ◌≤◌}
+use Rattle.std.specs.Prelude.{◌+◌, ◌*◌, ◌≤◌, Ok, Err, Result}
 use Rattle.wire.proofs.Kit.{ℕ, zero, suc, List, le_refl, arith, length, eqb}
-use Rattle.wire.specs.declared.cursor.Tag.{Tag}
 use Rattle.wire.specs.Limit as limit
 use Rattle.wire.specs.Number.{number}
-use Rattle.wire.specs.Field.{bytes_at, u16_at, got16, past_tag}
+use Rattle.wire.specs.Field.{bytes_at, u16_at, got, past_tag}
 use Rattle.wire.proofs.Laws.{picked}
 use Rattle.wire.proofs.Stands.{go16}
 use Rattle.image.specs.declared.record.Record.{Record}
@@ -16,10 +15,11 @@ use Rattle.image.proofs.Kept.{Kept, fewer, bind_kept, wider}
 use Rattle.amf0.specs.Reading.{top_value}
 use Rattle.amf0.proofs.Reasons as values
 use Rattle.packet.specs.declared.head.Entry.{Entry}
-use Rattle.packet.specs.declared.head.Head.{Head}
-use Rattle.packet.specs.Head.{version_at, head_at, got_head}
+use Rattle.packet.specs.Head.{version_at, head_at, Head}
 use Rattle.packet.specs.Reading.{record_of, entries_at, packet_at}
 use Rattle.packet.proofs.Laws.{Tells, field_tells, value_tells, two, Headed, head_told, Versioned, version_told}
+use Rattle.wire.specs.Answer.{Verdict}
+use Rattle.wire.specs.declared.cursor.Cursor.{Cursor}
 
 -- ---- a packet
 
@@ -28,9 +28,9 @@ unfolding bytes_of
 record_small e = picked (λ (r : Record). length (bytes_of r) ≤ 11) (eqb e.kind 0x31) _ _ (λ t. omega arith) (λ t. omega arith)
 
 entry_kept : (s : List ℕ) (at : ℕ) (k : ℕ → Due) (x : Head) → at ≤ length s → Headed s at x → ((n : ℕ) → n ≤ length s → Kept (Tells 2) s (3 * n) (k n))
-    → Kept (Tells 2) s (3 * at) (got_head stop x λ e v. due (record_of e) at (k v))
-entry_kept s at k (Head.Got e c) l h g = let b = h.0 in (l, fewer (Tells 2) s _ (3 * c.at) (k c.at) (omega (arith, record_small e, b.from)) (g c.at b.within))
-entry_kept s at k (Head.Stop a p) l h g = (omega arith, field_tells (omega arith) h.0, h.1 l)
+    → Kept (Tells 2) s (3 * at) (got stop x λ e v. due (record_of e) at (k v))
+entry_kept s at k (Ok x) l h g = let b = h.0 in (l, fewer (Tells 2) s _ (3 * x.1.at) (k x.1.at) (omega (arith, record_small x.0, b.from)) (g x.1.at b.within))
+entry_kept s at k (Err r) l h g = (omega arith, field_tells (omega arith) h.0, h.1 l)
 
 plain_kept : (s : List ℕ) (at : ℕ) → at ≤ length s → Kept (Tells 2) s (3 * at) (top_value s at)
 plain_kept s at h = wider values.Named (Tells 2) (λ a. value_tells (omega arith)) s (3 * at) (top_value s at) (values.kept limit.levels s at h)
@@ -43,14 +43,14 @@ entries_kept kind s (suc n) at h =
     (λ v l. bind_kept (Tells 2) s (3 * v) (top_value s v) (entries_at kind s n) (plain_kept s v l) (λ m i. entries_kept kind s n m))
 
 -- whatever count of messages the packet's record has
-version_kept : (s : List ℕ) (n : ℕ → ℕ → ℕ) (x : Tag) → Versioned s x
+version_kept : (s : List ℕ) (n : ℕ → ℕ → ℕ) (x : Result Cursor Verdict) → Versioned s x
     → Kept (Tells 2) s 0 (past_tag stop x λ p.
-    got16 stop (u16_at s p) λ h q.
+    got stop (u16_at s p) λ h q.
     due (Packet h (n h q)) 0
-    (entries_at 0x31 s h q >>= λ e. got16 stop (u16_at s e) λ m f. entries_at 0x32 s m f))
+    (entries_at 0x31 s h q >>= λ e. got stop (u16_at s e) λ m f. entries_at 0x32 s m f))
 unfolding bytes_of
-version_kept s n (Tag.Stop a p) v = (omega arith, v.0, v.1)
-version_kept s n (Tag.Past c) v = go16 (Kept (Tells 2) s 0) stop s c.at _
+version_kept s n (Err r) v = (omega arith, v.0, v.1)
+version_kept s n (Ok c) v = go16 (Kept (Tells 2) s 0) stop s c.at _
     (λ i.
     let d : Due = entries_at 0x31 s (number (bytes_at 2 s c.at)) (c.at + 2) in (
       omega arith,

@@ -1,12 +1,11 @@
 -- The laws of a row of entries' numbers.
-use Rattle.std.specs.Prelude.{◌+◌, ◌*◌, ◌-◌, ◌≤◌, ◌<◌, ◌≡◌, ◌∷◌, ◌++◌}
-use Rattle.wire.proofs.Kit.{ℕ, refl, sym, ap, ◌∙◌, List, [], append-nil, arith, length, get_or, take, drop, replicate, ltb}
-use Rattle.wire.proofs.Laws.{picked}
-use Rattle.wire.proofs.Kit.{length-append, sets, sets-eq, take_at, length-take-le}
+use Rattle.std.specs.Prelude.{◌+◌, ◌*◌, ◌-◌, ◌≤◌, ◌<◌, ◌≡◌, ◌∷◌, ◌++◌, Some}
+use Rattle.wire.proofs.Kit.{ℕ, refl, sym, ap, ◌∙◌, List, [], append-nil, arith, length, take, drop, replicate}
+use Rattle.wire.proofs.Kit.{length-append, take_at, length-take-le}
 use Rattle.packet.specs.declared.head.Entry.{Entry}
 use Rattle.packet.specs.declared.entry.Cutting.{Cutting}
-use Rattle.packet.specs.Entry.{Trail, Cut, puts, strict, no_entry, Ending, done, halt, Listed, listed}
-use Rattle.packet.specs.Code.{past, counted_in}
+use Rattle.packet.specs.Entry.{Trail, Cut, puts, strict, Listed, listed}
+use Rattle.packet.specs.Code.{past, first_of, counted_in}
 use Rattle.packet.specs.Row.{entry_numbers, numbers_of, row_of}
 use Rattle.packet.proofs.Laws.{strict_last, counting}
 
@@ -32,26 +31,17 @@ unfolding numbers_of
 rowed_none row t e = record { entries = []; count = refl; front = refl; whole = sym e }
 
 -- one entry more
-pub rowed_more : (row : List ℕ) (n : ℕ) (t : Trail) {c : Cut} → 8 * n + 8 ≤ length row → ((z : ℕ) → t.ending ≡ done z → 0 < length t.entries)
-    → Rowed row n t c → Rowed (sets row (8 * n) (entry_numbers (get_or t.entries 0 no_entry))) (n + 1) (past 1 t) c
-rowed_more row n t h s r =
-    let e = get_or t.entries 0 no_entry in
+pub rowed_more : (row : List ℕ) (n : ℕ) (t : Trail) {c : Cut} {e : Entry} → 8 * n + 8 ≤ length row → first_of t.entries ≡ Some e
+    → Rowed row n t c → Rowed (take (8 * n) row ++ entry_numbers e ++ drop (8 * n + 8) row) (n + 1) (past 1 t) c
+rowed_more row n t {c} {e} h f r =
     let m : 8 * (n + 1) ≡ 8 * n + 8 = omega arith in
-    let w = sets-eq (entry_numbers e) row (8 * n) h in
     let l : length (take (8 * n) row ++ entry_numbers e) ≡ 8 * n + 8 = simp (length-append, length-take-le (8 * n) row (omega arith)) in
     record {
       entries = r.entries ++ e ∷ [];
       count = rw (length-append r.entries (e ∷ []), r.count);
-      front = rw (m, w) (take_at (take (8 * n) row ++ entry_numbers e) (drop (8 * n + 8) row) (8 * n + 8) l ∙ (rw r.front (sym (numbers_last r.entries e))));
-      whole = r.whole ∙ strict_last r.entries t s;
+      front = rw m (take_at (take (8 * n) row ++ entry_numbers e) (drop (8 * n + 8) row) (8 * n + 8) l ∙ (rw r.front (sym (numbers_last r.entries e))));
+      whole = r.whole ∙ strict_last r.entries t f;
     }
-
-pub counted_most : (t : Trail) (n : ℕ) → (counted_in t n).count ≤ n
-counted_most t n = go t.ending
-  where
-    go : (x : Ending) → (counted_in (record { entries = t.entries; ending = x }) n).count ≤ n
-    go (halt a p) = omega arith
-    go (done z) = picked (λ (k : Cutting). k.count ≤ n) (ltb 0 (length t.entries)) _ _ (λ h. omega arith) (λ h. omega arith)
 
 -- a cut that is counted, and a row that is cleared behind its entries, are what a cut comes to
 pub record Rowing (row : List ℕ) (k : Cutting) (w : Listed) : Type 0 where

@@ -1,17 +1,16 @@
 -- The cut of a packet by its declared lengths, with values measured where these are not known, and the reading of one entry: the rule "Reading by entry"
 -- (docs/DEMANDS.md).
-use Rattle.std.specs.Prelude.{ℕ, zero, suc, ◌+◌, ◌-◌, List, [], ◌∷◌, ◌++◌, length, get_or, replicate, leb, ltb, eqb}
+use Rattle.std.specs.Prelude.{ℕ, zero, suc, ◌+◌, ◌-◌, List, [], ◌∷◌, ◌++◌, length, get_or, replicate, leb, ltb, eqb, Result, Ok}
+use Rattle.wire.specs.Answer.{Verdict, denied}
 use Rattle.wire.specs.Choice.{pick}
 use Rattle.wire.specs.Limit as limit
 use Rattle.wire.specs.Text.{inside_of}
-use Rattle.wire.specs.Field.{to, u16_at, got16}
+use Rattle.wire.specs.Field.{to, u16_at, got_to, got}
 use Rattle.image.specs.Due.{on_end}
 use Rattle.image.specs.Whole.{Whole, refused}
 use Rattle.packet.specs.declared.head.Entry.{Entry}
 use Rattle.packet.specs.declared.entry.Cutting.{Cutting}
-use Rattle.packet.specs.declared.entry.Found.{Found}
-use Rattle.packet.specs.declared.head.Head.{Head}
-use Rattle.packet.specs.Head.{unknown, front_of, head_at, got_head, entry}
+use Rattle.packet.specs.Head.{Head, unknown, front_of, head_at, entry}
 use Rattle.amf0.specs.Reading.{value_in}
 use Rattle.amf0.specs.Span.{Span, span_at, held, answer_of, one_value}
 use Rattle.image.specs.Kind as kind
@@ -53,20 +52,20 @@ measured e n = entry e.kind e.flag e.place1 e.length1 e.place2 e.length2 e.place
 
 -- an entry whose length is not known: its value is read where it stands, and what refuses that refuses the entry
 abbrev pub measured_at : List ℕ → Entry → ℕ → Head
-measured_at s e v = on_end (value_in 0 s v) (λ n. Head.Got (measured e (n - v)) (to n)) Head.Stop
+measured_at s e v = on_end (value_in 0 s v) (λ n. got_to (measured e (n - v)) (to n)) denied
 
 -- an entry and the place behind its value; a length that exceeds the bytes left is refused, at the length field
 unfoldable pub entry_at : ℕ → List ℕ → ℕ → Head
 entry_at kind s at =
-    got_head Head.Stop (head_at kind s at) λ e v.
+    got denied (head_at kind s at) λ e v.
     pick (eqb e.length unknown)
     (measured_at s e v)
-    (pick (leb (v + e.length) (length s)) (Head.Got e (to (v + e.length))) (Head.Stop 2 (v - 4)))
+    (pick (leb (v + e.length) (length s)) (got_to e (to (v + e.length))) (denied 2 (v - 4)))
 
 -- n entries of a kind
 unfoldable pub walk : ℕ → List ℕ → ℕ → ℕ → Trail
 walk kind s zero at = reached [] at
-walk kind s (suc n) at = got_head stopped (entry_at kind s at) λ e q. puts (e ∷ []) (walk kind s n q)
+walk kind s (suc n) at = got stopped (entry_at kind s at) λ e q. puts (e ∷ []) (walk kind s n q)
 
 -- behind the last message the packet must end
 abbrev pub end_at : List ℕ → ℕ → Trail
@@ -74,7 +73,7 @@ end_at s z = pick (leb (length s) z) (reached [] z) (stopped 3 z)
 
 -- behind the headers: the messages, up to its last byte
 abbrev pub messages_from : List ℕ → ℕ → Trail
-messages_from s e = got16 stopped (u16_at s e) λ m f. walk kind.message s m f thence end_at s
+messages_from s e = got stopped (u16_at s e) λ m f. walk kind.message s m f thence end_at s
 
 -- a cut: the entries of a packet and the place behind it, or a refusal
 pub data Cut : Type 0 where
@@ -87,7 +86,7 @@ strict t = reach stops t.ending (found t.entries)
 
 -- the whole packet: a bad front is refused, then come headers and messages
 unfoldable pub cut_of : List ℕ → Cut
-cut_of s = got16 stops (front_of s) λ h q. strict (walk kind.header s h q thence messages_from s)
+cut_of s = got stops (front_of s) λ h q. strict (walk kind.header s h q thence messages_from s)
 
 abbrev pub no_entry : Entry
 no_entry = entry 0 0 0 0 0 0 0 0
@@ -120,9 +119,13 @@ filled es room = es ++ replicate (room - length es) no_entry
 -- ---- one entry
 
 -- the entry with a number, from 0, headers first
+-- an entry that was looked for, or a refusal
+abbrev pub Found : Type 0
+Found = Result Entry Verdict
+
 abbrev pub found_in : Cut → ℕ → Found
-found_in (found es z) number = pick (ltb number (length es)) (Found.Is (get_or es number no_entry)) (Found.Stop 8 0)
-found_in (stops a p) number = Found.Stop a p
+found_in (found es z) number = pick (ltb number (length es)) (Ok (get_or es number no_entry)) (denied 8 0)
+found_in (stops a p) number = denied a p
 
 -- the span of an entry's value, and its bytes
 abbrev pub span : Entry → Span

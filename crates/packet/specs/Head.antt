@@ -1,24 +1,23 @@
 -- The fields of a packet round its values: the rule "Packet" (docs/DEMANDS.md).
-use Rattle.std.specs.Prelude.{ℕ, List, [], ◌∷◌, length, leb, ltb, eqb}
+use Rattle.std.specs.Prelude.{ℕ, List, [], ◌∷◌, length, leb, ltb, eqb, Result, Ok}
 use Rattle.wire.specs.Choice.{pick}
 use Rattle.wire.specs.Limit as limit
-use Rattle.wire.specs.Field.{to, u8_at, u16_at, u32_at, text_at, tag_at, got8, got32, got_text, past_tag}
-use Rattle.wire.specs.declared.cursor.U16.{U16}
-use Rattle.wire.specs.declared.cursor.Tag.{Tag}
+use Rattle.wire.specs.Field.{to, u8_at, u16_at, u32_at, text_at, tag_at, Parsed, got_to, got, got_text, past_tag}
+use Rattle.wire.specs.Answer.{Verdict, denied}
+use Rattle.wire.specs.declared.cursor.Cursor.{Cursor}
 use Rattle.packet.specs.declared.head.Entry.{Entry}
-use Rattle.packet.specs.declared.head.Head.{Head}
 use Rattle.image.specs.Kind as kind
 
 -- a zero, and the version: 00, and 03 gives 7
-unfoldable pub version_at : List ℕ → Tag
+unfoldable pub version_at : List ℕ → Result Cursor Verdict
 version_at s =
-    past_tag Tag.Stop (tag_at (0 ∷ []) s 0) λ p.
-    got8 Tag.Stop (u8_at s p) λ v q.
-    pick (eqb v 0) (Tag.Past (to q)) (pick (eqb v 3) (Tag.Stop 7 p) (Tag.Stop 3 p))
+    past_tag denied (tag_at (0 ∷ []) s 0) λ p.
+    got denied (u8_at s p) λ v q.
+    pick (eqb v 0) (Ok (to q)) (pick (eqb v 3) (denied 7 p) (denied 3 p))
 
 -- the front: the version, and the count of headers
-unfoldable pub front_of : List ℕ → U16
-front_of s = pick (leb (length s) limit.bytes) (past_tag U16.Stop (version_at s) λ p. u16_at s p) (U16.Stop 1 0)
+unfoldable pub front_of : List ℕ → Parsed ℕ
+front_of s = pick (leb (length s) limit.bytes) (past_tag denied (version_at s) λ p. u16_at s p) (denied 1 0)
 
 -- the length that says that it is not known
 abbrev pub unknown : ℕ
@@ -40,26 +39,26 @@ entry kind flag p n q m v l =
       length = l;
     }
 
+-- an entry's fields before its value
+abbrev pub Head : Type 0
+Head = Parsed Entry
+
 -- a header before its value: its name, its flag, true if not 0, and the length that it declares
 unfoldable pub header_at : List ℕ → ℕ → Head
 header_at s at =
-    got_text Head.Stop (text_at 2 s at) λ p n q.
-    got8 Head.Stop (u8_at s q) λ f e.
-    got32 Head.Stop (u32_at s e) λ l v.
-    Head.Got (entry kind.header (bit_of f) p n 0 0 v l) (to v)
+    got_text denied (text_at 2 s at) λ p n q.
+    got denied (u8_at s q) λ f e.
+    got denied (u32_at s e) λ l v.
+    got_to (entry kind.header (bit_of f) p n 0 0 v l) (to v)
 
 -- a message before its value: its target, its response, and the length that it declares
 unfoldable pub message_at : List ℕ → ℕ → Head
 message_at s at =
-    got_text Head.Stop (text_at 2 s at) λ p n e.
-    got_text Head.Stop (text_at 2 s e) λ q m f.
-    got32 Head.Stop (u32_at s f) λ l v.
-    Head.Got (entry kind.message 0 p n q m v l) (to v)
+    got_text denied (text_at 2 s at) λ p n e.
+    got_text denied (text_at 2 s e) λ q m f.
+    got denied (u32_at s f) λ l v.
+    got_to (entry kind.message 0 p n q m v l) (to v)
 
 -- the head of an entry of a kind: a header's, or else a message's
 abbrev pub head_at : ℕ → List ℕ → ℕ → Head
 head_at k s at = pick (eqb k kind.header) (header_at s at) (message_at s at)
-
-abbrev pub got_head {ℓ} : {A : Type ℓ} → (ℕ → ℕ → A) → Head → (Entry → ℕ → A) → A
-got_head stop (Head.Got e c) k = k e c.at
-got_head stop (Head.Stop a p) k = stop a p

@@ -6,12 +6,12 @@ ghost use Rattle.image.specs.Whole.{padded};
 ghost use Rattle.packet.specs.Reading.{record_of, entries_at, incomplete_of, whole_of};
 ghost use Rattle.packet.specs.Code.{run_messages, Packed};
 
-use crate::head::{Entry, HEADER, Head, MESSAGE, front, head_at};
+use crate::head::{Entry, HEADER, MESSAGE, front, head_at};
 use amf0::read::parse_value;
 use image::reading::{Reading, Step, finish, put};
 use image::record::Record;
-use wire::answer::NOT_RIGHT;
-use wire::cursor::{Cursor, U16};
+use wire::answer::Answer;
+use wire::cursor::Cursor;
 use wire::number::write_number;
 
 // The record of an entry.
@@ -33,30 +33,14 @@ fn parse_entries(image: &mut [u8], s: &[u8], kind: u8, start: Cursor, done: usiz
 {
     let mut c = start;
     let mut made = done;
-    let mut k = n;
-    while 0 < k {
-        match head_at(s, kind, c) {
-            Head::Stop(a, p) => {
-                return Step::Stop(a, p);
-            }
-            Head::Got(e, d) => match put(image, made, record_of(e), c.at, d) {
-                Step::Stop(a, p) => {
-                    return Step::Stop(a, p);
-                }
-                Step::Next(v, laid) => match parse_value(image, s, 0, v, laid) {
-                    Step::Stop(a, p) => {
-                        return Step::Stop(a, p);
-                    }
-                    Step::Next(f, total) => {
-                        c = f;
-                        made = total;
-                    }
-                },
-            },
-        }
-        k -= 1;
+    for _ in 0..n {
+        let (e, d) = head_at(s, kind, c)?;
+        let (v, laid) = put(image, made, record_of(e), c.at, d)?;
+        let (f, total) = parse_value(image, s, 0, v, laid)?;
+        c = f;
+        made = total;
     }
-    Step::Next(c, made)
+    Ok((c, made))
 }
 
 // The messages, behind the headers: their count goes into the packet's record, which stands first.
@@ -65,29 +49,19 @@ fn parse_messages(image: &mut [u8], s: &[u8], c: Cursor, made: usize) -> Step
     ensures image_after { ran result image.new ≡ run_messages s.now c.at made image.old }
     ensures within { Within result c.at (length s.now) (length image.old) }
 {
-    match c.be_u16(s) {
-        U16::Stop(a, p) => Step::Stop(a, p),
-        U16::Got(m, d) => {
-            write_number(image, 3, 2, m as u64);
-            parse_entries(image, s, MESSAGE, d, made, m)
-        }
-    }
+    let (m, d) = c.be_u16(s)?;
+    write_number(image, 3, 2, m as u64);
+    parse_entries(image, s, MESSAGE, d, made, m)
 }
 
 fn parse_packet(image: &mut [u8], s: &[u8]) -> Step
     ensures packed { Packed result image.new s.now image.old }
     ensures within { Within result 0 (length s.now) (length image.old) }
 {
-    match front(s) {
-        U16::Stop(a, p) => Step::Stop(a, p),
-        U16::Got(h, d) => match put(image, 0, Record::Packet(h, 0), 0, d) {
-            Step::Stop(a, p) => Step::Stop(a, p),
-            Step::Next(e, made) => match parse_entries(image, s, HEADER, e, made, h) {
-                Step::Stop(a, p) => Step::Stop(a, p),
-                Step::Next(f, total) => parse_messages(image, s, f, total),
-            },
-        },
-    }
+    let (h, d) = front(s)?;
+    let (e, made) = put(image, 0, Record::Packet(h, 0), 0, d)?;
+    let (f, total) = parse_entries(image, s, HEADER, e, made, h)?;
+    parse_messages(image, s, f, total)
 }
 
 // Reads a packet at the front of an input.
@@ -105,13 +79,12 @@ pub fn parse(input: &[u8], image: &mut [u8]) -> Reading
     ensures image_after { image.new ≡ padded (whole_of input.now (length image.old)).bytes (length image.old) }
 {
     match parse_packet(image, input) {
-        Step::Stop(a, p) => finish(image, Step::Stop(a, p)),
-        Step::Next(c, made) => {
+        Err(r) => finish(image, Err(r)),
+        Ok((c, made)) => {
             if c.at < input.len() {
-                finish(image, Step::Stop(NOT_RIGHT, c.at))
-            } else {
-                finish(image, Step::Next(c, made))
+                return finish(image, Answer::NotRight.refuse(c.at));
             }
+            finish(image, Ok((c, made)))
         }
     }
 }

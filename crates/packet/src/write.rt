@@ -11,12 +11,14 @@ use amf0::write::pour_value;
 use image::kind;
 use image::reading::Step;
 use image::record::layout_of;
-use image::taking::{Taken, record_at};
-use image::writing::{Writing, emit_numbers, emit_text, refused};
-use wire::answer::{ACCEPTED, NO_ROOM, NO_TREE, OVER_LIMIT};
+use image::taking::record_at;
+use image::writing::{Writing, emit_numbers, emit_text, refused_by};
+use wire::answer::{ACCEPTED, Answer};
 use wire::cursor::Cursor;
 use wire::limit;
 use wire::number::write_number;
+
+// Output, image and text are handed on one by one, as in amf0's writer, which says why.
 
 // An entry's fields up to its length: its name or target, and then a header's flag or a message's response.
 fn write_label(out: &mut [u8], image: &[u8], text: &[u8], kind: u8, c: Cursor, count: usize) -> Step
@@ -25,50 +27,20 @@ fn write_label(out: &mut [u8], image: &[u8], text: &[u8], kind: u8, c: Cursor, c
     ensures ahead { Ahead result (c.at + 1) (length image.now) (count + 2 * longest) }
 {
     let at = c.at;
-    match record_at(image, c) {
-        Taken::Bad => Step::Stop(NO_TREE, at),
-        Taken::Found(r, d) => {
-            let l = layout_of(r);
-            if l.kind != kind as u64 {
-                return Step::Stop(NO_TREE, at);
-            }
-            let p = l.a;
-            let n = l.b;
-            let q = l.c;
-            let m = l.d;
-            match emit_text(
-                out,
-                text,
-                count,
-                0,
-                0,
-                2,
-                p.number as usize,
-                n.number as usize,
-                at,
-                d,
-            ) {
-                Step::Stop(a, w) => Step::Stop(a, w),
-                Step::Next(e, k) => {
-                    if kind == HEADER {
-                        emit_numbers(out, k, 1, q.number, 0, 0, 0, 0, e)
-                    } else {
-                        emit_text(
-                            out,
-                            text,
-                            k,
-                            0,
-                            0,
-                            2,
-                            q.number as usize,
-                            m.number as usize,
-                            at,
-                            e,
-                        )
-                    }
-                }
-            }
-        }
+    let Some((r, d)) = record_at(image, c) else {
+        return Answer::NoTree.refuse(at);
+    };
+    let l = layout_of(r);
+    if l.kind != kind as u64 {
+        return Answer::NoTree.refuse(at);
+    }
+    let (p, n) = (l.a.number as usize, l.b.number as usize);
+    let (e, k) = emit_text(out, text, count, 0, 0, 2, p, n, at, d)?;
+    if kind == HEADER {
+        emit_numbers(out, k, 1, l.c.number, 0, 0, 0, 0, e)
+    } else {
+        let (q, m) = (l.c.number as usize, l.d.number as usize);
+        emit_text(out, text, k, 0, 0, 2, q, m, at, e)
     }
 }
 
@@ -86,21 +58,13 @@ fn write_entry(
     ensures carried { Carried (entry kind exact image.now text.now c.at) count out.old result out.new }
     ensures ahead { Ahead result (c.at + 1) (length image.now) count }
 {
-    match write_label(out, image, text, kind, c, count) {
-        Step::Stop(a, w) => Step::Stop(a, w),
-        Step::Next(d, k) => match emit_numbers(out, k, 4, 0xFFFF_FFFF, 0, 0, 0, 0, d) {
-            Step::Stop(a, w) => Step::Stop(a, w),
-            Step::Next(e, m) => match pour_value(out, image, text, e, m) {
-                Step::Stop(a, w) => Step::Stop(a, w),
-                Step::Next(f, total) => {
-                    if exact {
-                        write_number(out, k, 4, (total - m) as u64);
-                    }
-                    Step::Next(f, total)
-                }
-            },
-        },
+    let (d, k) = write_label(out, image, text, kind, c, count)?;
+    let (e, m) = emit_numbers(out, k, 4, 0xFFFF_FFFF, 0, 0, 0, 0, d)?;
+    let (f, total) = pour_value(out, image, text, e, m)?;
+    if exact {
+        write_number(out, k, 4, (total - m) as u64);
     }
+    Ok((f, total))
 }
 
 // n entries of a kind.
@@ -120,20 +84,12 @@ fn write_entries(
 {
     let mut c = start;
     let mut count = done;
-    let mut k = n;
-    while 0 < k {
-        match write_entry(out, image, text, kind, exact, c, count) {
-            Step::Stop(a, p) => {
-                return Step::Stop(a, p);
-            }
-            Step::Next(d, m) => {
-                c = d;
-                count = m;
-            }
-        }
-        k -= 1;
+    for _ in 0..n {
+        let (d, m) = write_entry(out, image, text, kind, exact, c, count)?;
+        c = d;
+        count = m;
     }
-    Step::Next(c, count)
+    Ok((c, count))
 }
 
 // The packet. On an output without room it counts alone.
@@ -142,31 +98,18 @@ fn write_packet(out: &mut [u8], image: &[u8], text: &[u8], exact: bool) -> Step
     ensures { Carried (packet exact image.now text.now) 0 out.old result out.new }
 {
     let c = Cursor { at: 0 };
-    match record_at(image, c) {
-        Taken::Bad => Step::Stop(NO_TREE, 0),
-        Taken::Found(r, d) => {
-            let l = layout_of(r);
-            if l.kind != kind::PACKET as u64 {
-                return Step::Stop(NO_TREE, 0);
-            }
-            let h = l.a;
-            let m = l.b;
-            match emit_numbers(out, 0, 2, 0, 2, h.number, 0, 0, d) {
-                Step::Stop(a, w) => Step::Stop(a, w),
-                Step::Next(e, k) => match write_entries(
-                    out, image, text, HEADER, exact, e, k, h.number,
-                ) {
-                    Step::Stop(a, w) => Step::Stop(a, w),
-                    Step::Next(f, n) => match emit_numbers(out, n, 0, 0, 2, m.number, 0, 0, f) {
-                        Step::Stop(a, w) => Step::Stop(a, w),
-                        Step::Next(g, t) => write_entries(
-                            out, image, text, MESSAGE, exact, g, t, m.number,
-                        ),
-                    },
-                },
-            }
-        }
+    let Some((r, d)) = record_at(image, c) else {
+        return Answer::NoTree.refuse(0);
+    };
+    let l = layout_of(r);
+    if l.kind != kind::PACKET as u64 {
+        return Answer::NoTree.refuse(0);
     }
+    let (headers, messages) = (l.a.number, l.b.number);
+    let (e, k) = emit_numbers(out, 0, 2, 0, 2, headers, 0, 0, d)?;
+    let (f, n) = write_entries(out, image, text, HEADER, exact, e, k, headers)?;
+    let (g, t) = emit_numbers(out, n, 0, 0, 2, messages, 0, 0, f)?;
+    write_entries(out, image, text, MESSAGE, exact, g, t, messages)
 }
 
 // Writes the packet of an image, whose texts stand in `text`, with exact lengths or with FFFFFFFF: measured first, and then put out.
@@ -175,24 +118,25 @@ pub fn write_to_bytes(image: &[u8], text: &[u8], exact_lengths: bool, out: &mut 
     ensures out_after { out.new ≡ onto (write_of image.now text.now exact_lengths (length out.old)).bytes out.old }
 {
     if limit::BYTES < text.len() {
-        return refused(OVER_LIMIT);
+        return refused_by(Answer::OverLimit);
     }
     if limit::IMAGE < image.len() {
-        return refused(OVER_LIMIT);
+        return refused_by(Answer::OverLimit);
     }
     match write_packet(&mut out[..0], image, text, exact_lengths) {
-        Step::Stop(a, _) => refused(a),
-        Step::Next(c, n) => {
+        Err(r) => refused_by(r.answer()),
+        Ok((c, n)) => {
             if c.at < image.len() {
-                return refused(NO_TREE);
+                return refused_by(Answer::NoTree);
             }
             if limit::BYTES < n {
-                return refused(OVER_LIMIT);
+                return refused_by(Answer::OverLimit);
             }
             if out.len() < n {
-                return refused(NO_ROOM);
+                return refused_by(Answer::NoRoom);
             }
-            write_packet(out, image, text, exact_lengths);
+            // What was measured is not refused.
+            let _ = write_packet(out, image, text, exact_lengths);
             Writing {
                 answer: ACCEPTED,
                 count: n,

@@ -1,15 +1,13 @@
 -- The whole reading of a packet whose lengths are those of its values, or not known, against its reading by entry.
-use Rattle.std.specs.Prelude.{◌+◌, ◌*◌, ◌≤◌, ◌<◌, ◌≡◌, ◌∷◌, ◌++◌}
+use Rattle.std.specs.Prelude.{◌+◌, ◌*◌, ◌≤◌, ◌<◌, ◌≡◌, ◌∷◌, ◌++◌, Ok}
 use Rattle.wire.proofs.Kit.{ℕ, zero, suc, refl, sym, ap, ◌∙◌, List, [], append_assoc, arith, le_refl, add-zero, zero-add, append-nil}
 use Rattle.wire.proofs.Kit.{suc-add, length, get_or, length-append, le-leb, lt-ltb}
 use native.Mathlib.Nat.{add-suc}
 use Rattle.wire.specs.Number.{Bytes}
 use Rattle.wire.specs.Limit as limit
-use Rattle.wire.specs.Field.{u16_at, got16}
+use Rattle.wire.specs.Field.{u16_at, got, got_to}
 use Rattle.wire.specs.declared.cursor.Cursor.{Cursor}
 use Rattle.wire.proofs.Stands.{Here}
-use Rattle.wire.specs.declared.cursor.U16.TheVariants as U16
-use Rattle.wire.specs.declared.cursor.Tag.TheVariants as Tag
 use Rattle.image.specs.declared.record.Record.TheVariants.{Packet}
 use Rattle.image.specs.Record.{bytes_of}
 use Rattle.image.specs.Due.{Due, end, stop, seen, due, based, Ends}
@@ -19,7 +17,6 @@ use Rattle.amf0.specs.Reading.{top_value}
 use Rattle.image.proofs.Kept.{ends_kept}
 use Rattle.amf0.proofs.Reasons.{Named, kept}
 use Rattle.packet.specs.declared.head.Entry.{Entry}
-use Rattle.packet.specs.declared.head.Head.{Head}
 use Rattle.packet.specs.Head.{version_at, front_of, head_at}
 use Rattle.packet.specs.Reading.{record_of, entries_at, count_after, packet_at, whole_of}
 use Rattle.packet.specs.Entry.{reached, measured, walk, found, cut_of, no_entry, span_of, read_entry, span}
@@ -36,7 +33,7 @@ use Rattle.amf0_theorems.proofs.Spans.{ends_bind, alone, answer_all}
 -- entries of a kind from a place of s to another, each value, as the whole reading reads it, as long as its length says, or of a length that is not known
 pub data Exactly (kind : ℕ) (s : List ℕ) : List Entry → ℕ → ℕ → Type 0 where
   none : {at : ℕ} → Exactly kind s [] at at
-  more : {e : Entry} {c : Cursor} {d : ℕ} {y r : List ℕ} {es : List Entry} {at z : ℕ} → head_at kind s at ≡ Head.Got e c → e.length ≡ d → Says d y
+  more : {e : Entry} {c : Cursor} {d : ℕ} {y r : List ℕ} {es : List Entry} {at z : ℕ} → head_at kind s at ≡ got_to e c → e.length ≡ d → Says d y
       → Here s e.place y r → Ends (top_value s e.place) (e.place + length y) → Exactly kind s es (e.place + length y) z
       → Exactly kind s (measured e (length y) ∷ es) at z
 
@@ -114,13 +111,13 @@ pub record Exacts (s : List ℕ) : Type 0 where
   pub q : Cursor
   pub f : Cursor
   pub next : ℕ
-  pub version : version_at s ≡ Tag.Past c
-  pub header_count : u16_at s c.at ≡ U16.Got (length headers) q
+  pub version : version_at s ≡ Ok c
+  pub header_count : u16_at s c.at ≡ got_to (length headers) q
   pub header_values : Exactly 0x31 s headers q.at next
-  pub message_count : u16_at s next ≡ U16.Got (length messages) f
+  pub message_count : u16_at s next ≡ got_to (length messages) f
   pub message_values : Exactly 0x32 s messages f.at (length s)
 
-pub count_after_lem : (s : List ℕ) (d : Due) (n m : ℕ) (c : Cursor) → Ends d n → u16_at s n ≡ U16.Got m c → count_after s d ≡ m
+pub count_after_lem : (s : List ℕ) (d : Due) (n m : ℕ) (c : Cursor) → Ends d n → u16_at s n ≡ got_to m c → count_after s d ≡ m
 count_after_lem s (end k) n m c e h = rw (← e, h)
 count_after_lem s (stop a p) n m c e h = absurd e
 count_after_lem s (seen fact d) n m c e h = count_after_lem s d n m c e h
@@ -155,7 +152,7 @@ both s bs x =
             x.version,
             x.header_count,
             count_after_lem s d x.next (length ms) x.f h.ends x.message_count,
-            bytes_bind d (λ e. got16 stop (u16_at s e) (entries_at 0x32 s)) x.next h.ends,
+            bytes_bind d (λ e. got stop (u16_at s e) (entries_at 0x32 s)) x.next h.ends,
             x.message_count,
             h.image,
             m.image,

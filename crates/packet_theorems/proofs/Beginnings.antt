@@ -13,7 +13,6 @@ use Rattle.amf0_theorems.specs.Refusal.{Field}
 use Rattle.packet.specs.Packet.{Packet, Encoded}
 use Rattle.packet.specs.Shown.{Within}
 use Rattle.packet.specs.Reading.{packet_at, incomplete_of, whole_of}
-use Rattle.packet.specs.declared.entry.Found.TheVariants as Found
 use Rattle.packet.specs.Entry.{stops, cut_of, list_of, uncut, found_in, read_entry}
 use Rattle.packet_theorems.specs.Cuts.{Slice, Cuts}
 use Rattle.packet_theorems.specs.Refusal.{Way, whole, Sizes, cut, IsPacket, Seven, RefusedPacket, RefusedCut}
@@ -25,6 +24,7 @@ use Rattle.packet_theorems.proofs.CutExactly.{cuts_packet}
 use Rattle.packet_theorems.proofs.Theorems.{incomplete_room_exact}
 use Rattle.packet_theorems.proofs.Reasons.{readable_packet}
 use Rattle.packet_theorems.proofs.Refusals.{cut_by, cut_goes, cut_refused_exactly, value_by, value_goes, packet_refused}
+use Rattle.wire.specs.Answer.{denied}
 
 -- ---- bytes added behind
 
@@ -101,7 +101,7 @@ module _ {hs ms : List Slice} (s r : List ℕ) (bs : Bytes (s ++ r)) (exact : Cu
   cut_beginning room = (cut_begun.0, rw cut_begun.1)
 
   -- So it is by `nth`.
-  pub nth_beginning : (number : ℕ) → (p : ℕ) × (found_in (cut_of s) number ≡ Found.Stop 2 p)
+  pub nth_beginning : (number : ℕ) → (p : ℕ) × (found_in (cut_of s) number ≡ denied 2 p)
   nth_beginning number = (cut_begun.0, rw cut_begun.1)
 
   -- And by `parse_entry`.

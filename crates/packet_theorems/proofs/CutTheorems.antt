@@ -1,11 +1,10 @@
 -- The theorems on the cut into a list, over what it comes to.
-use Rattle.std.specs.Prelude.{◌≤◌, ◌<◌, ◌≡◌, ◌≢◌, ◌↔◌, ◌∷◌, ◌++◌}
+use Rattle.std.specs.Prelude.{◌≤◌, ◌<◌, ◌≡◌, ◌≢◌, ◌↔◌, ◌∷◌, ◌++◌, Ok}
 use Rattle.wire.proofs.Kit.{ℕ, zero, suc, refl, sym, ap, List, [], arith, length, get_or, leb, leb-true, le-leb, lt-ltb}
 use Rattle.wire.specs.Number.{Bytes}
 use Rattle.wire.proofs.Laws.{picked}
 use Rattle.amf0.specs.Span.{Changed}
 use Rattle.packet.specs.declared.head.Entry.{Entry}
-use Rattle.packet.specs.declared.entry.Found.{Found}
 use Rattle.packet.specs.Entry.{Cut, found, stops, cut_of, no_entry, Listed, uncut, listed, list_of, filled, read_span, read_entry, found_in}
 use Rattle.packet.specs.Change.{known_spans}
 use Rattle.packet.proofs.Laws.{Splits, cut_told}
@@ -71,13 +70,13 @@ get_d_front (e ∷ es) fs (suc k) d h = get_d_front es fs k d (omega arith)
 
 -- What an accepted cut has in the list at a number below its count is what `nth` finds by that number.
 pub cut_nth : (s : List ℕ) (room k : ℕ) → k < (list_of s room).cutting.count
-    → found_in (cut_of s) k ≡ Found.Is (get_or (filled (list_of s room).entries room) k no_entry)
+    → found_in (cut_of s) k ≡ Ok (get_or (filled (list_of s room).entries room) k no_entry)
 cut_nth s room k = go (list_of s room) (comes_list s room)
   where
-    go : (w : Listed) → ComesList s room w → k < w.cutting.count → found_in (cut_of s) k ≡ Found.Is (get_or (filled w.entries room) k no_entry)
+    go : (w : Listed) → ComesList s room w → k < w.cutting.count → found_in (cut_of s) k ≡ Ok (get_or (filled w.entries room) k no_entry)
     go w (ComesList.not_cut e) h = absurd (omega arith)
     go w (ComesList.too_short e l) h = absurd (omega arith)
-    go w (ComesList.cut {es} e l) h = rw (e, lt-ltb k (length es) h) (ap Found.Is (sym (get_d_front es _ k no_entry h)))
+    go w (ComesList.cut {es} e l) h = rw (e, lt-ltb k (length es) h) (ap Ok (sym (get_d_front es _ k no_entry h)))
 
 -- So the span of an entry that an accepted cut has in the list reads as that entry does by its number.
 pub cut_span : (s : List ℕ) (list k room : ℕ) → k < (list_of s list).cutting.count

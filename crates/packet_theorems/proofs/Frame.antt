@@ -1,27 +1,25 @@
 -- The cut of a packet reads only what stands beside the values of a known length: how its entries lie, and that the same bytes beside those are cut alike.
-use Rattle.std.specs.Prelude.{◌+◌, ◌-◌, ◌≤◌, ◌<◌, ◌≡◌, ◌∷◌, ◌++◌}
+use Rattle.std.specs.Prelude.{◌+◌, ◌-◌, ◌≤◌, ◌<◌, ◌≡◌, ◌∷◌, ◌++◌, Ok, Err, Result}
 use Rattle.wire.proofs.Kit.{ℕ, zero, suc, refl, sym, ap, subst, ◌∙◌, inl, inr, List, [], append-nil, map, Bool, true, false}
 use Rattle.wire.proofs.Kit.{arith, le_refl, length, get_or, leb, leb-true, le-leb, ap₂, drop, eqb, eqb-true}
 use Rattle.wire.specs.Choice.{pick}
 use Rattle.wire.specs.Limit as limit
 use Rattle.wire.specs.Number.{Bytes, number}
-use Rattle.wire.specs.Field.{to, bytes_at, u16_at, tag_at, past_tag}
+use Rattle.wire.specs.Field.{to, bytes_at, u16_at, tag_at, past_tag, got_to}
 use Rattle.wire.specs.declared.cursor.Cursor.{Cursor}
-use Rattle.wire.specs.declared.cursor.U16.TheVariants as U16
-use Rattle.wire.specs.declared.cursor.Tag.{Tag}
 use Rattle.wire.proofs.Laws.{picked, u16_next, tag_next}
 use Rattle.wire.proofs.Stands.{Here, stood, length_bytes}
 use Rattle.amf0.specs.Span.{Span, Beside, Changed}
 use Rattle.amf0_theorems.specs.Spans.{Value}
 use Rattle.amf0_theorems.proofs.Spans.{Placed, Lies, past, lies_forward, lies_before, lies_after, lies_append, lies_within, bytes_same}
 use Rattle.packet.specs.declared.head.Entry.{Entry}
-use Rattle.packet.specs.declared.head.Head.TheVariants as Head
 use Rattle.packet.specs.Head.{unknown, version_at, front_of}
 use Rattle.packet.specs.Change.{known, known_spans}
 use Rattle.packet.proofs.Laws.{Between, head_length, entry_spanned, version_told, front_told}
 use Rattle.packet.specs.Entry.{done, halt, Trail, reached, stopped, puts, measured, entry_at, walk, Cut, found, stops, strict, cut_of, no_entry, span, span_of}
-use Rattle.packet_theorems.proofs.Same.{on_end, on16, on_head, Same, u8_same, u16_same, tag_same, head_same}
+use Rattle.packet_theorems.proofs.Same.{on_end, on_field, Same, u8_same, u16_same, tag_same, head_same}
 use Rattle.packet_theorems.proofs.Said.{says_value, says_again, entry_said, Said, said}
+use Rattle.wire.specs.Answer.{denied, Verdict}
 
 -- ---- entries in their order
 
@@ -95,7 +93,7 @@ measured_value {s = s} {e = e} w u = let n = number (bytes_at 4 s (e.place - 4))
 -- an entry of s is found where the same bytes stand up to its value, as many behind that, and the same where it is measured
 entry_same : (kind : ℕ) {s : List ℕ} {at : ℕ} {e : Entry} → Said kind s at e → e.place + e.length ≤ length s → (t : List ℕ) → length t ≤ limit.bytes
     → Same s t at e.place → e.place + e.length ≤ length t → (known s e ≡ false → span_of t e ≡ span_of s e)
-    → entry_at kind t at ≡ Head.Got e (to (e.place + e.length))
+    → entry_at kind t at ≡ got_to e (to (e.place + e.length))
 entry_same kind {s} {at} {e} w i t l m j same =
     let p : w.head.place ≡ e.place = ap (λ (e : Entry). e.place) w.is in
     let n = length_bytes e.length t e.place j in
@@ -103,7 +101,7 @@ entry_same kind {s} {at} {e} w i t l m j same =
     let h = head_same (rw (← p) at m) kind w.read in
     let g : Here t w.head.place (span_of t e) (drop (e.place + e.length) t) = rw p (stood e.length t e.place) in
     entry_said kind at l h refl y g
-    ∙ ap₂ (λ f z. Head.Got f (to z)) (ap (measured w.head) n ∙ w.is) (ap₂ ◌+◌ p n)
+    ∙ ap₂ (λ f z. got_to f (to z)) (ap (measured w.head) n ∙ w.is) (ap₂ ◌+◌ p n)
 
 -- ---- a walk
 
@@ -142,10 +140,10 @@ walk_read kind s zero at z = λ q.
     let is : at ≡ z = cc in
     rw (← is) (record { lies = Lies.none (le_refl at); within = λ h. h; measured = λ bs l. tt; again = λ bs l t k f m. refl })
 walk_read kind s (suc n) at z =
-    on_head (λ t. t.ending ≡ done z → Walked kind s (suc n) at t.entries z) stopped no_end (entry_at kind s at) _ λ e c h q.
+    on_field (λ t. t.ending ≡ done z → Walked kind s (suc n) at t.entries z) stopped no_end (entry_at kind s at) _ λ e c h q.
     one e c (walk kind s n c.at).entries z h (walk_read kind s n c.at z q)
   where
-    one : (e : Entry) (c : Cursor) (fs : List Entry) (y : ℕ) → entry_at kind s at ≡ Head.Got e c → Walked kind s n c.at fs y
+    one : (e : Entry) (c : Cursor) (fs : List Entry) (y : ℕ) → entry_at kind s at ≡ got_to e c → Walked kind s n c.at fs y
         → Walked kind s (suc n) at (e ∷ fs) y
     one e c fs y h w =
         let r = entry_spanned kind s at h in
@@ -183,22 +181,22 @@ walk_read kind s (suc n) at z =
 -- ---- the whole cut
 
 -- what comes behind a tag, where that is the same
-past_same : {A : Type 0} (stop : ℕ → ℕ → A) (x : Tag) (k l : ℕ → A) → ((c : Cursor) → x ≡ Tag.Past c → k c.at ≡ l c.at) → past_tag stop x k ≡ past_tag stop x l
-past_same stop (Tag.Past c) k l g = g c refl
-past_same stop (Tag.Stop a p) k l g = refl
+past_same : {A : Type 0} (stop : ℕ → ℕ → A) (x : Result Cursor Verdict) (k l : ℕ → A) → ((c : Cursor) → x ≡ Ok c → k c.at ≡ l c.at) → past_tag stop x k ≡ past_tag stop x l
+past_same stop (Ok c) k l g = g c refl
+past_same stop (Err r) k l g = refl
 
 -- the same four bytes are the same front, within the limit
 version_same : {s t : List ℕ} → Same s t 0 4 → version_at t ≡ version_at s
 unfolding version_at
 version_same {s} {t} m =
     rw (tag_same m 0 (omega arith) (0 ∷ []) (omega arith))
-    (past_same Tag.Stop (tag_at (0 ∷ []) s 0) _ _ λ c e. let r = tag_next s 0 (0 ∷ []) c e in rw (u8_same m c.at (omega arith) (omega arith)))
+    (past_same denied (tag_at (0 ∷ []) s 0) _ _ λ c e. let r = tag_next s 0 (0 ∷ []) c e in rw (u8_same m c.at (omega arith) (omega arith)))
 
 front_same : {s t : List ℕ} → length s ≤ limit.bytes → length t ≤ limit.bytes → Same s t 0 4 → front_of t ≡ front_of s
 unfolding front_of
 front_same {s} {t} i j m =
     rw (le-leb (length t) limit.bytes j, le-leb (length s) limit.bytes i, version_same m)
-    (past_same U16.Stop (version_at s) _ _ λ c e. let r = rw e at (version_told s) in u16_same m c.at (omega arith) (omega (arith, r.0)))
+    (past_same denied (version_at s) _ _ λ c e. let r = rw e at (version_told s) in u16_same m c.at (omega arith) (omega (arith, r.0)))
 
 -- a packet was cut: within the limit and up to its last byte, and it is cut alike where the same bytes stand beside the values of a known length
 pub record Cutted (s : List ℕ) (es : List Entry) (n : ℕ) : Type 0 where
@@ -208,7 +206,7 @@ pub record Cutted (s : List ℕ) (es : List Entry) (n : ℕ) : Type 0 where
   pub measured : Bytes s → Measured s es
   pub again : Bytes s → (t : List ℕ) → Changed (known_spans s es) s t → cut_of t ≡ found es n
 
-cut_of_lem : (s : List ℕ) (q f : Cursor) (h e m z : ℕ) → front_of s ≡ U16.Got h q → (walk 0x31 s h q.at).ending ≡ done e → u16_at s e ≡ U16.Got m f
+cut_of_lem : (s : List ℕ) (q f : Cursor) (h e m z : ℕ) → front_of s ≡ got_to h q → (walk 0x31 s h q.at).ending ≡ done e → u16_at s e ≡ got_to m f
     → (walk 0x32 s m f.at).ending ≡ done z → leb (length s) z ≡ true → Cutted s ((walk 0x31 s h q.at).entries ++ (walk 0x32 s m f.at).entries) z
 unfolding cut_of
 cut_of_lem s q f h e m z g w k x b =
@@ -261,11 +259,11 @@ pub cut_read : (s : List ℕ) (es : List Entry) (n : ℕ) → cut_of s ≡ found
 unfolding cut_of
 cut_read s es n =
     let P : Cut → Type 0 = λ x. x ≡ found es n → Cutted s es n in
-    on16 P stops no_cut (front_of s) _ λ h q g.
+    on_field P stops no_cut (front_of s) _ λ h q g.
     let hs = walk 0x31 s h q.at in
     let Q : Trail → Type 0 = λ t. P (strict (puts hs.entries t)) in
     on_end Q stopped no_cut hs.ending _ λ e w.
-    on16 Q stopped no_cut (u16_at s e) _ λ m f k.
+    on_field Q stopped no_cut (u16_at s e) _ λ m f k.
     let ms = walk 0x32 s m f.at in
     let R : Trail → Type 0 = λ t. Q (puts ms.entries t) in
     on_end R stopped no_cut ms.ending _ λ z x.

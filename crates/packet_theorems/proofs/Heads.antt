@@ -5,9 +5,8 @@ use Rattle.wire.proofs.Kit.{length-append, drop, ltb, eqb, lit<, lt-ltb}
 use Rattle.wire.specs.Choice.{pick}
 use Rattle.wire.specs.Number.{digits, Bytes}
 use Rattle.wire.specs.Utf8.{utf8}
-use Rattle.wire.specs.Field.{to, text_at}
+use Rattle.wire.specs.Field.{to, text_at, got_to, text_to}
 use Rattle.wire.specs.Limit as limit
-use Rattle.wire.specs.declared.cursor.Text.TheVariants as Text
 use Rattle.wire.specs.declared.cursor.Cursor.{Cursor}
 use Rattle.wire.proofs.Stands.{Here, cut, skip, inside, there, bytes_here, text_at_lem, byte_at, u32_at_lem, end_text, end8, end32}
 use Rattle.image.specs.Record.{bit_of as bit}
@@ -17,22 +16,22 @@ use Rattle.amf0.specs.Standard.UTF-8.{short}
 use Rattle.amf0.specs.Shown as Shown
 use Rattle.amf0_theorems.proofs.Sound.{ends_at}
 use Rattle.packet.specs.declared.head.Entry.{Entry}
-use Rattle.packet.specs.declared.head.Head.{Head}
-use Rattle.packet.specs.Head.{bit_of, entry, header_at, message_at, head_at}
+use Rattle.packet.specs.Head.{bit_of, entry, header_at, message_at, head_at, Head}
 use Rattle.packet.specs.Packet as packet
 use Rattle.packet.specs.Packet.{Label, IsHeader, IsMessage}
 use Rattle.packet.specs.Reading.{record_of}
 use Rattle.packet.specs.Shown.{Names}
 use Rattle.packet.specs.Written.{Holds, Labelled}
 use Rattle.packet_theorems.specs.Cuts.{entry_of}
-use Rattle.packet_theorems.proofs.Same.{no_head}
+use Rattle.packet_theorems.proofs.Same.{not_read}
+use Rattle.wire.specs.Answer.{denied}
 
 -- ---- what stands there is read
 
 -- a row of an entry's own fields and the length that it declares stand at a place: they are read as an entry that says so
 pub record Stands (kind : ℕ) (s : List ℕ) (at : ℕ) (l : Label) (x : List ℕ) (d : ℕ) : Type 0 where
   pub entry : Entry
-  pub read : head_at kind s at ≡ Head.Got entry (to entry.place)
+  pub read : head_at kind s at ≡ got_to entry (to entry.place)
   pub place : entry.place ≡ at + length x + 4
   pub declared : entry.length ≡ d
   pub is : entry ≡ entry_of at l d
@@ -45,7 +44,7 @@ group {r = r} x y z h = record { same = h.same ∙ ap (λ w. w ++ r) (append_ass
 
 -- a text, and what stands behind it
 text_here : {s r : List ℕ} {at : ℕ} (t y : List ℕ) → Here s at ((digits 2 (length t) ++ t) ++ y) r → length t < 256 ^ 2 → utf8 t ≡ true
-    → (text_at 2 s at ≡ Text.Got (at + 2) (length t) (to (at + 2 + length t))) × Holds s t (at + 2) (length t) × Here s (at + 2 + length t) y r
+    → (text_at 2 s at ≡ text_to (at + 2) (length t) (to (at + 2 + length t))) × Holds s t (at + 2) (length t) × Here s (at + 2 + length t) y r
 text_here {s} {at = at} t y h b u =
     let c = cut (digits 2 (length t) ++ t) y h in
     let e : at + length (digits 2 (length t) ++ t) ≡ at + 2 + length t = omega arith in
@@ -127,13 +126,13 @@ flag_head (suc zero) h u = packet.Head.header_true u
 flag_head (suc (suc b)) h u = rw (lt-ltb 0 (suc (suc b)) (omega arith)) (packet.Head.header_above (suc (suc b)) (omega arith) h u)
 
 module _ (s : List ℕ) (bs : Bytes s) (at : ℕ) where
-  header_stood : (e : Entry) (c : Cursor) → header_at s at ≡ Head.Got e c → Stood IsHeader s at
+  header_stood : (e : Entry) (c : Cursor) → header_at s at ≡ got_to e c → Stood IsHeader s at
   unfolding header_at
   header_stood e c =
-      let P : Head → Type 0 = λ x. x ≡ Head.Got e c → Stood IsHeader s at in
-      end_text P Head.Stop no_head s bs at 2 _ λ t r h l u.
-      end8 P Head.Stop no_head s bs (at + 2 + length t) _ λ b g.
-      end32 P Head.Stop no_head s bs (at + 2 + length t + 1) _ λ d k _.
+      let P : Head → Type 0 = λ x. x ≡ got_to e c → Stood IsHeader s at in
+      end_text P denied not_read s bs at 2 _ λ t r h l u.
+      end8 P denied not_read s bs (at + 2 + length t) _ λ b g.
+      end32 P denied not_read s bs (at + 2 + length t + 1) _ λ d k _.
       let p = digits 2 (length t) ++ t in
       record {
         label = Label.header t (eqb (bit_of b) 1);
@@ -146,13 +145,13 @@ module _ (s : List ℕ) (bs : Bytes s) (at : ℕ) where
         here = ends_at (ends_at h (omega arith) g) (simp length-append (omega arith)) k.here;
       }
 
-  message_stood : (e : Entry) (c : Cursor) → message_at s at ≡ Head.Got e c → Stood IsMessage s at
+  message_stood : (e : Entry) (c : Cursor) → message_at s at ≡ got_to e c → Stood IsMessage s at
   unfolding message_at
   message_stood e c =
-      let P : Head → Type 0 = λ x. x ≡ Head.Got e c → Stood IsMessage s at in
-      end_text P Head.Stop no_head s bs at 2 _ λ t r h l u.
-      end_text P Head.Stop no_head s bs (at + 2 + length t) 2 _ λ o p g k w.
-      end32 P Head.Stop no_head s bs (at + 2 + length t + 2 + length o) _ λ d i _.
+      let P : Head → Type 0 = λ x. x ≡ got_to e c → Stood IsMessage s at in
+      end_text P denied not_read s bs at 2 _ λ t r h l u.
+      end_text P denied not_read s bs (at + 2 + length t) 2 _ λ o p g k w.
+      end32 P denied not_read s bs (at + 2 + length t + 2 + length o) _ λ d i _.
       let p = digits 2 (length t) ++ t in
       record {
         label = Label.message t o;
@@ -170,7 +169,7 @@ module _ (s : List ℕ) (bs : Bytes s) (at : ℕ) where
 pub record Kinded (kind : ℕ) (Kind : Label → Type 0) : Type 0 where
   pub stands : (s r : List ℕ) (at : ℕ) (l : Label) (x : List ℕ) (d : ℕ) → Kind l → packet.Head l x → d < 256 ^ 4 → Here s at (x ++ digits 4 d) r
       → Stands kind s at l x d
-  pub stood : (s : List ℕ) → Bytes s → (at : ℕ) (e : Entry) (c : Cursor) → head_at kind s at ≡ Head.Got e c → Stood Kind s at
+  pub stood : (s : List ℕ) → Bytes s → (at : ℕ) (e : Entry) (c : Cursor) → head_at kind s at ≡ got_to e c → Stood Kind s at
 
 pub headers : Kinded 0x31 IsHeader
 headers = record { stands = go; stood = header_stood }

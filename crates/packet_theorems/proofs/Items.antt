@@ -26,7 +26,7 @@ use Rattle.packet.specs.Shown.{Names, ShowsItems, Shallow}
 use Rattle.packet.specs.Reading.{record_of, entries_at}
 use Rattle.packet.specs.Entry.{measured}
 use Rattle.packet_theorems.specs.Cuts.{Says}
-use Rattle.packet_theorems.proofs.Same.{on_head}
+use Rattle.packet_theorems.proofs.Same.{on_field}
 use Rattle.packet_theorems.proofs.Heads.{Stands, Kinded, group}
 use Rattle.packet_theorems.proofs.Agree.{Exactly}
 use Rattle.image.proofs.Settle.{bytes_bind}
@@ -36,6 +36,7 @@ use Rattle.amf0_theorems.proofs.Telling.{records_of, bytes_laid}
 use Rattle.amf0_theorems.proofs.Alike.{of_tree_lem, Of, read}
 use Rattle.amf0_theorems.proofs.Puts.{laid_append}
 use Rattle.packet.specs.Written.{Labelled, Spells}
+use Rattle.wire.proofs.Laws.{same_held, same_behind}
 
 -- ---- what stands there
 
@@ -161,10 +162,10 @@ module _ {kind : ℕ} {Kind : Label → Type 0} (k : Kinded kind Kind) (s : List
   items_found zero at z = λ e.
       record { items = []; row = []; rest = drop at s; encodes = Items.none; here = record { same = refl }; count = refl; next = omega arith; shallow = tt }
   items_found (suc n) at z =
-      on_head (λ d. Ends d z → Found Kind s (suc n) at z) stop (λ a p e. absurd e) (head_at kind s at) _ λ e c h ends.
+      on_field (λ d. Ends d z → Found Kind s (suc n) at z) stop (λ a p e. absurd e) (head_at kind s at) _ λ e c h ends.
       let a = k.stood s bs at e c h in
       let b = k.stands s a.rest at a.label a.row a.declared a.kind a.head a.small a.here in
-      let is : to b.entry.place ≡ c = cc (sym h ∙ b.read) in
+      let is : to b.entry.place ≡ c = same_behind (sym b.read ∙ h) in
       let at_p : c.at ≡ b.entry.place = ap (λ (x : Cursor). x.at) (sym is) in
       bind_ends (top_value s c.at) (entries_at kind s n) z ends λ m f g.
       let v = soundness.sound limit.levels s c.at m bs f in
@@ -212,7 +213,7 @@ heads_one {kind} {l = l} {l'} {d} {d'} {x} {x'} k a b c a' b' c' y z r y' z' q e
     let s = (x ++ (digits 4 d ++ (y ++ z))) ++ r in
     let m : First kind s 0 l x d y z r = first k a b c (record { same = refl }) in
     let o : First kind s 0 l' x' d' y' z' q = first k a' b' c' (record { same = e }) in
-    let ee : m.head.entry ≡ o.head.entry = cc (sym m.head.read ∙ o.head.read) in
+    let ee : m.head.entry ≡ o.head.entry = same_held (sym m.head.read ∙ o.head.read) in
     let pp : m.head.entry.place ≡ o.head.entry.place = ap (λ (t : Entry). t.place) ee in
     record {
       label = names_one m.head.names o.head.names (ap record_of ee);

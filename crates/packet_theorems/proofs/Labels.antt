@@ -1,21 +1,21 @@
 -- The label of an entry, and its head, are gone over just as the grammar of refusals has them.
-use Rattle.std.specs.Prelude.{◌+◌, ◌<◌, ◌≡◌, ◌∷◌, ◌++◌}
+use Rattle.std.specs.Prelude.{◌+◌, ◌<◌, ◌≡◌, ◌∷◌, ◌++◌, Ok, Err}
 use Rattle.wire.proofs.Kit.{ℕ, refl, sym, ap, ◌∙◌, List, [], append-nil, arith, length, get_or, eqb, le-leb, lt-leb}
 use Rattle.wire.specs.Number.{digits, number, Bytes}
-use Rattle.wire.specs.Field.{to, bytes_at, u8_at, u32_at, text_at, got8, got32, got_text}
-use Rattle.wire.specs.declared.cursor.Text.{Text}
+use Rattle.wire.specs.Field.{to, bytes_at, u8_at, u32_at, text_at, got, got_text, got_to, Parsed}
 use Rattle.wire.proofs.Stands.{Here, skip, go8, go32, bytes_here}
 use Rattle.amf0.specs.Standard.{UTF-8}
 use Rattle.amf0_theorems.specs.Refusal.{Field, InText}
 use Rattle.amf0_theorems.specs.Refusal.Field.{some}
 use Rattle.packet.specs.declared.head.Entry.{Entry}
-use Rattle.packet.specs.declared.head.Head.{Head}
-use Rattle.packet.specs.Head.{bit_of, entry, header_at, message_at, head_at, got_head}
+use Rattle.packet.specs.Head.{bit_of, entry, header_at, message_at, head_at, Head}
 use Rattle.packet.specs.Packet as packet
 use Rattle.packet.specs.Packet.{Label, IsHeader, IsMessage}
 use Rattle.packet_theorems.specs.Refusal.{LeadsLabel}
 use Rattle.packet_theorems.proofs.Heads.{flag_head}
 use Rattle.packet_theorems.proofs.Parts.{Part, goes, halts, ◌then◌, then_then, Follows, Plain, plain, Both, LeadsBoth, in_turn, turned, Some, numberless, Only, Number, number_by, number_follows, Texted, text_by, text_follows}
+use Rattle.wire.specs.Answer.{denied}
+use Rattle.wire.specs.declared.cursor.Span.{Span}
 
 -- ---- the label of an entry
 
@@ -115,37 +115,37 @@ message_follows s bs at =
 module _ (s : List ℕ) (k : ℕ → ℕ → Part) where
   -- the length that is declared
   declared_is : (q : ℕ) (e : ℕ → ℕ → Entry) → ((l v : ℕ) → (e l v).length ≡ l)
-      → got_head halts (got32 Head.Stop (u32_at s q) λ l v. Head.Got (e l v) (to v)) (λ e v. k e.length v) ≡ number_by 4 s q then k
+      → got halts (got denied (u32_at s q) λ l v. got_to (e l v) (to v)) (λ e v. k e.length v) ≡ number_by 4 s q then k
   declared_is q e is =
-      go32 (λ h. got_head halts h (λ e v. k e.length v) ≡ number_by 4 s q then k) Head.Stop s q _
+      go32 (λ h. got halts h (λ e v. k e.length v) ≡ number_by 4 s q then k) denied s q _
       (λ i. rw (le-leb (q + 4) (length s) i, is (number (bytes_at 4 s q)) (q + 4))) (λ i. rw (lt-leb (q + 4) (length s) i))
 
   -- what comes behind a text
-  behind_text : (at : ℕ) (h : ℕ → ℕ → ℕ → Head) (g : ℕ → Part) → ((p n q : ℕ) → got_head halts (h p n q) (λ e v. k e.length v) ≡ g q)
-      → got_head halts (got_text Head.Stop (text_at 2 s at) h) (λ e v. k e.length v) ≡ text_by s at then λ v q. g q
+  behind_text : (at : ℕ) (h : ℕ → ℕ → ℕ → Head) (g : ℕ → Part) → ((p n q : ℕ) → got halts (h p n q) (λ e v. k e.length v) ≡ g q)
+      → got halts (got_text denied (text_at 2 s at) h) (λ e v. k e.length v) ≡ text_by s at then λ v q. g q
   behind_text at h g same = go (text_at 2 s at)
     where
-      go : (x : Text) → got_head halts (got_text Head.Stop x h) (λ e v. k e.length v) ≡ got_text halts x (λ p n q. goes 0 q) then λ v q. g q
-      go (Text.Got p n c) = same p n c.at
-      go (Text.Stop a p) = refl
+      go : (x : Parsed Span) → got halts (got_text denied x h) (λ e v. k e.length v) ≡ got_text halts x (λ p n q. goes 0 q) then λ v q. g q
+      go (Ok x) = same x.0.place x.0.length x.1.at
+      go (Err r) = refl
 
   -- a flag, and what comes behind it
   flag_is : (q : ℕ) (e : ℕ → ℕ → ℕ → Entry) → ((f l v : ℕ) → (e f l v).length ≡ l)
-      → got_head halts (got8 Head.Stop (u8_at s q) λ f d. got32 Head.Stop (u32_at s d) λ l v. Head.Got (e f l v) (to v)) (λ e v. k e.length v)
+      → got halts (got denied (u8_at s q) λ f d. got denied (u32_at s d) λ l v. got_to (e f l v) (to v)) (λ e v. k e.length v)
       ≡ number_by 1 s q then (λ b d. goes 0 d) then λ v d. number_by 4 s d then k
   flag_is q e is =
-      go8 (λ h. got_head halts h (λ e v. k e.length v) ≡ number_by 1 s q then (λ b d. goes 0 d) then λ v d. number_by 4 s d then k) Head.Stop s q _
+      go8 (λ h. got halts h (λ e v. k e.length v) ≡ number_by 1 s q then (λ b d. goes 0 d) then λ v d. number_by 4 s d then k) denied s q _
       (λ i. rw (le-leb (q + 1) (length s) (omega arith)) (declared_is (q + 1) (e (get_or s q 0)) (is (get_or s q 0))))
       (λ i. rw (lt-leb (q + 1) (length s) (omega arith)))
 
-  header_is : (at : ℕ) → got_head halts (header_at s at) (λ e v. k e.length v) ≡ header_by s at then λ v q. number_by 4 s q then k
+  header_is : (at : ℕ) → got halts (header_at s at) (λ e v. k e.length v) ≡ header_by s at then λ v q. number_by 4 s q then k
   unfolding header_at
   header_is at =
       behind_text at _ (λ q. number_by 1 s q then (λ b d. goes 0 d) then λ v d. number_by 4 s d then k)
       (λ p n q. flag_is q (λ f l v. entry 0x31 (bit_of f) p n 0 0 v l) λ f l v. refl)
       ∙ sym (then_then (text_by s at) (λ v q. number_by 1 s q then λ b d. goes 0 d) (λ v d. number_by 4 s d then k))
 
-  message_is : (at : ℕ) → got_head halts (message_at s at) (λ e v. k e.length v) ≡ message_by s at then λ v q. number_by 4 s q then k
+  message_is : (at : ℕ) → got halts (message_at s at) (λ e v. k e.length v) ≡ message_by s at then λ v q. number_by 4 s q then k
   unfolding message_at
   message_is at =
       behind_text at _ (λ e. text_by s e then λ v d. number_by 4 s d then k)
@@ -158,7 +158,7 @@ module _ (s : List ℕ) (k : ℕ → ℕ → Part) where
 pub record Kinds (kind : ℕ) (Kind : Label → Type 0) : Type 0 where
   pub label_by : List ℕ → ℕ → Part
   pub follows : (s : List ℕ) → Bytes s → (at : ℕ) → Follows (Plain (Labelled Kind)) (λ r. LeadsLabel Kind) s at (label_by s at)
-  pub head : (s : List ℕ) (k : ℕ → ℕ → Part) (at : ℕ) → got_head halts (head_at kind s at) (λ e v. k e.length v) ≡ label_by s at then λ v q. number_by 4 s q then k
+  pub head : (s : List ℕ) (k : ℕ → ℕ → Part) (at : ℕ) → got halts (head_at kind s at) (λ e v. k e.length v) ≡ label_by s at then λ v q. number_by 4 s q then k
 
 pub headers : Kinds 0x31 IsHeader
 headers = record { label_by = header_by; follows = header_follows; head = header_is }

@@ -1,5 +1,5 @@
 -- What the packet calls come to, from how their readings end.
-use Rattle.std.specs.Prelude.{◌+◌, ◌≤◌, ◌<◌, ◌≡◌}
+use Rattle.std.specs.Prelude.{◌+◌, ◌≤◌, ◌<◌, ◌≡◌, Ok, Err}
 use Rattle.wire.proofs.Kit.{ℕ, refl, sym, List, arith, length, leb, leb-true, leb-false}
 use Rattle.wire.specs.Limit as limit
 use Rattle.wire.proofs.Laws.{picked}
@@ -7,7 +7,6 @@ use Rattle.image.specs.Whole.{Whole, refused}
 use Rattle.amf0.specs.Span.{span_at, answer_of, one_value}
 use Rattle.amf0_theorems.proofs.Call.{Bounded}
 use Rattle.packet.specs.declared.head.Entry.{Entry}
-use Rattle.packet.specs.declared.entry.Found.{Found}
 use Rattle.packet.specs.Reading.{packet_at}
 use Rattle.packet.specs.Entry.{Cut, found, stops, cut_of, Listed, uncut, listed, list_of, span, read_span, entry_in, read_entry, found_in}
 use Rattle.packet.proofs.Laws.{Tells, cut_told, entry_none, entry_chosen}
@@ -15,6 +14,8 @@ use Rattle.packet.proofs.Reasons.{packet_kept}
 use Rattle.image.proofs.Kept.{ends_kept, stops_kept, small, due_inside}
 use Rattle.image.proofs.Settle.{due_lacks}
 use Rattle.packet_theorems.proofs.Frame.{cut_read}
+use Rattle.wire.specs.Answer.{denied}
+use Rattle.packet.specs.Entry.{Found}
 
 -- ---- the incomplete reading
 
@@ -44,15 +45,15 @@ span_either P s place n room f g h =
     (λ t. f (leb-false _ _ t))
 
 -- an entry is refused as the cut is, or for want of it, or else answers by its bytes
-pub entry_either : (P : Whole → Type 0) (s : List ℕ) (number room : ℕ) → ((a p : ℕ) → found_in (cut_of s) number ≡ Found.Stop a p → P (refused a p))
-    → ((e : Entry) → found_in (cut_of s) number ≡ Found.Is e → length s ≤ limit.bytes → e.place + e.length ≤ length s → P (answer_of one_value s (span e) room))
+pub entry_either : (P : Whole → Type 0) (s : List ℕ) (number room : ℕ) → ((a p : ℕ) → found_in (cut_of s) number ≡ denied a p → P (refused a p))
+    → ((e : Entry) → found_in (cut_of s) number ≡ Ok e → length s ≤ limit.bytes → e.place + e.length ≤ length s → P (answer_of one_value s (span e) room))
     → P (read_entry s number room)
 unfolding read_entry
 entry_either P s number room f g = go (found_in (cut_of s) number) refl
   where
     go : (x : Found) → found_in (cut_of s) number ≡ x → P (entry_in s (cut_of s) number room)
-    go (Found.Stop a p) h = rw (entry_none s number room (cut_of s) (sym h)) (f a p h)
-    go (Found.Is e) h = let c = entry_chosen s number room (cut_of s) (cut_told s) (sym h) in rw c.read (g e h c.short c.inside)
+    go (Err r) h = rw (entry_none s number room (cut_of s) (sym h)) (f r.answer r.place h)
+    go (Ok e) h = let c = entry_chosen s number room (cut_of s) (cut_told s) (sym h) in rw c.read (g e h c.short c.inside)
 
 -- ---- the cut
 

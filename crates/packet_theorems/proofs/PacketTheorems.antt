@@ -1,5 +1,5 @@
 -- The theorems on the readers of packets, over what their public calls come to.
-use Rattle.std.specs.Prelude.{◌+◌, ◌*◌, ◌≤◌, ◌<◌, ◌≡◌, ◌↔◌, ◌++◌}
+use Rattle.std.specs.Prelude.{◌+◌, ◌*◌, ◌≤◌, ◌<◌, ◌≡◌, ◌↔◌, ◌++◌, Ok}
 use Rattle.wire.proofs.Kit.{ℕ, refl, sym, ap, ap₂, ◌∙◌, List, [], append-nil, arith, le_refl, length, get_or, take, drop}
 use Rattle.wire.proofs.Kit.{take-append_seam, take-length, le-leb, lt-ltb}
 use Rattle.wire.specs.Number.{Bytes}
@@ -20,7 +20,6 @@ use Rattle.packet.specs.declared.head.Entry.{Entry}
 use Rattle.packet.specs.Packet.{Packet, Encoded}
 use Rattle.packet.specs.Shown.{ShowsPacket, Within}
 use Rattle.packet.specs.Reading.{packet_at, incomplete_of, whole_of}
-use Rattle.packet.specs.declared.entry.Found.TheVariants as Found
 use Rattle.packet.specs.Entry.{found, cut_of, no_entry, span, span_of, read_entry, found_in}
 use Rattle.packet_theorems.proofs.Agree.{good_entry}
 use Rattle.packet_theorems.proofs.Frame.{cut_read}
@@ -147,7 +146,7 @@ module _ (s : List ℕ) (bs : Bytes s) (es : List Entry) (n : ℕ) (cut : cut_of
   entry_sound room zero =
       let e : Entry = get_or es k no_entry in
       let t = entry_takes s k room zero in
-      let is : found_in (cut_of s) k ≡ Found.Is e = rw (cut, lt-ltb k (length es) h) in
+      let is : found_in (cut_of s) k ≡ Ok e = rw (cut, lt-ltb k (length es) h) in
       let g = sym is ∙ t.found in
       let same : t.entry ≡ e = cc in
       let take : Takes one_value s (span e) room (read_entry s k room) = rw same at t.holds.takes in

@@ -4,13 +4,12 @@ use Rattle.wire.proofs.Kit.{ℕ, suc, refl, sym, ap, List, [], arith, length, ge
 use Rattle.wire.proofs.Kit.{ltb-true, ltb-false, ne_eqb}
 use Rattle.wire.specs.Number.{Bytes}
 use Rattle.wire.specs.Limit as limit
-use Rattle.wire.proofs.Laws.{picked}
+use Rattle.wire.proofs.Laws.{picked, same_answer, same_place}
 use Rattle.image.specs.Whole.{Whole, refused, in_room, all}
 use Rattle.amf0.specs.Span.{Span, span_at, Fault}
 use Rattle.amf0_theorems.proofs.Call.{call_either}
 use Rattle.amf0_theorems.specs.Refusal.{Field, Refuses}
 use Rattle.packet.specs.declared.head.Entry.{Entry}
-use Rattle.packet.specs.declared.entry.Found.{Found}
 use Rattle.packet.specs.Packet.{Label, Item, Packet, Items, Encoded}
 use Rattle.packet.specs.Shown.{Shallow, Within}
 use Rattle.packet.specs.Reading.{packet_at, incomplete_of, whole_of}
@@ -27,6 +26,8 @@ use Rattle.packet_theorems.proofs.Refusals.{packet_refused, cut_refused_exactly}
 use Rattle.amf0_theorems.proofs.Spans.{all_here, left_behind, comes_value, value_inside}
 use Rattle.amf0_theorems.proofs.Refused.{refused_inside}
 use Rattle.amf0_theorems.specs.Spans.{LeftOver, ComesValue}
+use Rattle.wire.specs.Answer.{denied}
+use Rattle.packet.specs.Entry.{Found}
 
 -- ---- the grammar and the packet as the Rust has it
 
@@ -114,12 +115,12 @@ cut_inside s room bs = go (cut_reasons s room bs)
     go (ComesList.cut c l) = omega arith
 
 -- So is the place of a refusal of `nth`,
-pub nth_inside : (s : List ℕ) (number a p : ℕ) → Bytes s → found_in (cut_of s) number ≡ Found.Stop a p → p ≤ length s
+pub nth_inside : (s : List ℕ) (number a p : ℕ) → Bytes s → found_in (cut_of s) number ≡ denied a p → p ≤ length s
 nth_inside s number a p bs = go (nth_reasons s number bs)
   where
-    go : {f : Found} → ComesNth s number f → f ≡ Found.Stop a p → p ≤ length s
-    go (ComesNth.not_cut {p = q} r) e = let same : q ≡ p = cc in omega (arith, cut_refused_inside r)
-    go (ComesNth.no_entry c l) e = let same : 0 ≡ p = cc in omega arith
+    go : {f : Found} → ComesNth s number f → f ≡ denied a p → p ≤ length s
+    go (ComesNth.not_cut r) e = omega (arith, same_place e, cut_refused_inside r)
+    go (ComesNth.no_entry c l) e = omega (arith, same_place e)
     go (ComesNth.is c l) e = let z : ◌≡◌ {A = ℕ} 0 1 = cc in absurd (omega arith)
 
 -- and so are the bytes that `parse_entry` used, or the place of its refusal.
@@ -182,13 +183,13 @@ cut_seven s room bs = (go (cut_reasons s room bs), λ x. rw (seven_cut s bs x.0 
     go (ComesList.cut c l) e = absurd (omega arith)
 
 -- So is that of `nth`.
-pub nth_seven : (s : List ℕ) (number : ℕ) → Bytes s → ((p : ℕ) × (found_in (cut_of s) number ≡ Found.Stop 7 p)) ↔ (length s ≤ limit.bytes) × Seven s
+pub nth_seven : (s : List ℕ) (number : ℕ) → Bytes s → ((p : ℕ) × (found_in (cut_of s) number ≡ denied 7 p)) ↔ (length s ≤ limit.bytes) × Seven s
 nth_seven s number bs = (λ x. go (nth_reasons s number bs) x.1, λ x. (1, rw (seven_cut s bs x.0 x.1)))
   where
-    go : {f : Found} {p : ℕ} → ComesNth s number f → f ≡ Found.Stop 7 p → (length s ≤ limit.bytes) × Seven s
-    go {p = p} (ComesNth.not_cut {a} q) e = let same : a ≡ 7 = cc in cut_seven_of q same
-    go {p = p} (ComesNth.no_entry c l) e = let same : ◌≡◌ {A = ℕ} 8 7 = cc in absurd (omega arith)
-    go {p = p} (ComesNth.is c l) e = let z : ◌≡◌ {A = ℕ} 0 1 = cc in absurd (omega arith)
+    go : {f : Found} {p : ℕ} → ComesNth s number f → f ≡ denied 7 p → (length s ≤ limit.bytes) × Seven s
+    go (ComesNth.not_cut q) e = cut_seven_of q (same_answer e)
+    go (ComesNth.no_entry c l) e = absurd (omega (arith, same_answer e))
+    go (ComesNth.is c l) e = let z : ◌≡◌ {A = ℕ} 0 1 = cc in absurd (omega arith)
 
 -- ---- the readings, over what is proved of values
 

@@ -1,13 +1,11 @@
 -- The whole reading of a packet and the cut are refused exactly where, and as, the grammar of refusals says.
-use Rattle.std.specs.Prelude.{◌+◌, ◌-◌, ◌^◌, ◌≤◌, ◌<◌, ◌≡◌, ◌≢◌, ◌↔◌, ◌∷◌, ◌++◌}
+use Rattle.std.specs.Prelude.{◌+◌, ◌-◌, ◌^◌, ◌≤◌, ◌<◌, ◌≡◌, ◌≢◌, ◌↔◌, ◌∷◌, ◌++◌, Ok, Err, Result}
 use Rattle.wire.proofs.Kit.{ℕ, zero, suc, refl, sym, ap, subst, ◌∙◌, List, [], Bool, true, false, arith, add-zero}
 use Rattle.wire.proofs.Kit.{length, take, drop, length-append, length-drop, leb, eqb, le-leb, lt-leb, eq-eqb, ne_eqb, leb-true, leb-false, eqb-true, eqb-false}
 use Rattle.wire.specs.Choice.{pick}
 use Rattle.wire.specs.Number.{digits, number, Bytes}
 use Rattle.wire.specs.Limit as limit
-use Rattle.wire.specs.Field.{to, bytes_at, u16_at, got16, past_tag}
-use Rattle.wire.specs.declared.cursor.U16.TheVariants as U16
-use Rattle.wire.specs.declared.cursor.Tag.{Tag}
+use Rattle.wire.specs.Field.{to, bytes_at, u16_at, got, past_tag, got_to}
 use Rattle.wire.proofs.Laws.{picked, length_digits, number_digits}
 use Rattle.wire.proofs.Stands.{Here, Stood, there, inside, stood, number_stood, join, length_bytes, go16, cut as front}
 use Rattle.image.specs.Due.{Due, end, stop, seen, due, ◌>>=◌, Ends, Stops, on_end}
@@ -19,8 +17,7 @@ use Rattle.amf0_theorems.proofs.Refused.{refuse}
 use Rattle.amf0_theorems.proofs.Telling as telling
 use Rattle.amf0_theorems.proofs.Sound as soundness
 use Rattle.packet.specs.declared.head.Entry.{Entry}
-use Rattle.packet.specs.declared.head.Head.{Head}
-use Rattle.packet.specs.Head.{unknown, version_at, front_of, head_at, got_head}
+use Rattle.packet.specs.Head.{unknown, version_at, front_of, head_at, Head}
 use Rattle.packet.specs.Packet.{Label}
 use Rattle.packet.specs.Reading.{entries_at, packet_at}
 use Rattle.packet.specs.Entry.{Ending, done, halt, reach, Trail, reached, stopped, puts, ◌thence◌, measured, measured_at, entry_at, walk, end_at, messages_from, Cut, found, stops, strict, cut_of}
@@ -32,12 +29,14 @@ use Rattle.packet_theorems.proofs.Labels.{Kinds, headers, messages}
 use Rattle.packet_theorems.proofs.Ways.{Body, LeadsBody, Goes, entries_by, version_by, packet_by, TellsPacket, way_told, way_halts, way_ends}
 use Rattle.amf0_theorems.proofs.Spans.{all_here, left_behind}
 use Rattle.amf0_theorems.specs.Spans.{Value, LeftOver}
+use Rattle.wire.specs.Answer.{denied, Verdict}
+use Rattle.wire.specs.declared.cursor.Cursor.{Cursor}
 
 -- ---- fields, as the readings have them
 
 -- f is how a result ends; `fail` are the results that are refused
 module _ {A : Type 0} (f : A → Part) (fail : ℕ → ℕ → A) (same : (a p : ℕ) → f (fail a p) ≡ halts a p) (s : List ℕ) where
-  number_end : (at : ℕ) (k : ℕ → ℕ → A) (g : ℕ → ℕ → Part) → ((n q : ℕ) → f (k n q) ≡ g n q) → f (got16 fail (u16_at s at) k) ≡ number_by 2 s at then g
+  number_end : (at : ℕ) (k : ℕ → ℕ → A) (g : ℕ → ℕ → Part) → ((n q : ℕ) → f (k n q) ≡ g n q) → f (got fail (u16_at s at) k) ≡ number_by 2 s at then g
   number_end at k g each =
       go16 (λ x. f x ≡ number_by 2 s at then g) fail s at k
       (λ i. rw (le-leb (at + 2) (length s) i) (each (number (bytes_at 2 s at)) (at + 2))) (λ i. rw (lt-leb (at + 2) (length s) i) (same 2 at))
@@ -45,18 +44,18 @@ module _ {A : Type 0} (f : A → Part) (fail : ℕ → ℕ → A) (same : (a p :
   version_end : (k : ℕ → A) (g : ℕ → Part) → ((p : ℕ) → f (k p) ≡ g p) → f (past_tag fail (version_at s) k) ≡ version_by s then λ v p. g p
   version_end k g each = go (version_at s)
     where
-      go : (x : Tag) → f (past_tag fail x k) ≡ past_tag halts x (λ p. goes 0 p) then λ v p. g p
-      go (Tag.Past c) = each c.at
-      go (Tag.Stop a p) = same a p
+      go : (x : Result Cursor Verdict) → f (past_tag fail x k) ≡ past_tag halts x (λ p. goes 0 p) then λ v p. g p
+      go (Ok c) = each c.at
+      go (Err r) = same r.answer r.place
 
   head_end : {kind : ℕ} {Kind : Label → Type 0} (m : Kinds kind Kind) (at : ℕ) (k : Entry → ℕ → A) (g : ℕ → ℕ → Part)
       → ((e : Entry) (v : ℕ) → v ≤ length s → f (k e v) ≡ g e.length v)
-      → f (got_head fail (head_at kind s at) k) ≡ m.label_by s at then λ v q. number_by 4 s q then g
+      → f (got fail (head_at kind s at) k) ≡ m.label_by s at then λ v q. number_by 4 s q then g
   head_end {kind} m at k g each = go (head_at kind s at) refl ∙ m.head s g at
     where
-      go : (x : Head) → head_at kind s at ≡ x → f (got_head fail x k) ≡ got_head halts x λ e v. g e.length v
-      go (Head.Got e c) h = each e c.at (head_begun s at kind h).within
-      go (Head.Stop a p) h = same a p
+      go : (x : Head) → head_at kind s at ≡ x → f (got fail x k) ≡ got halts x λ e v. g e.length v
+      go (Ok x) h = each x.0 x.1.at (head_begun s at kind h).within
+      go (Err r) h = same r.answer r.place
 
 -- ---- the whole reading
 
@@ -215,7 +214,7 @@ cut_by s d v = pick (eqb d unknown) (value_by s d v) (span_by s d v)
 
 -- a walk goes on behind a value that was measured, from where that ends
 measured_end : (d : Due) (e : Entry) (v : ℕ) (k : Entry → ℕ → Trail) (g : ℕ → ℕ → Part) → ((e : Entry) (q : ℕ) → end_by (k e q).ending ≡ g 0 q)
-    → end_by (got_head stopped (on_end d (λ n. Head.Got (measured e (n - v)) (to n)) Head.Stop) k).ending ≡ end_of d then g
+    → end_by (got stopped (on_end d (λ n. got_to (measured e (n - v)) (to n)) denied) k).ending ≡ end_of d then g
 measured_end (end n) e v k g each = each (measured e (n - v)) n
 measured_end (stop a p) e v k g each = refl
 measured_end (seen fact d) e v k g each = measured_end d e v k g each
@@ -227,13 +226,13 @@ module _ {kind : ℕ} {Kind : Label → Type 0} (k : Kinds kind Kind) (s : List 
   unfolding walk entry_at entries_by
   walk_end zero at = refl
   walk_end (suc n) at =
-      head_end (λ x. end_by (got_head stopped x (λ e q. puts (e ∷ []) (walk kind s n q))).ending) Head.Stop (λ a p. refl) s k at _
+      head_end (λ x. end_by (got stopped x (λ e q. puts (e ∷ []) (walk kind s n q))).ending) denied (λ a p. refl) s k at _
       (λ d v. cut_by s d v then λ u q. entries_by k s (cut_by s) n q)
       (λ e v i. one (walk_end n) e v i (eqb e.length unknown) (leb (v + e.length) (length s)))
       ∙ then_same (k.label_by s at) _ _ λ v q. sym (then_then (number_by 4 s q) (cut_by s) λ u e. entries_by k s (cut_by s) n e)
     where
       one : ((q : ℕ) → end_by (walk kind s n q).ending ≡ entries_by k s (cut_by s) n q) → (e : Entry) (v : ℕ) → v ≤ length s → (t u : Bool)
-          → end_by (got_head stopped (pick t (measured_at s e v) (pick u (Head.Got e (to (v + e.length))) (Head.Stop 2 (v - 4)))) (λ e q. puts (e ∷ []) (walk kind s n q))).ending
+          → end_by (got stopped (pick t (measured_at s e v) (pick u (got_to e (to (v + e.length))) (denied 2 (v - 4)))) (λ e q. puts (e ∷ []) (walk kind s n q))).ending
           ≡ pick t (value_by s e.length v) (pick u (goes 0 (v + e.length)) (halts 2 (v - 4))) then λ u q. entries_by k s (cut_by s) n q
       one behind e v i true u =
           measured_end (value_in 0 s v) e v (λ e q. puts (e ∷ []) (walk kind s n q)) (λ u q. entries_by k s (cut_by s) n q) (λ e q. behind q)
@@ -272,7 +271,7 @@ pub cut_end_lem : (s : List ℕ) → length s ≤ limit.bytes → cut_end (cut_o
 unfolding cut_of front_of
 cut_end_lem s l =
     rw (le-leb (length s) limit.bytes l)
-    (version_end (λ u. cut_end (got16 stops u λ h q. strict (walk 0x31 s h q thence messages_from s))) U16.Stop (λ a p. refl) s _ _ (λ p.
+    (version_end (λ u. cut_end (got stops u λ h q. strict (walk 0x31 s h q thence messages_from s))) denied (λ a p. refl) s _ _ (λ p.
     number_end cut_end stops (λ a p. refl) s p _ _ λ h q.
     strict_end (walk 0x31 s h q thence messages_from s)
     ∙ thence_end (walk 0x31 s h q).ending (messages_from s) (λ e. number_by 2 s e then λ m f. entries_by messages s (cut_by s) m f then λ v z. last_by s z) (λ e.

@@ -1,14 +1,13 @@
 -- The theorems on the packet calls, over what they come to.
-use Rattle.std.specs.Prelude.{◌+◌, ◌*◌, ◌≤◌, ◌<◌, ◌≡◌, ◌≢◌, ◌↔◌, ◌⊎◌}
+use Rattle.std.specs.Prelude.{◌+◌, ◌*◌, ◌≤◌, ◌<◌, ◌≡◌, ◌≢◌, ◌↔◌, ◌⊎◌, Ok}
 use Rattle.wire.proofs.Kit.{ℕ, refl, sym, ap, ◌∙◌, inl, inr, List, [], append-nil, false, arith, zero-add, length, get_or}
 use Rattle.wire.proofs.Kit.{ltb, lt-leb, lt-ltb}
 use Rattle.wire.specs.Number.{Bytes}
 use Rattle.wire.specs.Limit as limit
-use Rattle.wire.proofs.Laws.{picked, pick_no}
+use Rattle.wire.proofs.Laws.{picked, pick_no, same_answer}
 use Rattle.image.specs.Due.{Due, Ends, Lacks}
 use Rattle.image.specs.Whole.{Whole, bytes, accepted, refused, all}
 use Rattle.packet.specs.declared.head.Entry.{Entry}
-use Rattle.packet.specs.declared.entry.Found.{Found}
 use Rattle.packet.specs.Head.{front_of}
 use Rattle.packet.specs.Reading.{packet_at, incomplete_of, whole_of}
 use Rattle.packet.specs.Entry.{Cut, found, stops, cut_of, no_entry, read_span, read_entry, found_in, span, span_of}
@@ -23,6 +22,7 @@ use Rattle.amf0_theorems.proofs.Telling as telling
 use Rattle.packet_theorems.proofs.Frame.{measured_at_lem, cut_read}
 use Rattle.packet_theorems.proofs.Outcome.{packet_bounded, span_either, entry_either}
 use Rattle.image.proofs.Settle.{one_end, ends_not, lacks_over, all_cases}
+use Rattle.wire.specs.Answer.{denied}
 
 -- ---- the answers
 
@@ -56,15 +56,15 @@ pub record NthAnswer (s : List ℕ) (a : ℕ) : Type 0 where
   pub tree : a ≢ 6
   pub over : a ≡ 1 → limit.bytes < length s
 
-missing : (s : List ℕ) (number : ℕ) (x : Cut) → Splits s x → {a p : ℕ} → found_in x number ≡ Found.Stop a p → NthAnswer s a
+missing : (s : List ℕ) (number : ℕ) (x : Cut) → Splits s x → {a p : ℕ} → found_in x number ≡ denied a p → NthAnswer s a
 missing s number (stops b q) w {a} {p} h =
-    let e : b ≡ a = cc in
+    let e : b ≡ a = same_answer h in
     let c = w.cuts in
     rw (← e) (record { low = c.low; high = omega arith; room = c.room; tree = c.tree; over = w.over })
 missing s number (found es z) w {a} {p} h =
-    picked (λ f. f ≡ Found.Stop a p → NthAnswer s a) (ltb number (length es)) _ _
+    picked (λ f. f ≡ denied a p → NthAnswer s a) (ltb number (length es)) _ _
     (λ t e. let z : ◌≡◌ {A = ℕ} 0 1 = cc in absurd (omega arith))
-    (λ t e. let b : 8 ≡ a = cc in rw (← b) eight)
+    (λ t e. rw (← same_answer e) eight)
     h
   where
     eight : NthAnswer s 8
@@ -77,7 +77,7 @@ missing s number (found es z) w {a} {p} h =
           over = λ e. absurd (omega arith);
         }
 
-pub nth_answers : (s : List ℕ) (number a p : ℕ) → found_in (cut_of s) number ≡ Found.Stop a p → NthAnswer s a
+pub nth_answers : (s : List ℕ) (number a p : ℕ) → found_in (cut_of s) number ≡ denied a p → NthAnswer s a
 nth_answers s number a p h = missing s number (cut_of s) (cut_told s) h
 
 -- an answer of the reading of an entry: any of the table's but 6
@@ -135,7 +135,7 @@ span_takes s place n room = span_either (λ w. w.reading.answer ≡ 0 → TakesS
 -- an entry of a cut, of which P holds
 pub record OfEntry (s : List ℕ) (number : ℕ) (P : Entry → Type 0) : Type 0 where
   pub entry : Entry
-  pub found : found_in (cut_of s) number ≡ Found.Is entry
+  pub found : found_in (cut_of s) number ≡ Ok entry
   pub holds : P entry
 
 -- What `parse_entry` accepts is an entry of the cut, and its span is accepted likewise.
@@ -147,7 +147,7 @@ entry_takes s number room =
     record { entry = e; found = h; holds = record { small = l; inside = i; takes = answer_takes one_value s (span e) i (value_sober _) room z } }
 
 -- An entry that the cut finds reads as its span does.
-pub entry_span : (s : List ℕ) (number room : ℕ) (e : Entry) → found_in (cut_of s) number ≡ Found.Is e
+pub entry_span : (s : List ℕ) (number room : ℕ) (e : Entry) → found_in (cut_of s) number ≡ Ok e
     → read_span s e.place e.length room ≡ read_entry s number room
 unfolding read_entry
 entry_span s number room e f =
@@ -229,6 +229,6 @@ span_room s place n room h =
     (λ r m t k e. omega arith) (λ r t e. omega arith)
 
 -- So it is for an entry in a room of three bytes for each byte of its span: the other entries don't count.
-pub entry_room : (s : List ℕ) (number room : ℕ) (e : Entry) → found_in (cut_of s) number ≡ Found.Is e → 3 * e.length ≤ room
+pub entry_room : (s : List ℕ) (number room : ℕ) (e : Entry) → found_in (cut_of s) number ≡ Ok e → 3 * e.length ≤ room
     → (read_entry s number room).reading.answer ≢ 4
 entry_room s number room e f h = rw (← entry_span s number room e f) (span_room s e.place e.length room h)

@@ -22,6 +22,7 @@ use Rattle.amf0_theorems.proofs.WriteRefusal.{ends_once}
 use Rattle.packet.specs.Shown.{counts}
 use Rattle.packet.specs.Written.{saying_item, saying, Spells, Images}
 use Rattle.packet_theorems.proofs.Items.{names_one}
+use Rattle.wire.proofs.Same.{some_first}
 
 -- ---- a writing ends at one place
 
@@ -50,7 +51,7 @@ module _ (s image : List ℕ) where
   -- the record at a place
   record_one : (a b : Record) (rs us : List Record) (x y : List ℕ) (at : ℕ) → Fits a → Fits b → Here image at (laid (a ∷ rs)) x
       → Here image at (laid (b ∷ us)) y → a ≡ b
-  record_one a b rs us x y at f g h i = cc (first s image a rs x h f, first s image b us y i g)
+  record_one a b rs us x y at f g h i = some_first (sym (first s image a rs x h f) ∙ first s image b us y i g)
 
   -- ---- entries in a row
 

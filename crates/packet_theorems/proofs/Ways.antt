@@ -1,11 +1,10 @@
 -- A packet is gone over just as the grammar of its refusals has it, by the whole reading and by the cut: once over how the values are gone over.
-use Rattle.std.specs.Prelude.{◌+◌, ◌^◌, ◌≤◌, ◌<◌, ◌≡◌, ◌≢◌, ◌⊎◌, ◌∷◌, ◌++◌}
+use Rattle.std.specs.Prelude.{◌+◌, ◌^◌, ◌≤◌, ◌<◌, ◌≡◌, ◌≢◌, ◌⊎◌, ◌∷◌, ◌++◌, Ok}
 use Rattle.wire.proofs.Kit.{ℕ, zero, suc, refl, sym, ap, subst, ◌∙◌, inl, inr, List, [], append-nil, Bool, true, false}
 use Rattle.wire.proofs.Kit.{arith, add-zero, length, take, drop, get_or, length-drop, leb, eqb, le-leb, lt-leb, ne_eqb, leb-true, leb-false, eqb-true, eqb-false}
 use Rattle.wire.specs.Choice.{pick}
 use Rattle.wire.specs.Number.{digits, Bytes}
 use Rattle.wire.specs.Field.{to, u8_at, tag_at, past_tag}
-use Rattle.wire.specs.declared.cursor.Tag.TheVariants as Tag
 use Rattle.wire.proofs.Laws.{picked}
 use Rattle.wire.proofs.Stands.{Here, inside as reached, tag_at_lem, byte_at, byte_stood}
 use Rattle.amf0_theorems.specs.Refusal.{Field, Refuses, Refused}
@@ -15,6 +14,7 @@ use Rattle.packet.specs.Packet.{Label, IsHeader, IsMessage}
 use Rattle.packet_theorems.specs.Refusal.{Way, LeadsLabel, Entries, LeadsEntries, IsPacket, LeadsPacket, Seven, RefusedPacket}
 use Rattle.packet_theorems.proofs.Parts.{Part, goes, halts, ◌then◌, then_then, Standing, Tells, Follows, Plain, plain, Both, LeadsBoth, in_turn, turned, Only, only_refused, one_field, Number, number_by, number_follows}
 use Rattle.packet_theorems.proofs.Labels.{Labelled, Kinds, headers, messages}
+use Rattle.wire.specs.Answer.{denied}
 
 -- ---- entries
 
@@ -99,7 +99,7 @@ abbrev pub version_by : List ℕ → Part
 version_by s = past_tag halts (version_at s) λ p. goes 0 p
 
 -- behind a zero
-version_byte : (b : ℕ) (r : List ℕ) → version_at (0 ∷ b ∷ r) ≡ pick (eqb b 0) (Tag.Past (to 2)) (pick (eqb b 3) (Tag.Stop 7 1) (Tag.Stop 3 1))
+version_byte : (b : ℕ) (r : List ℕ) → version_at (0 ∷ b ∷ r) ≡ pick (eqb b 0) (Ok (to 2)) (pick (eqb b 3) (denied 7 1) (denied 3 1))
 unfolding version_at
 version_byte b r =
     rw (
@@ -152,7 +152,7 @@ unfolding version_at tag_at u8_at
 version_second [] not = refl
 version_second (c ∷ r) not = rw (version_byte c r, le-leb 2 (length (0 ∷ c ∷ r)) (omega arith)) (go (eqb c 0) (eqb c 3) refl)
   where
-    go : (t u : Bool) → eqb c 3 ≡ u → past_tag halts (pick t (Tag.Past (to 2)) (pick u (Tag.Stop 7 1) (Tag.Stop 3 1))) (λ p. goes 0 p) ≡ pick t (goes 0 2) (halts 3 1)
+    go : (t u : Bool) → eqb c 3 ≡ u → past_tag halts (pick t (Ok (to 2)) (pick u (denied 7 1) (denied 3 1))) (λ p. goes 0 p) ≡ pick t (goes 0 2) (halts 3 1)
     go true u e = refl
     go false true e = absurd (not (rw (eqb-true c 3 e) Seven.begins))
     go false false e = refl
@@ -275,7 +275,7 @@ module _ {w : Way} (s : List ℕ) (bs : Bytes s) (step : ℕ → ℕ → Part) (
 
 -- ---- version 3
 
-pub seven_version : {s : List ℕ} → Seven s → version_at s ≡ Tag.Stop 7 1
+pub seven_version : {s : List ℕ} → Seven s → version_at s ≡ denied 7 1
 seven_version (Seven.begins {r}) = version_byte 3 r
 
 seven_halts : {s : List ℕ} (step : ℕ → ℕ → Part) → Seven s → packet_by s step ≡ halts 7 1

@@ -1,14 +1,12 @@
 -- The whole packet against the standard's: what encodes a packet is read as it, and what was read encodes one.
-use Rattle.std.specs.Prelude.{◌+◌, ◌^◌, ◌≤◌, ◌<◌, ◌≡◌, ◌∷◌, ◌++◌}
+use Rattle.std.specs.Prelude.{◌+◌, ◌^◌, ◌≤◌, ◌<◌, ◌≡◌, ◌∷◌, ◌++◌, Ok, Result}
 use Rattle.wire.proofs.Kit.{ℕ, refl, sym, ap, ◌∙◌, List, [], arith, length, drop, length-append, eqb, lit<, eqb-true, map}
 use Rattle.wire.proofs.Kit.{map-append}
 use Rattle.wire.specs.Number.{digits, Bytes}
 use Rattle.wire.specs.Limit as limit
-use Rattle.wire.specs.Field.{to, u16_at, tag_at, got16}
+use Rattle.wire.specs.Field.{to, u16_at, tag_at, got, got_to}
 use Rattle.wire.specs.declared.cursor.Cursor.{Cursor}
-use Rattle.wire.specs.declared.cursor.U16.TheVariants as U16
-use Rattle.wire.specs.declared.cursor.Tag.{Tag}
-use Rattle.wire.proofs.Laws.{picked, u16_next, tag_next}
+use Rattle.wire.proofs.Laws.{picked, u16_next, tag_next, same_held}
 use Rattle.wire.proofs.Stands.{Here, cut, skip, tag_at_lem, byte_at, u16_at_lem, tag_ends, end8, u16_ends}
 use Rattle.image.specs.Due.{Due, stop, Ends}
 use Rattle.image.specs.Whole.{bytes}
@@ -17,7 +15,7 @@ use Rattle.packet.specs.Head.{version_at}
 use Rattle.packet.specs.Packet.{Item, Packet, IsHeader, IsMessage, Items, Encoded}
 use Rattle.packet.specs.Shown.{ShowsPacket, Within, counts}
 use Rattle.packet.specs.Reading.{entries_at, packet_at}
-use Rattle.packet_theorems.proofs.Same.{on16, on_tag}
+use Rattle.packet_theorems.proofs.Same.{on_field, on_tag, not_read}
 use Rattle.packet_theorems.proofs.Heads.{headers, messages}
 use Rattle.packet_theorems.proofs.Agree.{count_after_lem, Exacts}
 use Rattle.packet_theorems.proofs.Items.{ExactItems, Told, items_told, Exacted, items_found, items_unique, of_items}
@@ -29,6 +27,7 @@ use Rattle.image.specs.Taking.{Fits}
 use Rattle.amf0_theorems.proofs.Puts.{laid_append}
 use Rattle.packet.specs.Written.{Images}
 use Rattle.image.specs.declared.record.Record.{Record}
+use Rattle.wire.specs.Answer.{denied, Verdict}
 
 -- ---- what stands there
 
@@ -38,10 +37,10 @@ row_of h m x y = 0x00 ∷ 0x00 ∷ digits 2 h ++ (x ++ (digits 2 m ++ y))
 
 -- the fields of a packet round its headers x and messages y, as they are read; r stands behind it
 pub record Framed (s : List ℕ) (h m : ℕ) (x y r : List ℕ) : Type 0 where
-  pub version : version_at s ≡ Tag.Past (to 2)
-  pub header_count : u16_at s 2 ≡ U16.Got h (to 4)
+  pub version : version_at s ≡ Ok (to 2)
+  pub header_count : u16_at s 2 ≡ got_to h (to 4)
   pub headers_here : Here s 4 x ((digits 2 m ++ y) ++ r)
-  pub message_count : u16_at s (4 + length x) ≡ U16.Got m (to (4 + length x + 2))
+  pub message_count : u16_at s (4 + length x) ≡ got_to m (to (4 + length x + 2))
   pub messages_here : Here s (4 + length x + 2) y r
   pub long : length (row_of h m x y) ≡ 4 + length x + 2 + length y
 
@@ -106,7 +105,7 @@ told_whole : {hs ms : List Item} {x y r : List ℕ} (s : List ℕ) (hi : Items I
 unfolding packet_at bytes
 told_whole {hs} {ms} {x} {y} s hi mi f hl ml a b =
     let d : Due = entries_at 0x31 s (length hs) 4 in
-    let k : ℕ → Due = λ n. got16 stop (u16_at s n) (entries_at 0x32 s) in
+    let k : ℕ → Due = λ n. got stop (u16_at s n) (entries_at 0x32 s) in
     let fits : Fits (R.Packet (length hs) (length ms)) = record { a = hl; b = ml; c = lit< tt; d = lit< tt; zone = λ n z e. cc } in
     let same : bytes (packet_at s) ≡ bytes_of (R.Packet (length hs) (length ms)) ++ (bytes d ++ bytes (entries_at 0x32 s (length ms) (4 + length x + 2))) =
     rw (
@@ -155,23 +154,20 @@ pub record FoundPacket (s : List ℕ) (n : ℕ) : Type 0 where
   pub next : n ≡ length row
   pub within : Within limit.levels packet
 
-no_tag : {P : Type 0} {c : Cursor} (a p : ℕ) → Tag.Stop a p ≡ Tag.Past c → P
-no_tag a p q = let z : ◌≡◌ {A = ℕ} 0 1 = cc in absurd (omega arith)
-
-version_stood : (s : List ℕ) (c : Cursor) → Bytes s → version_at s ≡ Tag.Past c → (c.at ≡ 2) × Here s 0 (0 ∷ 0 ∷ []) (drop 2 s)
+version_stood : (s : List ℕ) (c : Cursor) → Bytes s → version_at s ≡ Ok c → (c.at ≡ 2) × Here s 0 (0 ∷ 0 ∷ []) (drop 2 s)
 unfolding version_at
 version_stood s c bs =
-    let P : Tag → Type 0 = λ x. x ≡ Tag.Past c → (c.at ≡ 2) × Here s 0 (0 ∷ 0 ∷ []) (drop 2 s) in
-    on_tag P Tag.Stop no_tag (tag_at (0 ∷ []) s 0) _ λ d h.
+    let P : Result Cursor Verdict → Type 0 = λ x. x ≡ Ok c → (c.at ≡ 2) × Here s 0 (0 ∷ 0 ∷ []) (drop 2 s) in
+    on_tag P denied not_read (tag_at (0 ∷ []) s 0) _ λ d h.
     let a = tag_next s 0 (0 ∷ []) d h in
-    end8 P Tag.Stop no_tag s bs d.at _ λ b g.
+    end8 P denied not_read s bs d.at _ λ b g.
     picked P (eqb b 0) _ _
     (λ t q.
     let one : d.at ≡ 1 = omega arith in
     let is : to (d.at + 1) ≡ c = cc in
     let at_c : d.at + 1 ≡ c.at = ap (λ (x : Cursor). x.at) is in
     (omega arith, ends_at (tag_ends (0 ∷ []) s 0 d h) (omega arith) (rw (eqb-true b 0 t, one) at g)))
-    (λ t. picked P (eqb b 3) _ _ (λ t. no_tag _ _) (λ t. no_tag _ _))
+    (λ t. picked P (eqb b 3) _ _ (λ t. not_read _ _) (λ t. not_read _ _))
 
 pub encoded_row : {hs ms : List Item} {x y : List ℕ} (h m : ℕ) → h < 256 ^ 2 → m < 256 ^ 2 → length hs ≡ h → length ms ≡ m
     → Items IsHeader hs x → Items IsMessage ms y → Encoded (record { headers = hs; messages = ms }) (row_of h m x y)
@@ -182,9 +178,9 @@ unfolding packet_at
 packet_found s z bs =
     let P : Due → Type 0 = λ d. Ends d z → FoundPacket s z in
     on_tag P stop (λ a p e. absurd e) (version_at s) _ λ c v.
-    on16 P stop (λ a p e. absurd e) (u16_at s c.at) _ λ h q g ends.
-    bind_ends (entries_at 0x31 s h q.at) (λ n. got16 stop (u16_at s n) (entries_at 0x32 s)) z ends λ n a.
-    on16 P stop (λ a p e. absurd e) (u16_at s n) _ λ m f k b.
+    on_field P stop (λ a p e. absurd e) (u16_at s c.at) _ λ h q g ends.
+    bind_ends (entries_at 0x31 s h q.at) (λ n. got stop (u16_at s n) (entries_at 0x32 s)) z ends λ n a.
+    on_field P stop (λ a p e. absurd e) (u16_at s n) _ λ m f k b.
     let vs = version_stood s c bs v in
     let hc = u16_ends s bs c.at h q g in
     let hn = u16_next s c.at h q g in
@@ -212,10 +208,10 @@ row_one h m h' m' x y x' y' r t hl ml hl' ml' e hu mu =
     let s = row_of h m x y ++ r in
     let a : Framed s h m x y r = framed h m x y hl ml (record { same = refl }) in
     let b : Framed s h' m' x' y' t = framed h' m' x' y' hl' ml' (record { same = e }) in
-    let hc : h ≡ h' = cc (sym a.header_count ∙ b.header_count) in
+    let hc : h ≡ h' = same_held (sym a.header_count ∙ b.header_count) in
     let u = hu ((digits 2 m ++ y) ++ r) ((digits 2 m' ++ y') ++ t) hc (sym a.headers_here.same ∙ b.headers_here.same) in
     let long : 4 + length x ≡ 4 + length x' = ap (λ w. 4 + length w) u.1 in
-    let mc : m ≡ m' = cc (sym a.message_count ∙ (ap (u16_at s) long ∙ b.message_count)) in
+    let mc : m ≡ m' = same_held (sym a.message_count ∙ (ap (u16_at s) long ∙ b.message_count)) in
     let v = mu r t mc (sym a.messages_here.same ∙ (ap (λ n. drop (n + 2) s) long ∙ b.messages_here.same)) in
     (u.0, v.0, rw (hc, mc, u.1, v.1))
 

@@ -3,7 +3,7 @@ use Rattle.std.specs.Prelude.{◌+◌, ◌≤◌, ◌≡◌, ◌∷◌, ◌++◌
 use Rattle.wire.proofs.Kit.{ℕ, suc, refl, sym, ap, ap₂, ◌∙◌, List, [], map, map-append, Bool, true, false, arith, length, take}
 use Rattle.wire.proofs.Kit.{length-map, take-append-drop, lit<}
 use Rattle.wire.specs.Number.{digits, Bytes}
-use Rattle.wire.specs.Field.{to, u16_at, got16}
+use Rattle.wire.specs.Field.{to, u16_at, got}
 use Rattle.wire.specs.Limit as limit
 use Rattle.wire.proofs.Stands.{Here}
 use Rattle.image.specs.declared.record.Record.{Record}
@@ -115,7 +115,7 @@ imaged_whole : {hs ms : List Item} {x y r : List ℕ} (s : List ℕ) (hi : Items
 unfolding packet_at bytes
 imaged_whole {hs} {ms} {x} {y} s hi f fits t a b =
     let d : Due = entries_at 0x31 s (length hs) 4 in
-    let k : ℕ → Due = λ n. got16 stop (u16_at s n) (entries_at 0x32 s) in
+    let k : ℕ → Due = λ n. got stop (u16_at s n) (entries_at 0x32 s) in
     record {
       images =
           record {

@@ -1,20 +1,20 @@
 -- What the packet calls can come to in a room, and when: a room too small refuses before any other reason but the limit. What stands in the input, which
 -- field refuses it, and into what it is cut, is said by the grammars; that a room is too small, by the records that the definitions find. A refusal has the place
 -- of the field, or of the record, that is its reason.
-use Rattle.std.specs.Prelude.{ℕ, ◌+◌, ◌≤◌, ◌<◌, ◌≡◌, List, ◌++◌, length, get_or}
+use Rattle.std.specs.Prelude.{ℕ, ◌+◌, ◌≤◌, ◌<◌, ◌≡◌, List, ◌++◌, length, get_or, Ok}
 use Rattle.wire.specs.Limit as limit
 use Rattle.image.specs.Due.{Lacks}
 use Rattle.image.specs.Whole.{Whole, bytes, accepted, refused}
 use Rattle.amf0.specs.Span.{span_at}
 use Rattle.amf0_theorems.specs.Spans.{LeftOver, ComesValue}
 use Rattle.packet.specs.declared.head.Entry.{Entry}
-use Rattle.packet.specs.declared.entry.Found.{Found}
 use Rattle.packet.specs.Packet.{Packet, Encoded}
 use Rattle.packet.specs.Shown.{Within}
 use Rattle.packet.specs.Reading.{packet_at}
-use Rattle.packet.specs.Entry.{Cut, no_entry as zero_entry, span, Listed, uncut}
+use Rattle.packet.specs.Entry.{Cut, no_entry as zero_entry, span, Listed, uncut, Found}
 use Rattle.packet_theorems.specs.Cuts.{CutInto}
 use Rattle.packet_theorems.specs.Refusal.{whole, RefusedPacket, RefusedCut}
+use Rattle.wire.specs.Answer.{denied}
 
 -- ---- the whole readings
 
@@ -51,9 +51,9 @@ pub data ComesList (s : List ℕ) (room : ℕ) : Listed → Type 0 where
 
 -- the entry with a number
 pub data ComesNth (s : List ℕ) (number : ℕ) : Found → Type 0 where
-  not_cut : {a p : ℕ} → RefusedCut s a p → ComesNth s number (Found.Stop a p)
-  no_entry : {es : List Entry} → CutInto s es → length es ≤ number → ComesNth s number (Found.Stop 8 0)
-  is : {es : List Entry} → CutInto s es → number < length es → ComesNth s number (Found.Is (get_or es number zero_entry))
+  not_cut : {a p : ℕ} → RefusedCut s a p → ComesNth s number (denied a p)
+  no_entry : {es : List Entry} → CutInto s es → length es ≤ number → ComesNth s number (denied 8 0)
+  is : {es : List Entry} → CutInto s es → number < length es → ComesNth s number (Ok (get_or es number zero_entry))
 
 -- the answer and the place of a cut, as those of a reading that makes these bytes
 abbrev pub answered : Cut → (image : List ℕ) → Whole

@@ -33,18 +33,21 @@ mod output;
 
 ghost use Rattle.std.specs.Prelude.{◌<◌, ◌≤◌, IfOk};
 
+use amf0::read::parse_single_element;
+use amf0::write::write_value;
 use image::building::{Laying, put_numbers};
 use image::reading::Reading;
 use image::writing::Writing;
-use index::find::{Way, find};
+use index::find::find;
 use index::make::{Indexing, make_index};
-use output::{number, row, word};
-use packet::entry::{Cutting, Found, cut, nth, parse_span};
+use output::{row, word};
+use packet::entry::{cut, nth, parse_entry, parse_span};
 use packet::head::Entry;
 use std::io;
 use std::io::{ErrorKind, Read, Write};
+use wire::answer::Refusal;
 use wire::bytes::write_bytes;
-use wire::cursor::{Cursor, U32, U64};
+use wire::cursor::Cursor;
 use wire::limit::{BYTES, IMAGE};
 use wire::text::part;
 
@@ -53,18 +56,11 @@ const UNREAD: u8 = 0xA5;
 // And in every byte of a lent output before a writing.
 const UNWRITTEN: u8 = 0x5A;
 
-#[derive(Clone, Copy)]
-enum Number {
-    Is(usize),
-    End,
-}
-
-// A row that was read: its length, or that the buffer can't hold it, or that the input ended before it did.
-#[derive(Clone, Copy)]
+// A row that was read: its length, or that the buffer can't hold it. No Option: `read_row` gives one of rows, and None there is the input's end.
+#[derive(Clone, Copy, Debug, PartialEq, Eq)]
 enum Row {
     Held(usize),
     Over,
-    End,
 }
 
 // Reads until the buffer is full, and says whether it is: an input that ends before has no more to read.
@@ -81,15 +77,13 @@ fn is_read(input: &mut impl Read, buffer: &mut [u8]) -> io::Result<bool> {
     }
 }
 
-fn read_number(input: &mut impl Read) -> io::Result<Number> {
+// None where the input ends before; so with a row.
+fn read_number(input: &mut impl Read) -> io::Result<Option<usize>> {
     let mut four = [0u8; 4];
-    if !is_read(input, &mut four)? {
-        return Ok(Number::End);
-    }
-    let c = Cursor { at: 0 };
-    match c.be_u32(&four) {
-        U32::Got(n, _) => Ok(Number::Is(n as usize)),
-        U32::Stop(_, _) => Ok(Number::End),
+    if is_read(input, &mut four)? {
+        Ok(Some(u32::from_be_bytes(four) as usize))
+    } else {
+        Ok(None)
     }
 }
 
@@ -115,121 +109,62 @@ fn skip(input: &mut impl Read, n: usize) -> io::Result<()> {
     Ok(())
 }
 
-fn read_row(input: &mut impl Read, buffer: &mut [u8]) -> io::Result<Row> {
-    match read_number(input)? {
-        Number::End => Ok(Row::End),
-        Number::Is(n) => {
-            if n <= buffer.len() {
-                if is_read(input, &mut buffer[..n])? {
-                    Ok(Row::Held(n))
-                } else {
-                    Ok(Row::End)
-                }
-            } else {
-                skip(input, n)?;
-                Ok(Row::Over)
-            }
-        }
+fn read_row(input: &mut impl Read, buffer: &mut [u8]) -> io::Result<Option<Row>> {
+    let Some(n) = read_number(input)? else {
+        return Ok(None);
+    };
+    if buffer.len() < n {
+        skip(input, n)?;
+        return Ok(Some(Row::Over));
     }
-}
-
-fn fill(buffer: &mut [u8], b: u8) {
-    let mut i: usize = 0;
-    while i < buffer.len() {
-        buffer[i] = b;
-        i += 1;
+    if is_read(input, &mut buffer[..n])? {
+        Ok(Some(Row::Held(n)))
+    } else {
+        Ok(None)
     }
 }
 
 // What a reading returned, and the image that it left.
 fn tell_reading(lines: &mut impl Write, r: Reading, image: &[u8]) -> io::Result<()> {
-    number(lines, r.answer as usize)?;
-    word(lines, b" ")?;
-    number(lines, r.used)?;
-    word(lines, b" ")?;
-    number(lines, r.made)?;
-    word(lines, b" ")?;
+    write!(lines, "{} {} {} ", r.answer, r.used, r.made)?;
     row(lines, image)?;
     word(lines, b"\n")
 }
 
 // What a writing returned, and the output that it left.
 fn tell_writing(lines: &mut impl Write, w: Writing, out: &[u8]) -> io::Result<()> {
-    number(lines, w.answer as usize)?;
-    word(lines, b" ")?;
-    number(lines, w.count)?;
-    word(lines, b" ")?;
+    write!(lines, "{} {} ", w.answer, w.count)?;
     row(lines, out)?;
     word(lines, b"\n")
 }
 
-fn read_value(lines: &mut impl Write, input: &[u8], image: &mut [u8]) -> io::Result<()> {
-    fill(image, UNREAD);
-    tell_reading(lines, amf0::read::parse_single_element(input, image), image)
-}
-
-fn write_value(
+// Makes a call that reads an input, on an image that is full of UNREAD.
+fn read<F: FnOnce(&[u8], &mut [u8]) -> Reading>(
     lines: &mut impl Write,
-    image: &[u8],
-    text: &[u8],
-    out: &mut [u8],
-) -> io::Result<()> {
-    fill(out, UNWRITTEN);
-    tell_writing(lines, amf0::write::write_value(image, text, out), out)
-}
-
-fn read_file(lines: &mut impl Write, input: &[u8], image: &mut [u8]) -> io::Result<()> {
-    fill(image, UNREAD);
-    tell_reading(lines, lso::read::parse(input, image), image)
-}
-
-fn read_part_of_file(lines: &mut impl Write, input: &[u8], image: &mut [u8]) -> io::Result<()> {
-    fill(image, UNREAD);
-    tell_reading(lines, lso::read::parse_incomplete(input, image), image)
-}
-
-fn write_file(lines: &mut impl Write, image: &[u8], text: &[u8], out: &mut [u8]) -> io::Result<()> {
-    fill(out, UNWRITTEN);
-    tell_writing(lines, lso::write::write_to_bytes(image, text, out), out)
-}
-
-fn read_packet(lines: &mut impl Write, input: &[u8], image: &mut [u8]) -> io::Result<()> {
-    fill(image, UNREAD);
-    tell_reading(lines, packet::read::parse(input, image), image)
-}
-
-fn read_part_of_packet(lines: &mut impl Write, input: &[u8], image: &mut [u8]) -> io::Result<()> {
-    fill(image, UNREAD);
-    tell_reading(lines, packet::read::parse_incomplete(input, image), image)
-}
-
-fn write_packet(
-    lines: &mut impl Write,
-    image: &[u8],
-    text: &[u8],
-    exact: bool,
-    out: &mut [u8],
-) -> io::Result<()> {
-    fill(out, UNWRITTEN);
-    tell_writing(
-        lines,
-        packet::write::write_to_bytes(image, text, exact, out),
-        out,
-    )
-}
-
-fn read_entry(
-    lines: &mut impl Write,
+    call: F,
     input: &[u8],
-    number: usize,
     image: &mut [u8],
-) -> io::Result<()> {
-    fill(image, UNREAD);
-    tell_reading(
-        lines,
-        packet::entry::parse_entry(input, number, image),
-        image,
-    )
+) -> io::Result<()>
+    requires { F.IsAlwaysCallable call }
+{
+    image.fill(UNREAD);
+    let r = call(input, image);
+    tell_reading(lines, r, image)
+}
+
+// Makes a call that writes an image, on an output that is full of UNWRITTEN.
+fn write<F: FnOnce(&[u8], &[u8], &mut [u8]) -> Writing>(
+    lines: &mut impl Write,
+    call: F,
+    image: &[u8],
+    text: &[u8],
+    out: &mut [u8],
+) -> io::Result<()>
+    requires { F.IsAlwaysCallable call }
+{
+    out.fill(UNWRITTEN);
+    let w = call(image, text, out);
+    tell_writing(lines, w, out)
 }
 
 // The value at a place of a packet; `length` has its length in four bytes.
@@ -240,13 +175,14 @@ fn read_span(
     length: &[u8],
     image: &mut [u8],
 ) -> io::Result<()> {
-    let c = Cursor { at: 0 };
-    match c.be_u32(length) {
-        U32::Got(n, _) => {
-            fill(image, UNREAD);
-            tell_reading(lines, parse_span(input, place, n as usize, image), image)
-        }
-        U32::Stop(_, _) => word(lines, b"over\n"),
+    match (Cursor { at: 0 }).be_u32(length) {
+        Ok((n, _)) => read(
+            lines,
+            |s, i| parse_span(s, place, n as usize, i),
+            input,
+            image,
+        ),
+        Err(_) => word(lines, b"over\n"),
     }
 }
 
@@ -264,60 +200,47 @@ fn unread_entry() -> Entry {
     }
 }
 
-fn tell_cutting(lines: &mut impl Write, r: Cutting) -> io::Result<()> {
-    number(lines, r.answer as usize)?;
-    word(lines, b" ")?;
-    number(lines, r.used)?;
-    word(lines, b" ")?;
-    number(lines, r.count)
-}
-
-fn tell_place(lines: &mut impl Write, place: usize, length: usize) -> io::Result<()> {
-    word(lines, b".")?;
-    number(lines, place)?;
-    word(lines, b".")?;
-    number(lines, length)
-}
-
 fn tell_entry(lines: &mut impl Write, e: Entry) -> io::Result<()> {
-    word(lines, b" ")?;
-    number(lines, e.kind as usize)?;
-    word(lines, b".")?;
-    number(lines, e.flag as usize)?;
-    tell_place(lines, e.place1, e.length1)?;
-    tell_place(lines, e.place2, e.length2)?;
-    tell_place(lines, e.place, e.length)
+    write!(lines, " {}.{}", e.kind, e.flag)?;
+    write!(
+        lines,
+        ".{}.{}.{}.{}",
+        e.place1, e.length1, e.place2, e.length2
+    )?;
+    write!(lines, ".{}.{}", e.place, e.length)
 }
 
-// The cut of a packet into a list of n entries.
+// The cut of a packet into a list, and all that the list holds then.
+fn cut_into(lines: &mut impl Write, input: &[u8], list: &mut [Entry]) -> io::Result<()> {
+    let r = cut(input, list);
+    write!(lines, "{} {} {}", r.answer, r.used, r.count)?;
+    for e in list.iter() {
+        tell_entry(lines, *e)?;
+    }
+    word(lines, b"\n")
+}
+
+// A list of n entries.
 fn cut_packet(lines: &mut impl Write, input: &[u8], n: usize) -> io::Result<()>
     requires { n ≤ 4096 }
 {
     let z = unread_entry();
     let mut list = [z; 4096];
-    let r = cut(input, &mut list[..n]);
-    tell_cutting(lines, r)?;
-    let mut i = 0;
-    while i < n {
-        let e = list[i];
-        tell_entry(lines, e)?;
-        i += 1;
-    }
-    word(lines, b"\n")
+    cut_into(lines, input, &mut list[..n])
 }
 
-fn tell_found(lines: &mut impl Write, found: Found) -> io::Result<()> {
+fn tell_found(lines: &mut impl Write, found: Result<Entry, Refusal>) -> io::Result<()> {
     match found {
-        Found::Is(e) => {
+        Ok(e) => {
             word(lines, b"0 0")?;
             tell_entry(lines, e)?;
         }
-        Found::Stop(a, place) => {
-            number(lines, a as usize)?;
-            word(lines, b" ")?;
-            number(lines, place)?;
-            word(lines, b" 0.0.0.0.0.0.0.0")?;
-        }
+        Err(r) => write!(
+            lines,
+            "{} {} 0.0.0.0.0.0.0.0",
+            u8::from(r.answer()),
+            r.place()
+        )?,
     }
     word(lines, b"\n")
 }
@@ -334,10 +257,7 @@ fn name_text(lines: &mut impl Write, input: &[u8], place: usize, length: usize) 
 
 // What an indexing returned, and the index that it left.
 fn tell_indexing(lines: &mut impl Write, r: Indexing, index: &[u8]) -> io::Result<()> {
-    number(lines, r.answer as usize)?;
-    word(lines, b" ")?;
-    number(lines, r.count)?;
-    word(lines, b" ")?;
+    write!(lines, "{} {} ", r.answer, r.count)?;
     row(lines, index)?;
     word(lines, b"\n")
 }
@@ -348,19 +268,15 @@ fn index_keys(
     text: &[u8],
     index: &mut [u8],
 ) -> io::Result<()> {
-    fill(index, UNREAD);
+    index.fill(UNREAD);
     tell_indexing(lines, make_index(image, text, index), index)
 }
 
-fn tell_way(lines: &mut impl Write, way: Way) -> io::Result<()> {
+fn tell_way(lines: &mut impl Write, way: Option<usize>) -> io::Result<()> {
     match way {
-        Way::At(place) => {
-            word(lines, b"1 ")?;
-            number(lines, place)?;
-        }
-        Way::Nothing => word(lines, b"0 0")?,
+        Some(place) => writeln!(lines, "1 {place}"),
+        None => word(lines, b"0 0\n"),
     }
-    word(lines, b"\n")
 }
 
 // The way that an index of a bytes finds for a path of b bytes. They stand in `rows` behind one another, and the text behind them.
@@ -384,20 +300,16 @@ fn find_path(
 
 // What laying a record returned, and the image that it left.
 fn tell_laying(lines: &mut impl Write, l: Laying, image: &[u8]) -> io::Result<()> {
-    number(lines, l.answer as usize)?;
-    word(lines, b" ")?;
-    number(lines, l.made)?;
-    word(lines, b" ")?;
+    write!(lines, "{} {} ", l.answer, l.made)?;
     row(lines, image)?;
     word(lines, b"\n")
 }
 
 // The number in eight bytes at a place; 0 where it is not whole.
 fn wide_at(row: &[u8], at: usize) -> u64 {
-    let c = Cursor { at: at };
-    match c.be_u64(row) {
-        U64::Got(n, _) => n,
-        U64::Stop(_, _) => 0,
+    match (Cursor { at }).be_u64(row) {
+        Ok((n, _)) => n,
+        Err(_) => 0,
     }
 }
 
@@ -438,7 +350,8 @@ fn put_record(
     }
 }
 
-// Makes a call on a buffer of the asked length.
+// Makes a call on a buffer of the asked length. The rows and the buffer come from three buffers of
+// `frames`: a struct of them would be filled in `answer` only to be taken apart here.
 fn call(
     lines: &mut impl Write,
     operation: u8,
@@ -448,15 +361,21 @@ fn call(
     buffer: &mut [u8],
 ) -> io::Result<()> {
     match operation {
-        0x01 => read_value(lines, first, buffer),
-        0x02 => write_value(lines, first, second, buffer),
-        0x03 => read_file(lines, first, buffer),
-        0x04 => read_part_of_file(lines, first, buffer),
-        0x05 => write_file(lines, first, second, buffer),
-        0x06 => read_packet(lines, first, buffer),
-        0x07 => read_part_of_packet(lines, first, buffer),
-        0x08 => write_packet(lines, first, second, b == 1, buffer),
-        0x0A => read_entry(lines, first, b, buffer),
+        0x01 => read(lines, parse_single_element, first, buffer),
+        0x02 => write(lines, write_value, first, second, buffer),
+        0x03 => read(lines, lso::read::parse, first, buffer),
+        0x04 => read(lines, lso::read::parse_incomplete, first, buffer),
+        0x05 => write(lines, lso::write::write_to_bytes, first, second, buffer),
+        0x06 => read(lines, packet::read::parse, first, buffer),
+        0x07 => read(lines, packet::read::parse_incomplete, first, buffer),
+        0x08 => write(
+            lines,
+            |image, text, out| packet::write::write_to_bytes(image, text, b == 1, out),
+            first,
+            second,
+            buffer,
+        ),
+        0x0A => read(lines, |s, i| parse_entry(s, b, i), first, buffer),
         0x0C => index_keys(lines, first, second, buffer),
         0x0F => read_span(lines, first, b, second, buffer),
         0x10 => tell_found(lines, nth(first, b)),
@@ -506,40 +425,30 @@ fn frame(
         return Ok(false);
     }
     let operation = one[0];
-    let Number::Is(a) = read_number(input)? else {
+    let Some(a) = read_number(input)? else {
         return Ok(false);
     };
-    let Number::Is(b) = read_number(input)? else {
+    let Some(b) = read_number(input)? else {
         return Ok(false);
     };
     let left = read_row(input, first)?;
     let right = read_row(input, second)?;
-    match left {
-        Row::End => Ok(false),
-        Row::Over => {
-            word(lines, b"over\n")?;
-            Ok(true)
-        }
-        Row::Held(n) => match right {
-            Row::End => Ok(false),
-            Row::Over => {
-                word(lines, b"over\n")?;
-                Ok(true)
-            }
-            Row::Held(m) => {
-                answer(
-                    lines,
-                    operation,
-                    a,
-                    b,
-                    part(first, 0, n),
-                    part(second, 0, m),
-                    room,
-                )?;
-                Ok(true)
-            }
-        },
+    match (left, right) {
+        (None, _) => return Ok(false),
+        (Some(Row::Over), _) => word(lines, b"over\n")?,
+        (_, None) => return Ok(false),
+        (_, Some(Row::Over)) => word(lines, b"over\n")?,
+        (Some(Row::Held(n)), Some(Row::Held(m))) => answer(
+            lines,
+            operation,
+            a,
+            b,
+            part(first, 0, n),
+            part(second, 0, m),
+            room,
+        )?,
     }
+    Ok(true)
 }
 
 // A proved loop has to end, and nothing says that an input does: the turns are more than any run has.
@@ -550,9 +459,10 @@ fn frames(
     second: &mut [u8],
     room: &mut [u8],
 ) -> io::Result<()> {
-    let mut turns = u64::MAX;
-    while 0 < turns && frame(input, lines, first, second, room)? {
-        turns -= 1;
+    for _ in 0..u64::MAX {
+        if !frame(input, lines, first, second, room)? {
+            break;
+        }
     }
     lines.flush()
 }

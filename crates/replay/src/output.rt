@@ -8,10 +8,6 @@ pub fn word(lines: &mut impl Write, text: &[u8]) -> io::Result<()> {
     lines.write_all(text)
 }
 
-pub fn number(lines: &mut impl Write, n: usize) -> io::Result<()> {
-    write!(lines, "{n}")
-}
-
 fn digit(n: u8) -> u8 {
     if n < 10 { 48 + n } else { 87 + n % 16 }
 }
@@ -35,15 +31,13 @@ fn push(lines: &mut impl Write, text: &mut [u8], used: usize, b: u8) -> io::Resu
 
 // A row of bytes in hex.
 pub fn row(lines: &mut impl Write, bytes: &[u8]) -> io::Result<()> {
-    if bytes.len() == 0 {
+    if bytes.is_empty() {
         return word(lines, b"-");
     }
     let mut text = [0u8; 8192];
     let mut used: usize = 0;
-    let mut i: usize = 0;
-    while i < bytes.len() {
-        used = push(lines, &mut text, used, bytes[i])?;
-        i += 1;
+    for b in bytes {
+        used = push(lines, &mut text, used, *b)?;
     }
     word(lines, &text[..used])
 }

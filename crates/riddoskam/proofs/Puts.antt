@@ -1,10 +1,8 @@
 -- `riddoskam_put` and `riddoskam_record_at`, each the inverse of the other.
-use Rattle.std.specs.Prelude.{◌≡◌}
+use Rattle.std.specs.Prelude.{◌≡◌, Some, None}
 use Rattle.wire.proofs.Kit.{ℕ, refl, sym, List, arith}
 use Rattle.wire.specs.Number.{Bytes}
-use Rattle.image.specs.declared.taking.Taken.{Taken}
-use Rattle.image.specs.declared.taking.Taken.TheVariants.{Found, Bad}
-use Rattle.image.specs.Taking.{record_at}
+use Rattle.image.specs.Taking.{record_at, Taken}
 use Rattle.image.specs.Building.{putting, put_of}
 use Rattle.image.proofs.Told.{put_taken, taken_put}
 use Rattle.riddoskam.specs.Numbers.{taken_answer, taken_numbers, taken_next}
@@ -28,5 +26,5 @@ pub record_put : (image : List ℕ) → Bytes image → (at : ℕ) → taken_ans
 record_put image bytes at = go (record_at image at) refl
   where
     go : (t : Taken) → record_at image at ≡ t → taken_answer t ≡ 0 → put_of (taken_numbers t) at image ≡ putting 0 (taken_next t) image
-    go (Found r c) h e = taken_put image bytes at r c h
-    go Bad h e = absurd (omega arith)
+    go (Some x) h e = taken_put image bytes at x.0 x.1 h
+    go None h e = absurd (omega arith)

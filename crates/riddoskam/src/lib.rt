@@ -23,10 +23,9 @@ ghost use Rattle.index.specs.Find.{step_of, find_of};
 ghost use Rattle.riddoskam.specs.Numbers.{found_answer, found_numbers, taken_answer, taken_numbers, taken_next, way_found, way_place};
 
 use image::record::layout_of;
-use image::taking::{Taken, record_at};
-use index::find::Way;
-use packet::entry::{Found, nth};
-use wire::answer::{ACCEPTED, NO_TREE};
+use image::taking::record_at;
+use packet::entry::nth;
+use wire::answer::{ACCEPTED, Answer};
 use wire::cursor::Cursor;
 use wire::text::inside;
 
@@ -186,21 +185,12 @@ pub fn riddoskam_packet_nth(packet: &[u8], number: usize, entry: &mut [usize; 8]
     ensures after { entry.new ≡ found_numbers (found_in (cut_of packet.now) number) }
 {
     match nth(packet, number) {
-        Found::Stop(a, _) => {
+        Err(r) => {
             *entry = [0; 8];
-            a
+            u8::from(r.answer())
         }
-        Found::Is(e) => {
-            *entry = [
-                e.kind as usize,
-                e.flag as usize,
-                e.place1,
-                e.length1,
-                e.place2,
-                e.length2,
-                e.place,
-                e.length,
-            ];
+        Ok(e) => {
+            *entry = <[usize; 8]>::from(e);
             ACCEPTED
         }
     }
@@ -273,12 +263,12 @@ pub fn riddoskam_record_at(image: &[u8], at: usize, fields: &mut [u64; 5], next:
     ensures next_after { next.new ≡ taken_next (record_at image.now at) }
 {
     match record_at(image, Cursor { at: at }) {
-        Taken::Bad => {
+        None => {
             *fields = [0; 5];
             *next = 0;
-            NO_TREE
+            u8::from(Answer::NoTree)
         }
-        Taken::Found(r, c) => {
+        Some((r, c)) => {
             let l = layout_of(r);
             *fields = [l.kind, l.a.number, l.b.number, l.c.number, l.d.number];
             *next = c.at;
@@ -312,16 +302,16 @@ pub fn riddoskam_index(image: &[u8], text: &[u8], index: &mut [u8], count: &mut 
 }
 
 // Whether there is a way, and the place that it leads to; 0 where there is none.
-fn told(way: Way, place: &mut usize) -> bool
+fn told(way: Option<usize>, place: &mut usize) -> bool
     ensures value { result ≡ way_found way }
     ensures place_after { place.new ≡ way_place way }
 {
     match way {
-        Way::Nothing => {
+        None => {
             *place = 0;
             false
         }
-        Way::At(at) => {
+        Some(at) => {
             *place = at;
             true
         }

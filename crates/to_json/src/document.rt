@@ -1,9 +1,8 @@
 // The document: one object, whose members are told one behind another. `begin` and `end` are round them.
-use crate::leaf::boolean;
 use crate::tree::body;
-use figures::page::{decimal, quoted, word};
+use figures::page::{quoted, word};
 use image::record::Record;
-use image::taking::{Taken, record_at};
+use image::taking::record_at;
 use std::io;
 use std::io::Write;
 use wire::cursor::Cursor;
@@ -22,9 +21,7 @@ pub fn end(page: &mut impl Write) -> io::Result<()> {
 fn file_head(page: &mut impl Write, stored: u32, name: &[u8]) -> io::Result<()> {
     word(page, b",\n  \"name\": ")?;
     quoted(page, name)?;
-    word(page, b",\n  \"storedLength\": ")?;
-    decimal(page, stored as u64)?;
-    word(page, b",\n  \"body\": ")
+    write!(page, ",\n  \"storedLength\": {stored},\n  \"body\": ")
 }
 
 // A file, whose image this is, with its index, as in `tree`.
@@ -32,14 +29,11 @@ pub fn file(
     page: &mut impl Write,
     text: &[u8],
     image: &[u8],
-    index: &[u8],
-    listed: bool,
+    index: Option<&[u8]>,
 ) -> io::Result<()> {
-    if let Taken::Found(r, c) = record_at(image, Cursor { at: 0 }) {
-        if let Record::Lso(stored, p, n) = r {
-            file_head(page, stored, part(text, p, n))?;
-            body(page, text, image, index, listed, c.at)?;
-        }
+    if let Some((Record::Lso(stored, p, n), c)) = record_at(image, Cursor { at: 0 }) {
+        file_head(page, stored, part(text, p, n))?;
+        body(page, text, image, index, c.at)?;
     }
     Ok(())
 }
@@ -71,9 +65,7 @@ pub fn item(page: &mut impl Write, first: bool) -> io::Result<()> {
 pub fn header(page: &mut impl Write, name: &[u8], flag: bool) -> io::Result<()> {
     word(page, b"{\"name\": ")?;
     quoted(page, name)?;
-    word(page, b", \"mustUnderstand\": ")?;
-    boolean(page, flag)?;
-    word(page, b", \"value\": ")
+    write!(page, ", \"mustUnderstand\": {flag}, \"value\": ")
 }
 
 pub fn message(page: &mut impl Write, target: &[u8], response: &[u8]) -> io::Result<()> {
@@ -86,15 +78,13 @@ pub fn message(page: &mut impl Write, target: &[u8], response: &[u8]) -> io::Res
 
 // A refusal of all of the input, or of what stands behind the members before it: the reading's answer, then places, and last the reason.
 pub fn refused(page: &mut impl Write, answer: u8) -> io::Result<()> {
-    word(page, b",\n  \"refused\": {\"answer\": ")?;
-    decimal(page, answer as u64)
+    write!(page, ",\n  \"refused\": {{\"answer\": {answer}")
 }
 
 pub fn place(page: &mut impl Write, name: &[u8], at: usize) -> io::Result<()> {
     word(page, b", ")?;
     quoted(page, name)?;
-    word(page, b": ")?;
-    decimal(page, at as u64)
+    write!(page, ": {at}")
 }
 
 pub fn reason(page: &mut impl Write, why: &[u8]) -> io::Result<()> {

@@ -5,171 +5,210 @@ use std::io::Write;
 
 // More levels than a document has: 32 of values, and those that they stand in.
 const LEVELS: usize = 40;
-// What a level is: nothing of JSON's; an object; an object whose pairs are a list; a list.
-pub(crate) const TOP: u8 = 0;
 
-pub(crate) const OBJECT: u8 = 1;
+const OUTSIDE: Level = Level {
+    form: Form::Top,
+    stage: Stage::Empty,
+    left: 0,
+};
 
-pub(crate) const PAIRS: u8 = 2;
+// What a level is.
+#[derive(Clone, Copy, PartialEq, Eq, Debug)]
+pub(crate) enum Form {
+    // Nothing of JSON's.
+    Top,
+    Object,
+    // An object whose pairs are a list.
+    Pairs,
+    List,
+}
 
-pub(crate) const LIST: u8 = 3;
-// How far it is: nothing stands in it yet; words; values without a key, behind them; a pair, or an item of a list.
-pub(crate) const EMPTY: u8 = 0;
+// How far a level is.
+#[derive(Clone, Copy, PartialEq, Eq, Debug)]
+pub(crate) enum Stage {
+    // Nothing stands in it yet.
+    Empty,
+    Words,
+    // Values without a key, behind the words.
+    Keyless,
+    // A pair, or an item of a list.
+    Filled,
+}
 
-pub(crate) const WORDS: u8 = 1;
+// Of a list there is also how many items are still to come.
+#[derive(Clone, Copy, PartialEq, Eq, Debug)]
+pub(crate) struct Level {
+    pub(crate) form: Form,
+    pub(crate) stage: Stage,
+    pub(crate) left: u32,
+}
 
-pub(crate) const KEYLESS: u8 = 2;
-
-pub(crate) const FILLED: u8 = 3;
-
-// So many levels deep; of each what it is and how far, and how many items of a list are still to come. Marks before a place of the index are of containers that
-// the walk has passed. Where all objects are told as lists of their pairs, no index is asked.
-#[derive(Clone, Copy)]
+// The levels of a walk, and how many of them it is deep.
+#[derive(Clone, Copy, PartialEq, Eq, Debug)]
 pub(crate) struct Walk {
-    pub(crate) depth: usize,
-    pub(crate) form: [u8; 40],
-    pub(crate) stage: [u8; 40],
-    pub(crate) left: [u32; 40],
-    pub(crate) mark: usize,
-    pub(crate) listed: bool,
+    depth: usize,
+    levels: [Level; LEVELS],
 }
 
-pub(crate) fn start(depth: usize, listed: bool) -> Walk {
-    Walk {
-        depth: depth,
-        form: [TOP; 40],
-        stage: [EMPTY; 40],
-        left: [0u32; 40],
-        mark: 0,
-        listed: listed,
-    }
+// Prints an image, with the text of its texts, onto a page. The index has the marks of the containers that the walk has not passed. Where there is none, all
+// objects are told as lists of their pairs.
+#[derive(Drop)]
+pub(crate) struct Printer<'a, W> {
+    pub(crate) page: &'a mut W,
+    pub(crate) text: &'a [u8],
+    pub(crate) image: &'a [u8],
+    pub(crate) index: Option<&'a [u8]>,
+    pub(crate) walk: Walk,
 }
 
-pub(crate) fn form_of(w: Walk) -> u8 {
-    let depth = w.depth;
-    if depth < LEVELS { w.form[depth] } else { TOP }
-}
-
-pub(crate) fn stage_of(w: Walk) -> u8 {
-    let depth = w.depth;
-    if depth < LEVELS {
-        w.stage[depth]
-    } else {
-        EMPTY
-    }
-}
-
-pub(crate) fn at_stage(w: Walk, stage: u8) -> Walk {
-    let mut r = w;
-    let depth = r.depth;
-    if depth < LEVELS {
-        r.stage[depth] = stage;
-    }
-    r
-}
-
-// Goes into a level, of which so many items are to come where it is a list.
-pub(crate) fn opened(w: Walk, form: u8, stage: u8, left: u32) -> Walk {
-    let mut r = w;
-    let depth = r.depth;
-    if depth < LEVELS - 1 {
-        r.depth = depth + 1;
-        r.form[depth + 1] = form;
-        r.stage[depth + 1] = stage;
-        r.left[depth + 1] = left;
-    }
-    r
-}
-
-pub(crate) fn line(page: &mut impl Write, depth: usize) -> io::Result<()> {
-    word(page, b"\n")?;
-    if depth < LEVELS {
-        spaces(page, 2 * depth)?;
-    }
-    Ok(())
-}
-
-// The line on which a level's closing bracket stands.
-pub(crate) fn closing_line(page: &mut impl Write, depth: usize) -> io::Result<()> {
-    if 0 < depth {
-        line(page, depth - 1)?;
-    }
-    Ok(())
-}
-
-// A new line of a level, behind a comma where it is not the first.
-pub(crate) fn item(page: &mut impl Write, w: Walk, comma: bool, stage: u8) -> io::Result<Walk> {
-    if comma {
-        word(page, b",")?;
-    }
-    line(page, w.depth)?;
-    Ok(at_stage(w, stage))
-}
-
-// A word's list, behind the words before it.
-pub(crate) fn list_word(page: &mut impl Write, w: Walk, name: &[u8]) -> io::Result<()> {
-    if stage_of(w) == WORDS {
-        word(page, b", ")?;
-    }
-    word(page, name)?;
-    word(page, b": [")
-}
-
-// Lists end with the value that is the last of theirs, and as values of the levels round them.
-fn lists_ended(page: &mut impl Write, w: Walk) -> io::Result<Walk> {
-    let mut r = w;
-    let mut depth = r.depth;
-    while 0 < depth && depth < 40 && r.left[depth] == 1 {
-        r.left[depth] = 0;
-        closing_line(page, depth)?;
-        word(page, b"]")?;
-        depth -= 1;
-    }
-    r.depth = depth;
-    if depth < LEVELS {
-        if 0 < r.left[depth] {
-            r.left[depth] -= 1;
+impl Walk {
+    fn at(depth: usize) -> Walk {
+        Walk {
+            depth,
+            levels: [OUTSIDE; LEVELS],
         }
     }
-    Ok(r)
-}
 
-// A value has ended, and with it the pair that it stands in, where pairs are lists.
-pub(crate) fn ended(page: &mut impl Write, w: Walk) -> io::Result<Walk> {
-    let r = lists_ended(page, w)?;
-    if form_of(r) == PAIRS && stage_of(r) == FILLED {
-        word(page, b"]")?;
+    fn level(&self) -> Level {
+        self.levels.get(self.depth).copied().unwrap_or(OUTSIDE)
     }
-    Ok(r)
-}
 
-// The list of the values without a key ends before the first key, or with its container.
-pub(crate) fn keyless_ended(page: &mut impl Write, w: Walk) -> io::Result<Walk> {
-    if stage_of(w) == KEYLESS {
-        closing_line(page, w.depth)?;
-        word(page, b"]")?;
-        return Ok(at_stage(w, WORDS));
+    pub(crate) fn form(&self) -> Form {
+        self.level().form
     }
-    Ok(w)
-}
 
-// An object ends; that it has ended as a value is not said yet.
-fn object_closed(page: &mut impl Write, w: Walk) -> io::Result<Walk> {
-    let mut r = keyless_ended(page, w)?;
-    if stage_of(r) == FILLED {
-        closing_line(page, r.depth)?;
-        if form_of(r) == PAIRS {
-            word(page, b"]")?;
+    pub(crate) fn stage(&self) -> Stage {
+        self.level().stage
+    }
+
+    fn set_stage(&mut self, stage: Stage) {
+        if let Some(level) = self.levels.get_mut(self.depth) {
+            level.stage = stage;
         }
     }
-    word(page, b"}")?;
-    if 0 < r.depth {
-        r.depth -= 1;
+
+    // One of the items that are to come has come.
+    fn count_down(&mut self) {
+        if let Some(level) = self.levels.get_mut(self.depth) {
+            level.left = level.left.saturating_sub(1);
+        }
     }
-    Ok(r)
+
+    pub(crate) fn open(&mut self, level: Level) {
+        if self.depth < LEVELS - 1 {
+            self.depth += 1;
+            self.levels[self.depth] = level;
+        }
+    }
+
+    fn leave(&mut self) {
+        self.depth = self.depth.saturating_sub(1);
+    }
 }
 
-pub(crate) fn closed(page: &mut impl Write, w: Walk) -> io::Result<Walk> {
-    let r = object_closed(page, w)?;
-    ended(page, r)
+impl<'a, W> Printer<'a, W> {
+    pub(crate) fn onto(
+        page: &'a mut W,
+        text: &'a [u8],
+        image: &'a [u8],
+        index: Option<&'a [u8]>,
+        depth: usize,
+    ) -> Printer<'a, W> {
+        Printer {
+            page,
+            text,
+            image,
+            index,
+            walk: Walk::at(depth),
+        }
+    }
+}
+
+impl<W: Write> Printer<'_, W> {
+    fn line(&mut self, depth: usize) -> io::Result<()> {
+        word(self.page, b"\n")?;
+        if depth < LEVELS {
+            spaces(self.page, 2 * depth)?;
+        }
+        Ok(())
+    }
+
+    // The line on which the level's closing bracket stands.
+    fn closing_line(&mut self) -> io::Result<()> {
+        match self.walk.depth.checked_sub(1) {
+            Some(outer) => self.line(outer),
+            None => Ok(()),
+        }
+    }
+
+    // A new line of the level, behind a comma where it is not the first.
+    pub(crate) fn item(&mut self, comma: bool, stage: Stage) -> io::Result<()> {
+        if comma {
+            word(self.page, b",")?;
+        }
+        self.line(self.walk.depth)?;
+        self.walk.set_stage(stage);
+        Ok(())
+    }
+
+    // A word's list, behind the words before it.
+    pub(crate) fn list_word(&mut self, name: &[u8]) -> io::Result<()> {
+        if self.walk.stage() == Stage::Words {
+            word(self.page, b", ")?;
+        }
+        word(self.page, name)?;
+        word(self.page, b": [")
+    }
+
+    // Lists end with the value that is the last of theirs, and as values of the levels round them. No level is deeper than the turns.
+    fn lists_ended(&mut self) -> io::Result<()> {
+        for _ in 0..LEVELS {
+            if self.walk.depth == 0 || self.walk.level().left != 1 {
+                break;
+            }
+            self.closing_line()?;
+            word(self.page, b"]")?;
+            self.walk.leave();
+        }
+        self.walk.count_down();
+        Ok(())
+    }
+
+    // A value has ended, and with it the pair that it stands in, where pairs are lists.
+    pub(crate) fn ended(&mut self) -> io::Result<()> {
+        self.lists_ended()?;
+        if self.walk.form() == Form::Pairs && self.walk.stage() == Stage::Filled {
+            word(self.page, b"]")?;
+        }
+        Ok(())
+    }
+
+    // The list of the values without a key ends before the first key, or with its container.
+    pub(crate) fn keyless_ended(&mut self) -> io::Result<()> {
+        if self.walk.stage() == Stage::Keyless {
+            self.closing_line()?;
+            word(self.page, b"]")?;
+            self.walk.set_stage(Stage::Words);
+        }
+        Ok(())
+    }
+
+    // An object ends; that it has ended as a value is not said yet.
+    fn object_closed(&mut self) -> io::Result<()> {
+        self.keyless_ended()?;
+        if self.walk.stage() == Stage::Filled {
+            self.closing_line()?;
+            if self.walk.form() == Form::Pairs {
+                word(self.page, b"]")?;
+            }
+        }
+        word(self.page, b"}")?;
+        self.walk.leave();
+        Ok(())
+    }
+
+    pub(crate) fn closed(&mut self) -> io::Result<()> {
+        self.object_closed()?;
+        self.ended()
+    }
 }

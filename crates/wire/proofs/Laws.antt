@@ -1,30 +1,49 @@
 -- The laws of the fields, of numbers in bytes and of stores.
-use Rattle.std.specs.Prelude.{◌+◌, ◌-◌, ◌*◌, ◌/◌, ◌%◌, ◌^◌, ◌≤◌, ◌<◌, ◌≡◌, ◌∷◌, ◌++◌, ◌⊎◌}
+use Rattle.std.specs.Prelude.{◌+◌, ◌-◌, ◌*◌, ◌/◌, ◌%◌, ◌^◌, ◌≤◌, ◌<◌, ◌≡◌, ◌∷◌, ◌++◌, ◌⊎◌, Result, Ok, Err}
 use Rattle.wire.proofs.Kit.{ℕ, zero, suc, refl, sym, ap, ◌∙◌, List, [], Bool, true, false}
 use Rattle.wire.proofs.Kit.{inl, inr, add-zero, suc-add, pow-suc, div-one, mod-eq_of_lt, add-one, sub-one, arith, length, get_or, drop, set, length-drop}
-use Rattle.wire.proofs.Kit.{length-append, drop_of_length-le, sets, drop-cons, set_comm, length-sets, leb, eqb, lit<, le-leb, lt-leb, leb-true}
+use Rattle.wire.proofs.Kit.{length-append, sets, drop-cons, set_comm, length-sets, leb, eqb, lit<, le-leb, lt-leb, leb-true}
 use Rattle.wire.proofs.Kit.{leb-false, eq-eqb, eqb-true}
 use native.Mathlib.Nat.{add-suc, pow-succ', one-le-pow, mod-one, div-div-eq-div-mul, mul-add-mod_self_right, mul-add-div_right, mul_assoc}
 use lib.Seq.{take-suc, get_or-drop}
 use lib.Arith.{mod-mul, digits_lt, digits_div}
 use Rattle.wire.specs.declared.cursor.Cursor.{Cursor}
-use Rattle.wire.specs.declared.cursor.Text.{Text}
-use Rattle.wire.specs.declared.cursor.Tag.{Tag}
+use Rattle.wire.specs.Answer.{Verdict, denied}
+use Rattle.wire.specs.declared.cursor.Span.{Span}
 use Rattle.wire.specs.Choice.{pick}
 use Rattle.wire.specs.Number.{digits, number, Bytes, stored}
 use Rattle.wire.specs.Bytes.{laid}
 use Rattle.wire.specs.Utf8.{utf8}
-use Rattle.wire.specs.Field.{bytes_at, number_at, got8, got16, got32, got64, u8_at, u16_at, u24_at, u32_at, u64_at, str_at, text_at, equal, tag_at}
-use Rattle.wire.specs.declared.cursor.U8.TheVariants as U8
-use Rattle.wire.specs.declared.cursor.U16.TheVariants as U16
-use Rattle.wire.specs.declared.cursor.U32.TheVariants as U32
-use Rattle.wire.specs.declared.cursor.U64.TheVariants as U64
+use Rattle.wire.specs.Field.{bytes_at, Parsed, got_to, uint_at, u8_at, u16_at, u32_at, u64_at, str_at, text_at, equal, tag_at}
 
 clash : ◌≡◌ {A = ℕ} 0 1 → ⊥
 clash e = omega arith
 
 pub false_true : false ≡ true → ⊥
 false_true e = clash (cc)
+
+-- ---- what a field holds, and its refusal
+
+-- the same of two that hold something: what they hold, and the places behind
+pub same_ok : {A B : Type 0} {x y : A} → ◌≡◌ {A = Result A B} (Ok x) (Ok y) → x ≡ y
+same_ok e = cc
+
+pub same_err : {A B : Type 0} {x y : B} → ◌≡◌ {A = Result A B} (Err x) (Err y) → x ≡ y
+same_err e = cc
+
+module _ {A : Type 0} {a b : A} {c d : Cursor} (e : got_to a c ≡ got_to b d) where
+  pub same_held : a ≡ b
+  same_held = ap (λ (x : A × Cursor). x.0) (same_ok e)
+
+  pub same_behind : c ≡ d
+  same_behind = ap (λ (x : A × Cursor). x.1) (same_ok e)
+
+module _ {A : Type 0} {a b p q : ℕ} (e : denied {A = A} a p ≡ denied b q) where
+  pub same_answer : a ≡ b
+  same_answer = ap (λ (r : Verdict). r.answer) (same_err e)
+
+  pub same_place : p ≡ q
+  same_place = ap (λ (r : Verdict). r.place) (same_err e)
 
 -- ---- a choice
 
@@ -33,18 +52,6 @@ pick_yes m n a b h = rw (le-leb m n h)
 
 pub pick_no {ℓ} : {A : Type ℓ} (m n : ℕ) (a b : A) → n < m → pick (leb m n) a b ≡ b
 pick_no m n a b h = rw (lt-leb m n h)
-
--- two tests that hold alike
-pub leb_same : (a b c d : ℕ) → (a ≤ b → c ≤ d) → (b < a → d < c) → leb a b ≡ leb c d
-leb_same a b c d f g = go (leb a b) refl
-  where
-    go : (t : Bool) → leb a b ≡ t → t ≡ leb c d
-    go true h = sym (le-leb c d (f (leb-true a b h)))
-    go false h = sym (lt-leb c d (g (leb-false a b h)))
-
--- n more than a place is within what is behind the place
-pub leb_sub : (at n l : ℕ) → at ≤ l → leb n (l - at) ≡ leb (at + n) l
-leb_sub at n l h = leb_same n (l - at) (at + n) l (λ g. omega arith) (λ g. omega arith)
 
 -- what either way of a choice would mean, the choice means
 pub picked {ℓ} : {A : Type ℓ} (P : A → Type 0) (t : Bool) (a b : A) → (t ≡ true → P a) → (t ≡ false → P b) → P (pick t a b)
@@ -65,87 +72,51 @@ pub record Short (w : ℕ) (s : List ℕ) (at a p : ℕ) : Type 0 where
   pub place : p ≡ at
   pub beyond : length s < at + w
 
-abbrev gets : ℕ → ℕ → List ℕ
-gets n p = 0 ∷ n ∷ p ∷ []
+-- the number and the cursor of a field that was read
+read_of : (w : ℕ) (s : List ℕ) (at n : ℕ) (c : Cursor) → uint_at w s at ≡ Ok (n, c) → Read w s at n c
+read_of w s at n c =
+    picked {A = Parsed ℕ} (λ r. r ≡ Ok (n, c) → Read w s at n c) (leb (at + w) (length s)) _ _
+    (λ h e. record { value = sym (same_held e); next = sym (ap (λ (d : Cursor). d.at) (same_behind e)); within = leb-true _ _ h })
+    (λ h e. absurd (clash (cc)))
 
-abbrev stops : ℕ → ℕ → List ℕ
-stops a p = 1 ∷ a ∷ p ∷ []
-
--- Of a type with these two constructors: which of them it is, and of what numbers.
-record Told {A : Type 0} (got : ℕ → Cursor → A) (stop : ℕ → ℕ → A) : Type 0 where
-  tell : A → List ℕ
-  of_got : (n : ℕ) (c : Cursor) → tell (got n c) ≡ gets n c.at
-  of_stop : (a p : ℕ) → tell (stop a p) ≡ stops a p
-
-module _ {A : Type 0} {got : ℕ → Cursor → A} {stop : ℕ → ℕ → A} (t : Told got stop) (w : ℕ) (s : List ℕ) (at : ℕ) where
-  number_read : (n : ℕ) (c : Cursor) → number_at got stop w s at ≡ got n c → Read w s at n c
-  number_read n c =
-      picked (λ r. r ≡ got n c → Read w s at n c) (leb (at + w) (length s)) _ _
-      (λ h e.
-      let q = sym (t.of_got _ _) ∙ ap t.tell e ∙ t.of_got n c in
-      record { value = cc; next = cc; within = leb-true _ _ h })
-      (λ h e.
-      let q = sym (t.of_stop 2 at) ∙ ap t.tell e ∙ t.of_got n c in
-      absurd (clash (cc)))
-
-  number_short : (a p : ℕ) → number_at got stop w s at ≡ stop a p → Short w s at a p
-  number_short a p =
-      picked (λ r. r ≡ stop a p → Short w s at a p) (leb (at + w) (length s)) _ _
-      (λ h e.
-      let q = sym (t.of_got _ _) ∙ ap t.tell e ∙ t.of_stop a p in
-      absurd (clash (cc)))
-      (λ h e.
-      let q = sym (t.of_stop 2 at) ∙ ap t.tell e ∙ t.of_stop a p in
-      record { answer = cc; place = cc; beyond = leb-false _ _ h })
-
-told8 : Told U8.Got U8.Stop
-told8 = record { tell = λ r. got8 stops r gets; of_got = λ n c. refl; of_stop = λ a p. refl }
-
-told16 : Told U16.Got U16.Stop
-told16 = record { tell = λ r. got16 stops r gets; of_got = λ n c. refl; of_stop = λ a p. refl }
-
-told32 : Told U32.Got U32.Stop
-told32 = record { tell = λ r. got32 stops r gets; of_got = λ n c. refl; of_stop = λ a p. refl }
-
-told64 : Told U64.Got U64.Stop
-told64 = record { tell = λ r. got64 stops r gets; of_got = λ n c. refl; of_stop = λ a p. refl }
+short_of : (w : ℕ) (s : List ℕ) (at a p : ℕ) → uint_at w s at ≡ denied a p → Short w s at a p
+short_of w s at a p =
+    picked {A = Parsed ℕ} (λ r. r ≡ denied a p → Short w s at a p) (leb (at + w) (length s)) _ _
+    (λ h e. absurd (clash (cc)))
+    (λ h e. record { answer = sym (same_answer e); place = sym (same_place e); beyond = leb-false _ _ h })
 
 module _ (s : List ℕ) (at : ℕ) where
-  pub u8_next : (n : ℕ) (c : Cursor) → u8_at s at ≡ U8.Got n c → Read 1 s at n c
+  pub u8_next : (n : ℕ) (c : Cursor) → u8_at s at ≡ Ok (n, c) → Read 1 s at n c
   unfolding u8_at
-  u8_next = number_read told8 1 s at
+  u8_next = read_of 1 s at
 
-  pub u8_stop : (a p : ℕ) → u8_at s at ≡ U8.Stop a p → Short 1 s at a p
+  pub u8_stop : (a p : ℕ) → u8_at s at ≡ denied a p → Short 1 s at a p
   unfolding u8_at
-  u8_stop = number_short told8 1 s at
+  u8_stop = short_of 1 s at
 
-  pub u16_next : (n : ℕ) (c : Cursor) → u16_at s at ≡ U16.Got n c → Read 2 s at n c
+  pub u16_next : (n : ℕ) (c : Cursor) → u16_at s at ≡ Ok (n, c) → Read 2 s at n c
   unfolding u16_at
-  u16_next = number_read told16 2 s at
+  u16_next = read_of 2 s at
 
-  pub u16_stop : (a p : ℕ) → u16_at s at ≡ U16.Stop a p → Short 2 s at a p
+  pub u16_stop : (a p : ℕ) → u16_at s at ≡ denied a p → Short 2 s at a p
   unfolding u16_at
-  u16_stop = number_short told16 2 s at
+  u16_stop = short_of 2 s at
 
-  pub u24_next : (n : ℕ) (c : Cursor) → u24_at s at ≡ U32.Got n c → Read 3 s at n c
-  unfolding u24_at
-  u24_next = number_read told32 3 s at
-
-  pub u32_next : (n : ℕ) (c : Cursor) → u32_at s at ≡ U32.Got n c → Read 4 s at n c
+  pub u32_next : (n : ℕ) (c : Cursor) → u32_at s at ≡ Ok (n, c) → Read 4 s at n c
   unfolding u32_at
-  u32_next = number_read told32 4 s at
+  u32_next = read_of 4 s at
 
-  pub u32_stop : (a p : ℕ) → u32_at s at ≡ U32.Stop a p → Short 4 s at a p
+  pub u32_stop : (a p : ℕ) → u32_at s at ≡ denied a p → Short 4 s at a p
   unfolding u32_at
-  u32_stop = number_short told32 4 s at
+  u32_stop = short_of 4 s at
 
-  pub u64_next : (n : ℕ) (c : Cursor) → u64_at s at ≡ U64.Got n c → Read 8 s at n c
+  pub u64_next : (n : ℕ) (c : Cursor) → u64_at s at ≡ Ok (n, c) → Read 8 s at n c
   unfolding u64_at
-  u64_next = number_read told64 8 s at
+  u64_next = read_of 8 s at
 
-  pub u64_stop : (a p : ℕ) → u64_at s at ≡ U64.Stop a p → Short 8 s at a p
+  pub u64_stop : (a p : ℕ) → u64_at s at ≡ denied a p → Short 8 s at a p
   unfolding u64_at
-  u64_stop = number_short told64 8 s at
+  u64_stop = short_of 8 s at
 
 -- ---- texts and fixed bytes
 
@@ -176,69 +147,77 @@ refused_right : (s : List ℕ) (at p a : ℕ) → a ≡ 3 → p ≡ at → at �
 refused_right s at p a e f h = record { answer = inr e; from = omega arith; within = omega arith }
 
 module _ (s : List ℕ) (at : ℕ) where
-  pub str_next : (n p m : ℕ) (c : Cursor) → str_at n s at ≡ Text.Got p m c → Said s at n p m c
+  pub str_next : (n p m : ℕ) (c : Cursor) → str_at n s at ≡ Ok (record { place = p; length = m }, c) → Said s at n p m c
   unfolding str_at
   str_next n p m c =
-      let P : Text → Type 0 = λ r. r ≡ Text.Got p m c → Said s at n p m c in
+      let P : Parsed Span → Type 0 = λ r. r ≡ Ok (record { place = p; length = m }, c) → Said s at n p m c in
       picked P (leb (at + n) (length s)) _ _
       (λ h. picked P (utf8 (bytes_at n s at)) _ _
-      (λ u e. record { place = cc; size = cc; right = u; next = ap (λ (d : Cursor). d.at) (cc); within = leb-true _ _ h })
+      (λ u e.
+      let held = sym (same_held e) in
+      record {
+        place = ap (λ (t : Span). t.place) held;
+        size = ap (λ (t : Span). t.length) held;
+        right = u;
+        next = sym (ap (λ (d : Cursor). d.at) (same_behind e));
+        within = leb-true _ _ h;
+      })
       (λ u e. absurd (clash (cc))))
       (λ h e. absurd (clash (cc)))
 
-  pub str_stop : (n a p : ℕ) → str_at n s at ≡ Text.Stop a p → at ≤ length s → Refused s at a p
+  pub str_stop : (n a p : ℕ) → str_at n s at ≡ denied a p → at ≤ length s → Refused s at a p
   unfolding str_at
   str_stop n a p =
-      let P : Text → Type 0 = λ r. r ≡ Text.Stop a p → at ≤ length s → Refused s at a p in
+      let P : Parsed Span → Type 0 = λ r. r ≡ denied a p → at ≤ length s → Refused s at a p in
       picked P (leb (at + n) (length s)) _ _
       (λ h. picked P (utf8 (bytes_at n s at)) _ _
       (λ u e. absurd (clash (cc)))
-      (λ u e. refused_right s at p a (cc) (cc)))
-      (λ h e. refused_whole s at p a (cc) (cc))
+      (λ u e. refused_right s at p a (sym (same_answer e)) (sym (same_place e))))
+      (λ h e. refused_whole s at p a (sym (same_answer e)) (sym (same_place e)))
 
-  pub tag_next : (fixed : List ℕ) (c : Cursor) → tag_at fixed s at ≡ Tag.Past c → Passed fixed s at c
+  pub tag_next : (fixed : List ℕ) (c : Cursor) → tag_at fixed s at ≡ Ok c → Passed fixed s at c
   unfolding tag_at
   tag_next fixed c =
-      let P : Tag → Type 0 = λ r. r ≡ Tag.Past c → Passed fixed s at c in
+      let P : Result Cursor Verdict → Type 0 = λ r. r ≡ Ok c → Passed fixed s at c in
       picked P (leb (at + length fixed) (length s)) _ _
       (λ h. picked P (equal (bytes_at (length fixed) s at) fixed) _ _
       (λ u e. record { right = u; next = ap (λ (d : Cursor). d.at) (cc); within = leb-true _ _ h })
       (λ u e. absurd (clash (cc))))
       (λ h e. absurd (clash (cc)))
 
-  pub tag_stop : (fixed : List ℕ) (a p : ℕ) → tag_at fixed s at ≡ Tag.Stop a p → at ≤ length s → Refused s at a p
+  pub tag_stop : (fixed : List ℕ) (a p : ℕ) → tag_at fixed s at ≡ denied a p → at ≤ length s → Refused s at a p
   unfolding tag_at
   tag_stop fixed a p =
-      let P : Tag → Type 0 = λ r. r ≡ Tag.Stop a p → at ≤ length s → Refused s at a p in
+      let P : Result Cursor Verdict → Type 0 = λ r. r ≡ denied a p → at ≤ length s → Refused s at a p in
       picked P (leb (at + length fixed) (length s)) _ _
       (λ h. picked P (equal (bytes_at (length fixed) s at) fixed) _ _
       (λ u e. absurd (clash (cc)))
-      (λ u e. refused_right s at p a (cc) (cc)))
-      (λ h e. refused_whole s at p a (cc) (cc))
+      (λ u e. refused_right s at p a (sym (same_answer e)) (sym (same_place e))))
+      (λ h e. refused_whole s at p a (sym (same_answer e)) (sym (same_place e)))
 
 module _ (w : ℕ) (s : List ℕ) (at : ℕ) where
-  pub text_next : (p n : ℕ) (c : Cursor) → text_at w s at ≡ Text.Got p n c → Said s (at + w) (number (bytes_at w s at)) p n c
+  pub text_next : (p n : ℕ) (c : Cursor) → text_at w s at ≡ Ok (record { place = p; length = n }, c) → Said s (at + w) (number (bytes_at w s at)) p n c
   unfolding text_at
   text_next p n c =
-      picked (λ r. r ≡ Text.Got p n c → Said s (at + w) (number (bytes_at w s at)) p n c) (leb (at + w) (length s)) _ _
+      picked (λ r. r ≡ Ok (record { place = p; length = n }, c) → Said s (at + w) (number (bytes_at w s at)) p n c) (leb (at + w) (length s)) _ _
       (λ h e. str_next s (at + w) _ p n c e)
       (λ h e. absurd (clash (cc)))
 
-  pub text_stop : (a p : ℕ) → text_at w s at ≡ Text.Stop a p → at ≤ length s → Refused s at a p
+  pub text_stop : (a p : ℕ) → text_at w s at ≡ denied a p → at ≤ length s → Refused s at a p
   unfolding text_at
   text_stop a p =
-      picked (λ r. r ≡ Text.Stop a p → at ≤ length s → Refused s at a p) (leb (at + w) (length s)) _ _
+      picked (λ r. r ≡ denied a p → at ≤ length s → Refused s at a p) (leb (at + w) (length s)) _ _
       (λ h e g.
       let r = str_stop s (at + w) _ a p e (leb-true _ _ h) in
       record { answer = r.answer; from = omega arith; within = r.within })
-      (λ h e. refused_whole s at p a (cc) (cc))
+      (λ h e. refused_whole s at p a (sym (same_answer e)) (sym (same_place e)))
 
   -- a text goes on from its length, or stops where that does
   pub text_of : (n : ℕ) (c : Cursor) → Read w s at n c → text_at w s at ≡ str_at n s c.at
   unfolding text_at
   text_of n c r = pick_yes (at + w) (length s) _ _ r.within ∙ rw (r.value, r.next)
 
-  pub text_cut : (a p : ℕ) → Short w s at a p → text_at w s at ≡ Text.Stop a p
+  pub text_cut : (a p : ℕ) → Short w s at a p → text_at w s at ≡ denied a p
   unfolding text_at
   text_cut a p r = pick_no (at + w) (length s) _ _ r.beyond ∙ rw (r.answer, r.place)
 
@@ -337,9 +316,6 @@ module _ (w n at : ℕ) (out : List ℕ) where
   pub stored_room : at + w ≤ length out → (true ≡ leb (at + w) (length out)) × (sets out at (digits w n) ≡ stored w n at out)
   stored_room h = (sym (le-leb _ _ h), sym (pick_yes (at + w) (length out) _ _ h))
 
-  pub stored_none : length out < at + w → (false ≡ leb (at + w) (length out)) × (out ≡ stored w n at out)
-  stored_none h = (sym (lt-leb _ _ h), sym (pick_no (at + w) (length out) _ _ h))
-
 -- a row laid where it has room, and where it has none
 module _ (b : List ℕ) (at : ℕ) (out : List ℕ) where
   pub laid_room : at + length b ≤ length out → laid b at out ≡ sets out at b
@@ -350,11 +326,3 @@ module _ (b : List ℕ) (at : ℕ) (out : List ℕ) where
 
   pub length_laid : length (laid b at out) ≡ length out
   length_laid = picked (λ (x : List ℕ). length x ≡ length out) (leb (at + length b) (length out)) _ _ (λ h. length-sets out at b) (λ h. refl)
-
--- a row stored byte by byte
-module _ (l : List ℕ) (at : ℕ) (row : List ℕ) (i : ℕ) where
-  pub sets_next : i < length row → sets l (at + i) (drop i row) ≡ sets (set l (at + i) (get_or row i 0)) (at + (i + 1)) (drop (i + 1) row)
-  sets_next h = rw (drop-cons row i 0 h, add-one i, add-suc at i)
-
-  pub sets_done : length row ≤ i → sets l (at + i) (drop i row) ≡ l
-  sets_done h = rw (drop_of_length-le row h)

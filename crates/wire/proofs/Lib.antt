@@ -1,4 +1,5 @@
 pub mod Laws
+pub mod Same
 pub mod Decimal
 pub mod Stands
 pub mod Rfc3629

@@ -1,20 +1,16 @@
 -- Fields against the bytes that stand in the input: what stands there is read, and what was read stood there.
-use Rattle.std.specs.Prelude.{◌+◌, ◌^◌, ◌≤◌, ◌<◌, ◌≡◌, ◌∷◌, ◌++◌}
+use Rattle.std.specs.Prelude.{◌+◌, ◌^◌, ◌≤◌, ◌<◌, ◌≡◌, ◌∷◌, ◌++◌, Ok}
 use Rattle.wire.proofs.Kit.{ℕ, zero, suc, refl, sym, ap, ap₂, ◌∙◌, List, [], append_assoc, Bool, true, false}
 use Rattle.wire.proofs.Kit.{add_assoc, add-one, arith, length, take, drop, length-append, length-drop, take-append-drop, get_or, drop-cons, take_at}
 use Rattle.wire.proofs.Kit.{drop_at, drop-drop, length-take-le, take-append-le, drop-append-le, take-append_seam, leb, eqb, le-leb, lt-leb, eq-eqb}
 use Rattle.wire.proofs.Kit.{leb-true, leb-false, eqb-true}
 use lib.Seq.{drop-append-add}
 use Rattle.wire.specs.declared.cursor.Cursor.{Cursor}
-use Rattle.wire.specs.declared.cursor.U8.{U8}
-use Rattle.wire.specs.declared.cursor.U16.{U16}
-use Rattle.wire.specs.declared.cursor.U32.{U32}
-use Rattle.wire.specs.declared.cursor.U64.{U64}
-use Rattle.wire.specs.declared.cursor.Text.{Text}
-use Rattle.wire.specs.declared.cursor.Tag.TheVariants as Tag
+use Rattle.wire.specs.declared.cursor.Span.{Span}
+use Rattle.wire.specs.Answer.{denied}
 use Rattle.wire.specs.Number.{digits, number, Bytes}
 use Rattle.wire.specs.Utf8.{utf8}
-use Rattle.wire.specs.Field.{to, bytes_at, number_at, u8_at, u16_at, u24_at, u32_at, u64_at, str_at, text_at, equal, tag_at, got8, got16, got32, got64, got_text}
+use Rattle.wire.specs.Field.{to, bytes_at, Parsed, got_at, uint_at, u8_at, u16_at, u24_at, u32_at, u64_at, str_at, text_at, equal, tag_at, got, got_text}
 use Rattle.wire.proofs.Laws.{picked, Read, u16_next, tag_next, length_digits, number_digits, number_bound, digits_number}
 
 -- ---- a row of bytes at a place
@@ -81,45 +77,44 @@ bytes_here {s} {x} {r} {at} h b = bytes_left x r (rw h.same at (bytes_drop at s 
 
 -- ---- what stands there is read
 
-module _ {A : Type 0} (got : ℕ → Cursor → A) (stop : ℕ → ℕ → A) where
-  row_at : {s x r : List ℕ} {at : ℕ} (w : ℕ) → Here s at x r → length x ≡ w → 1 ≤ w → number_at got stop w s at ≡ got (number x) (to (at + w))
-  row_at {s} {at} w h l p = rw (le-leb (at + w) (length s) (omega (arith, inside h (omega arith))), there w h l)
+row_at : {s x r : List ℕ} {at : ℕ} (w : ℕ) → Here s at x r → length x ≡ w → 1 ≤ w → uint_at w s at ≡ got_at (number x) (at + w)
+row_at {s} {at} w h l p = rw (le-leb (at + w) (length s) (omega (arith, inside h (omega arith))), there w h l)
 
-  number_at_lem : {s r : List ℕ} {at : ℕ} (w n : ℕ) → Here s at (digits w n) r → n < 256 ^ w → 1 ≤ w → number_at got stop w s at ≡ got n (to (at + w))
-  number_at_lem {at} w n h b p = row_at w h (length_digits w n) p ∙ ap (λ m. got m (to (at + w))) (number_digits w n b)
+uint_at_lem : {s r : List ℕ} {at : ℕ} (w n : ℕ) → Here s at (digits w n) r → n < 256 ^ w → 1 ≤ w → uint_at w s at ≡ got_at n (at + w)
+uint_at_lem {at} w n h b p = row_at w h (length_digits w n) p ∙ ap (λ m. got_at m (at + w)) (number_digits w n b)
 
 module _ {s r : List ℕ} {at : ℕ} where
   -- any byte, a number of no bound
-  pub byte_at : (b : ℕ) → Here s at (b ∷ []) r → u8_at s at ≡ U8.Got b (to (at + 1))
+  pub byte_at : (b : ℕ) → Here s at (b ∷ []) r → u8_at s at ≡ got_at b (at + 1)
   unfolding u8_at
-  byte_at b h = row_at U8.Got U8.Stop 1 h refl (omega arith) ∙ ap (λ m. U8.Got m (to (at + 1))) (omega arith)
+  byte_at b h = row_at 1 h refl (omega arith) ∙ ap (λ m. got_at m (at + 1)) (omega arith)
 
-  pub u8_at_lem : (n : ℕ) → Here s at (digits 1 n) r → n < 256 ^ 1 → u8_at s at ≡ U8.Got n (to (at + 1))
+  pub u8_at_lem : (n : ℕ) → Here s at (digits 1 n) r → n < 256 ^ 1 → u8_at s at ≡ got_at n (at + 1)
   unfolding u8_at
-  u8_at_lem n h b = number_at_lem U8.Got U8.Stop 1 n h b (omega arith)
+  u8_at_lem n h b = uint_at_lem 1 n h b (omega arith)
 
-  pub u16_at_lem : (n : ℕ) → Here s at (digits 2 n) r → n < 256 ^ 2 → u16_at s at ≡ U16.Got n (to (at + 2))
+  pub u16_at_lem : (n : ℕ) → Here s at (digits 2 n) r → n < 256 ^ 2 → u16_at s at ≡ got_at n (at + 2)
   unfolding u16_at
-  u16_at_lem n h b = number_at_lem U16.Got U16.Stop 2 n h b (omega arith)
+  u16_at_lem n h b = uint_at_lem 2 n h b (omega arith)
 
-  pub u24_at_lem : (n : ℕ) → Here s at (digits 3 n) r → n < 256 ^ 3 → u24_at s at ≡ U32.Got n (to (at + 3))
+  pub u24_at_lem : (n : ℕ) → Here s at (digits 3 n) r → n < 256 ^ 3 → u24_at s at ≡ got_at n (at + 3)
   unfolding u24_at
-  u24_at_lem n h b = number_at_lem U32.Got U32.Stop 3 n h b (omega arith)
+  u24_at_lem n h b = uint_at_lem 3 n h b (omega arith)
 
-  pub u32_at_lem : (n : ℕ) → Here s at (digits 4 n) r → n < 256 ^ 4 → u32_at s at ≡ U32.Got n (to (at + 4))
+  pub u32_at_lem : (n : ℕ) → Here s at (digits 4 n) r → n < 256 ^ 4 → u32_at s at ≡ got_at n (at + 4)
   unfolding u32_at
-  u32_at_lem n h b = number_at_lem U32.Got U32.Stop 4 n h b (omega arith)
+  u32_at_lem n h b = uint_at_lem 4 n h b (omega arith)
 
-  pub u64_at_lem : (n : ℕ) → Here s at (digits 8 n) r → n < 256 ^ 8 → u64_at s at ≡ U64.Got n (to (at + 8))
+  pub u64_at_lem : (n : ℕ) → Here s at (digits 8 n) r → n < 256 ^ 8 → u64_at s at ≡ got_at n (at + 8)
   unfolding u64_at
-  u64_at_lem n h b = number_at_lem U64.Got U64.Stop 8 n h b (omega arith)
+  u64_at_lem n h b = uint_at_lem 8 n h b (omega arith)
 
-  pub str_at_lem : (t : List ℕ) → Here s at t r → at + length t ≤ length s → utf8 t ≡ true → str_at (length t) s at ≡ Text.Got at (length t) (to (at + length t))
+  pub str_at_lem : (t : List ℕ) → Here s at t r → at + length t ≤ length s → utf8 t ≡ true → str_at (length t) s at ≡ got_at (record { place = at; length = length t }) (at + length t)
   unfolding str_at
   str_at_lem t h f u = rw (le-leb (at + length t) (length s) f, there (length t) h refl, u)
 
 pub text_at_lem : {s r : List ℕ} {at : ℕ} (w : ℕ) (t : List ℕ) → Here s at (digits w (length t) ++ t) r → length t < 256 ^ w → utf8 t ≡ true → 1 ≤ w
-    → text_at w s at ≡ Text.Got (at + w) (length t) (to (at + w + length t))
+    → text_at w s at ≡ got_at (record { place = at + w; length = length t }) (at + w + length t)
 unfolding text_at
 text_at_lem {s} {r} {at} w t h b u p =
     let d : Here s at (digits w (length t)) (t ++ r) = cut (digits w (length t)) t h in
@@ -131,7 +126,7 @@ equal_refl : (x : List ℕ) → equal x x ≡ true
 equal_refl [] = refl
 equal_refl (a ∷ x) = rw (eq-eqb a a refl) (equal_refl x)
 
-pub tag_at_lem : {s r : List ℕ} {at : ℕ} (fixed : List ℕ) → Here s at fixed r → 1 ≤ length fixed → tag_at fixed s at ≡ Tag.Past (to (at + length fixed))
+pub tag_at_lem : {s r : List ℕ} {at : ℕ} (fixed : List ℕ) → Here s at fixed r → 1 ≤ length fixed → tag_at fixed s at ≡ Ok (to (at + length fixed))
 unfolding tag_at
 tag_at_lem {s} {at} fixed h p = rw (le-leb (at + length fixed) (length s) (inside h p), there (length fixed) h refl, equal_refl fixed)
 
@@ -171,7 +166,7 @@ module _ (s : List ℕ) (bs : Bytes s) (at : ℕ) where
   read_ends : (w n : ℕ) (c : Cursor) → Read w s at n c → Stood w s at n
   read_ends w n c r = rw r.value (number_stood w r.within)
 
-  pub u16_ends : (n : ℕ) (c : Cursor) → u16_at s at ≡ U16.Got n c → Stood 2 s at n
+  pub u16_ends : (n : ℕ) (c : Cursor) → u16_at s at ≡ Ok (n, c) → Stood 2 s at n
   u16_ends n c e = read_ends 2 n c (u16_next s at n c e)
 
 equal_same : (x y : List ℕ) → equal x y ≡ true → x ≡ y
@@ -182,7 +177,7 @@ equal_same (a ∷ x) (b ∷ y) f =
     picked (λ t. t ≡ true → a ∷ x ≡ b ∷ y) (eqb a b) _ _ (λ h e. ap₂ ◌∷◌ (eqb-true a b h) (equal_same x y e))
     (λ h e. let z : ◌≡◌ {A = ℕ} 0 1 = cc in absurd (omega arith)) f
 
-pub tag_ends : (fixed s : List ℕ) (at : ℕ) (c : Cursor) → tag_at fixed s at ≡ Tag.Past c → Here s at fixed (drop (at + length fixed) s)
+pub tag_ends : (fixed s : List ℕ) (at : ℕ) (c : Cursor) → tag_at fixed s at ≡ Ok c → Here s at fixed (drop (at + length fixed) s)
 tag_ends fixed s at c e =
     let r = tag_next s at fixed c e in
     let same : bytes_at (length fixed) s at ≡ fixed = equal_same (bytes_at (length fixed) s at) fixed r.right in
@@ -190,9 +185,9 @@ tag_ends fixed s at c e =
 
 -- ---- a field has two ends, a text four
 
-module _ {N : Type 0} (got : ℕ → Cursor → N) (stop : ℕ → ℕ → N) (w : ℕ) (s : List ℕ) (at : ℕ) where
-  number_case : (Q : N → Type 0) → (at + w ≤ length s → Q (got (number (bytes_at w s at)) (to (at + w)))) → (length s < at + w → Q (stop 2 at))
-      → Q (number_at got stop w s at)
+module _ (w : ℕ) (s : List ℕ) (at : ℕ) where
+  number_case : (Q : Parsed ℕ → Type 0) → (at + w ≤ length s → Q (got_at (number (bytes_at w s at)) (at + w))) → (length s < at + w → Q (denied 2 at))
+      → Q (uint_at w s at)
   number_case Q is out = picked Q (leb (at + w) (length s)) _ _ (λ h. is (leb-true _ _ h)) (λ h. out (leb-false _ _ h))
 
 module _ (s : List ℕ) (at : ℕ) where
@@ -200,26 +195,26 @@ module _ (s : List ℕ) (at : ℕ) where
   byte_number h = ap number (there 1 (byte_stood s at h) refl) ∙ omega arith
 
 module _ {A : Type 0} (P : A → Type 0) (stop : ℕ → ℕ → A) (s : List ℕ) (at : ℕ) where
-  pub go8 : (k : ℕ → ℕ → A) → (at < length s → P (k (get_or s at 0) (at + 1))) → (length s ≤ at → P (stop 2 at)) → P (got8 stop (u8_at s at) k)
+  pub go8 : (k : ℕ → ℕ → A) → (at < length s → P (k (get_or s at 0) (at + 1))) → (length s ≤ at → P (stop 2 at)) → P (got stop (u8_at s at) k)
   unfolding u8_at
   go8 k is out =
-      number_case U8.Got U8.Stop 1 s at (λ u. P (got8 stop u k)) (λ h. let l : at < length s = omega arith in rw (byte_number s at l) (is l))
+      number_case 1 s at (λ u. P (got stop u k)) (λ h. let l : at < length s = omega arith in rw (byte_number s at l) (is l))
       (λ h. out (omega arith))
 
   pub go16 : (k : ℕ → ℕ → A) → (at + 2 ≤ length s → P (k (number (bytes_at 2 s at)) (at + 2))) → (length s < at + 2 → P (stop 2 at))
-      → P (got16 stop (u16_at s at) k)
+      → P (got stop (u16_at s at) k)
   unfolding u16_at
-  go16 k = number_case U16.Got U16.Stop 2 s at (λ u. P (got16 stop u k))
+  go16 k = number_case 2 s at (λ u. P (got stop u k))
 
   pub go32 : (k : ℕ → ℕ → A) → (at + 4 ≤ length s → P (k (number (bytes_at 4 s at)) (at + 4))) → (length s < at + 4 → P (stop 2 at))
-      → P (got32 stop (u32_at s at) k)
+      → P (got stop (u32_at s at) k)
   unfolding u32_at
-  go32 k = number_case U32.Got U32.Stop 4 s at (λ u. P (got32 stop u k))
+  go32 k = number_case 4 s at (λ u. P (got stop u k))
 
   pub go64 : (k : ℕ → ℕ → A) → (at + 8 ≤ length s → P (k (number (bytes_at 8 s at)) (at + 8))) → (length s < at + 8 → P (stop 2 at))
-      → P (got64 stop (u64_at s at) k)
+      → P (got stop (u64_at s at) k)
   unfolding u64_at
-  go64 k = number_case U64.Got U64.Stop 8 s at (λ u. P (got64 stop u k))
+  go64 k = number_case 8 s at (λ u. P (got stop u k))
 
   pub go_text : (w : ℕ) (k : ℕ → ℕ → ℕ → A)
       → ((n : ℕ) → n ≡ number (bytes_at w s at) → at + w + n ≤ length s → utf8 (bytes_at n s (at + w)) ≡ true → P (k (at + w) n (at + w + n)))
@@ -230,7 +225,7 @@ module _ {A : Type 0} (P : A → Type 0) (stop : ℕ → ℕ → A) (s : List �
   unfolding text_at str_at
   go_text w k is short cut_off wrong =
       let n : ℕ = number (bytes_at w s at) in
-      let Q : Text → Type 0 = λ u. P (got_text stop u k) in
+      let Q : Parsed Span → Type 0 = λ u. P (got_text stop u k) in
       picked Q (leb (at + w) (length s)) _ _
       (λ h. picked Q (leb (at + w + n) (length s)) _ _
       (λ i. picked Q (utf8 (bytes_at n s (at + w))) _ _ (is n refl (leb-true _ _ i)) (wrong n refl (leb-true _ _ i)))
@@ -240,16 +235,16 @@ module _ {A : Type 0} (P : A → Type 0) (stop : ℕ → ℕ → A) (s : List �
 -- ---- what comes of a field, of an input that is bytes: of what stood there, or of a refusal
 
 module _ {A : Type 0} (P : A → Type 0) (stop : ℕ → ℕ → A) (halts : (a p : ℕ) → P (stop a p)) (s : List ℕ) (bs : Bytes s) (at : ℕ) where
-  pub end8 : (k : ℕ → ℕ → A) → ((b : ℕ) → Here s at (b ∷ []) (drop (at + 1) s) → P (k b (at + 1))) → P (got8 stop (u8_at s at) k)
+  pub end8 : (k : ℕ → ℕ → A) → ((b : ℕ) → Here s at (b ∷ []) (drop (at + 1) s) → P (k b (at + 1))) → P (got stop (u8_at s at) k)
   end8 k g = go8 P stop s at k (λ l. g _ (byte_stood s at l)) (λ l. halts 2 at)
 
-  pub end16 : (k : ℕ → ℕ → A) → ((n : ℕ) → Stood 2 s at n → P (k n (at + 2))) → P (got16 stop (u16_at s at) k)
+  pub end16 : (k : ℕ → ℕ → A) → ((n : ℕ) → Stood 2 s at n → P (k n (at + 2))) → P (got stop (u16_at s at) k)
   end16 k g = go16 P stop s at k (λ l. g _ (number_stood s bs at 2 l)) (λ l. halts 2 at)
 
-  pub end32 : (k : ℕ → ℕ → A) → ((n : ℕ) → Stood 4 s at n → P (k n (at + 4))) → P (got32 stop (u32_at s at) k)
+  pub end32 : (k : ℕ → ℕ → A) → ((n : ℕ) → Stood 4 s at n → P (k n (at + 4))) → P (got stop (u32_at s at) k)
   end32 k g = go32 P stop s at k (λ l. g _ (number_stood s bs at 4 l)) (λ l. halts 2 at)
 
-  pub end64 : (k : ℕ → ℕ → A) → ((n : ℕ) → Stood 8 s at n → P (k n (at + 8))) → P (got64 stop (u64_at s at) k)
+  pub end64 : (k : ℕ → ℕ → A) → ((n : ℕ) → Stood 8 s at n → P (k n (at + 8))) → P (got stop (u64_at s at) k)
   end64 k g = go64 P stop s at k (λ l. g _ (number_stood s bs at 8 l)) (λ l. halts 2 at)
 
   pub end_text : (w : ℕ) (k : ℕ → ℕ → ℕ → A)
@@ -281,39 +276,39 @@ module _ (x s : List ℕ) (at : ℕ) where
   pub bytes_both : (w : ℕ) → bytes_at w (x ++ s) (length x + at) ≡ bytes_at w s at
   bytes_both w = ap (take w) (drop-append-add x s at)
 
-module _ {N : Type 0} (got : ℕ → Cursor → N) (stop : ℕ → ℕ → N) (w : ℕ) (x s : List ℕ) (at : ℕ) where
-  number_both : (Q : N → N → Type 0)
-      → (at + w ≤ length s → Q (got (number (bytes_at w s at)) (to (length x + (at + w)))) (got (number (bytes_at w s at)) (to (at + w))))
-      → (length s < at + w → Q (stop 2 (length x + at)) (stop 2 at)) → Q (number_at got stop w (x ++ s) (length x + at)) (number_at got stop w s at)
+module _ (w : ℕ) (x s : List ℕ) (at : ℕ) where
+  number_both : (Q : Parsed ℕ → Parsed ℕ → Type 0)
+      → (at + w ≤ length s → Q (got_at (number (bytes_at w s at)) (length x + (at + w))) (got_at (number (bytes_at w s at)) (at + w)))
+      → (length s < at + w → Q (denied 2 (length x + at)) (denied 2 at)) → Q (uint_at w (x ++ s) (length x + at)) (uint_at w s at)
   number_both Q is out =
-      number_case got stop w s at (Q (number_at got stop w (x ++ s) (length x + at)))
+      number_case w s at (Q (uint_at w (x ++ s) (length x + at)))
       (λ h. rw (fit_both x s at w h, bytes_both x s at w, add_assoc (length x) at w) (is h)) (λ h. rw (out_both x s at w h) (out h))
 
 module _ {A B : Type 0} (P : A → B → Type 0) (stop : ℕ → ℕ → A) (halt : ℕ → ℕ → B) (x s : List ℕ) (at : ℕ) where
   pub both8 : (k : ℕ → ℕ → A) (l : ℕ → ℕ → B) → (at < length s → P (k (get_or s at 0) (length x + (at + 1))) (l (get_or s at 0) (at + 1)))
-      → (length s ≤ at → P (stop 2 (length x + at)) (halt 2 at)) → P (got8 stop (u8_at (x ++ s) (length x + at)) k) (got8 halt (u8_at s at) l)
+      → (length s ≤ at → P (stop 2 (length x + at)) (halt 2 at)) → P (got stop (u8_at (x ++ s) (length x + at)) k) (got halt (u8_at s at) l)
   unfolding u8_at
   both8 k l is out =
-      number_both U8.Got U8.Stop 1 x s at (λ u v. P (got8 stop u k) (got8 halt v l))
+      number_both 1 x s at (λ u v. P (got stop u k) (got halt v l))
       (λ h. let l : at < length s = omega arith in rw (byte_number s at l) (is l)) (λ h. out (omega arith))
 
   pub both16 : (k : ℕ → ℕ → A) (l : ℕ → ℕ → B)
       → (at + 2 ≤ length s → P (k (number (bytes_at 2 s at)) (length x + (at + 2))) (l (number (bytes_at 2 s at)) (at + 2)))
-      → (length s < at + 2 → P (stop 2 (length x + at)) (halt 2 at)) → P (got16 stop (u16_at (x ++ s) (length x + at)) k) (got16 halt (u16_at s at) l)
+      → (length s < at + 2 → P (stop 2 (length x + at)) (halt 2 at)) → P (got stop (u16_at (x ++ s) (length x + at)) k) (got halt (u16_at s at) l)
   unfolding u16_at
-  both16 k l = number_both U16.Got U16.Stop 2 x s at (λ u v. P (got16 stop u k) (got16 halt v l))
+  both16 k l = number_both 2 x s at (λ u v. P (got stop u k) (got halt v l))
 
   pub both32 : (k : ℕ → ℕ → A) (l : ℕ → ℕ → B)
       → (at + 4 ≤ length s → P (k (number (bytes_at 4 s at)) (length x + (at + 4))) (l (number (bytes_at 4 s at)) (at + 4)))
-      → (length s < at + 4 → P (stop 2 (length x + at)) (halt 2 at)) → P (got32 stop (u32_at (x ++ s) (length x + at)) k) (got32 halt (u32_at s at) l)
+      → (length s < at + 4 → P (stop 2 (length x + at)) (halt 2 at)) → P (got stop (u32_at (x ++ s) (length x + at)) k) (got halt (u32_at s at) l)
   unfolding u32_at
-  both32 k l = number_both U32.Got U32.Stop 4 x s at (λ u v. P (got32 stop u k) (got32 halt v l))
+  both32 k l = number_both 4 x s at (λ u v. P (got stop u k) (got halt v l))
 
   pub both64 : (k : ℕ → ℕ → A) (l : ℕ → ℕ → B)
       → (at + 8 ≤ length s → P (k (number (bytes_at 8 s at)) (length x + (at + 8))) (l (number (bytes_at 8 s at)) (at + 8)))
-      → (length s < at + 8 → P (stop 2 (length x + at)) (halt 2 at)) → P (got64 stop (u64_at (x ++ s) (length x + at)) k) (got64 halt (u64_at s at) l)
+      → (length s < at + 8 → P (stop 2 (length x + at)) (halt 2 at)) → P (got stop (u64_at (x ++ s) (length x + at)) k) (got halt (u64_at s at) l)
   unfolding u64_at
-  both64 k l = number_both U64.Got U64.Stop 8 x s at (λ u v. P (got64 stop u k) (got64 halt v l))
+  both64 k l = number_both 8 x s at (λ u v. P (got stop u k) (got halt v l))
 
   pub both_text : (w : ℕ) (k : ℕ → ℕ → ℕ → A) (l : ℕ → ℕ → ℕ → B)
       → ((n : ℕ) → at + w + n ≤ length s → P (k (length x + (at + w)) n (length x + (at + w + n))) (l (at + w) n (at + w + n)))

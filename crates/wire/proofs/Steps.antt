@@ -1,19 +1,17 @@
--- What one more byte does: to the UTF-8 check, and to the comparison of two rows.
-use Rattle.std.specs.Prelude.{◌+◌, ◌-◌, ◌≤◌, ◌<◌, ◌≡◌, ◌∷◌, ◌⊎◌}
-use Rattle.wire.proofs.Kit.{ℕ, zero, suc, refl, sym, ap, ◌∙◌, List, [], Bool, true, false, ⊎_elim, add-one, arith}
+-- What one more byte does to the UTF-8 check, and what the comparison of two rows says.
+use Rattle.std.specs.Prelude.{◌+◌, ◌-◌, ◌≤◌, ◌<◌, ◌≡◌, ◌∷◌, ◌⊎◌, Option, Some, None}
+use Rattle.wire.proofs.Kit.{ℕ, zero, suc, refl, sym, ◌∙◌, List, [], Bool, true, false, ⊎_elim, add-one, arith}
 use Rattle.wire.proofs.Kit.{length, get_or, drop, drop_of_length-le, drop-cons, leb, ltb, eqb, le-leb, lt-leb, leb-true, leb-false, eq-eqb, ne_eqb}
 use Rattle.wire.proofs.Kit.{ltb-true, ltb-false, lt-ltb, le-ltb}
-use mathlib.Core.Bool.{◌&&◌, ◌||◌, beq}
+use mathlib.Core.Bool.{◌&&◌, ◌||◌, beq, not}
 use lib.Seq.{drop-length}
 use lib.Bits.{bit_or, or_add_and, and_le_l, and_le_r}
 use lib.Dec.{T}
+use Rattle.std.specs.Cmp.Lexicographic.{pointwise}
 use Rattle.wire.specs.declared.utf8.Lead.{Lead}
-use Rattle.wire.specs.declared.utf8.Lead.TheVariants.{Bad}
-use Rattle.wire.specs.declared.utf8.Step.{Step}
-use Rattle.wire.specs.declared.utf8.Step.TheVariants.{To, Stuck}
 use Rattle.wire.specs.Choice.{pick}
 use Rattle.wire.specs.Utf8.{Range, Form, ◌to◌, has, tail, forms, begun, ends}
-use Rattle.wire.specs.Code.{goes, Asked, Over, Onward, Stepped, Plain, Run, need, owed, Fits, Owed, Paid}
+use Rattle.wire.specs.Code.{goes, Asked, Over, Onward, Plain, Run, need, owed, Fits, Owed, Paid}
 use Rattle.wire.specs.Field.{equal}
 use Rattle.wire.proofs.Laws.{false_true}
 
@@ -81,12 +79,12 @@ unfolding ends
 begins_at {f} {fs} b k e t x y s =
     past b (λ rs. ends rs s) k f.first.low forms t x ∙ rw (e, has_yes f.first.low f.first.high b x y)
 
-pub begins : {f : Form} {fs : List Form} (b k : ℕ) (r : Lead) → drop k forms ≡ f ∷ fs → ((s : List ℕ) → ends f.behind s ≡ goes r s)
+pub begins : {f : Form} {fs : List Form} (b k : ℕ) (r : Option Lead) → drop k forms ≡ f ∷ fs → ((s : List ℕ) → ends f.behind s ≡ goes r s)
     → T (below k f.first.low forms) → f.first.low ≤ b → b ≤ f.first.high → Asked b r
 begins b k r e g t x y = record { same = λ s. begins_at b k e t x y s ∙ g s }
 
 -- a byte behind the first k forms and before the others
-pub begins_none : (b k m n : ℕ) → T (below k m forms) → T (above n (drop k forms)) → m ≤ b → b < n → Asked b Bad
+pub begins_none : (b k m n : ℕ) → T (below k m forms) → T (above n (drop k forms)) → m ≤ b → b < n → Asked b None
 unfolding ends
 begins_none b k m n t u x y =
     record { same = λ s. past b (λ rs. ends rs s) k m forms t x ∙ none b (λ rs. ends rs s) n (drop k forms) u y }
@@ -94,10 +92,10 @@ begins_none b k m n t u x y =
 -- ---- the bytes behind it
 
 module _ (s : List ℕ) (i : ℕ) (h : i < length s) where
-  pub ends_lead : {x r : Lead} → Asked (get_or s i 0) x → x ≡ r → ends [] (drop i s) ≡ goes r (drop (i + 1) s)
-  ends_lead a e = rw (drop-cons s i 0 h, add-one, ← e) (a.same (drop (suc i) s))
+  pub ends_lead : {r : Option Lead} → Asked (get_or s i 0) r → ends [] (drop i s) ≡ goes r (drop (i + 1) s)
+  ends_lead a = rw (drop-cons s i 0 h, add-one) (a.same (drop (suc i) s))
 
-  pub over_in : (low high : ℕ) → low ≤ get_or s i 0 → get_or s i 0 ≤ high → Over s (To i) low high (To (i + 1))
+  pub over_in : (low high : ℕ) → low ≤ get_or s i 0 → get_or s i 0 ≤ high → Over s i low high (Some (i + 1))
   unfolding ends
   over_in low high f g =
       record {
@@ -105,18 +103,15 @@ module _ (s : List ℕ) (i : ℕ) (h : i < length s) where
         ahead = λ k a. omega arith;
       }
 
-  pub over_out : (low high : ℕ) → (high < get_or s i 0) ⊎ (get_or s i 0 < low) → Over s (To i) low high Stuck
+  pub over_out : (low high : ℕ) → (high < get_or s i 0) ⊎ (get_or s i 0 < low) → Over s i low high None
   unfolding ends
   over_out low high d =
       let e = ⊎_elim (has_above low high (get_or s i 0)) (has_below low high (get_or s i 0)) d in
       record { same = λ rs. rw (drop-cons s i 0 h, e); ahead = λ k a. tt }
 
-pub over_end : (s : List ℕ) (i low high : ℕ) → length s ≤ i → Over s (To i) low high Stuck
+pub over_end : (s : List ℕ) (i low high : ℕ) → length s ≤ i → Over s i low high None
 unfolding ends
 over_end s i low high h = record { same = λ rs. rw (drop_of_length-le s h); ahead = λ k a. tt }
-
-pub over_stuck : {s : List ℕ} {low high : ℕ} → Over s Stuck low high Stuck
-over_stuck = record { same = λ rs. refl; ahead = λ k a. tt }
 
 -- ---- runs
 
@@ -140,13 +135,7 @@ run_end {s} {i} {j} r h =
     let e : j ≡ length s = omega arith in
     r.same ∙ rw (e, drop-length s)
 
-pub step_run : {s : List ℕ} {i j : ℕ} → Stepped s i (To j) → Run s i j
-step_run t = record { from = omega arith; within = t.ahead.1; same = t.same }
-
 -- ---- ASCII
-
-pub plain_none : (s : List ℕ) (i j : ℕ) → j ≤ i → j ≤ length s → Plain s i j
-plain_none s i j g h = record { within = h; ascii = λ k f l. absurd (omega arith) }
 
 pub plain_one : (s : List ℕ) (i j : ℕ) → i < length s → get_or s i 0 < 0x80 → j ≡ i + 1 → Plain s i j
 plain_one s i j h b e = record { within = omega arith; ascii = λ k f l. let g : k ≡ i = omega arith in rw g b }
@@ -320,61 +309,37 @@ owed_on {s} {i} {j} k o h f e =
       same = o.same ∙ rw (e1, e2, e, drop-cons s (j + 2) 0 (omega arith)) (f.same (drop (suc (j + 2)) s));
     }
 
-pub owed_none : (s : List ℕ) (i j : ℕ) → j ≡ i → i + 2 ≤ length s → Owed s i j
-owed_none s i j e h = record { from = omega arith; within = omega arith; same = rw e }
-
-pub owed_trans : {s : List ℕ} {i j k : ℕ} → Owed s i j → Owed s j k → Owed s i k
-owed_trans f g = record { from = omega arith; within = g.within; same = f.same ∙ g.same }
-
-module _ (s : List ℕ) (i : ℕ) (h : i + 2 ≤ length s) where
-  pub paid_none : get_or s (i + 1) 0 < 0xC0 → get_or s i 0 < 0xE0 → Paid s i (To (i + 2))
-  paid_none f g = record { same = rw (need_none (get_or s i 0) (get_or s (i + 1) 0) f g); ahead = λ k l. (l, h) }
-
-  paid_one : {r : Step} → need (get_or s i 0) (get_or s (i + 1) 0) ≡ tail ∷ [] → Over s (To (i + 2)) 0x80 0xBF r → Paid s i r
-  paid_one e o = record { same = rw e (o.same []); ahead = λ k l. o.ahead k (l, h) }
-
-  paid_two : {x r : Step} (low high : ℕ) → need (get_or s i 0) (get_or s (i + 1) 0) ≡ low to high ∷ tail ∷ []
-      → Over s (To (i + 2)) low high x → Over s x 0x80 0xBF r → Paid s i r
-  paid_two low high e o p =
-      record { same = rw e (o.same (tail ∷ []) ∙ p.same []); ahead = λ k l. p.ahead k (o.ahead k (l, h)) }
-
-  pub paid_last : {r : Step} → get_or s (i + 1) 0 < 0xC0 → 0xE0 ≤ get_or s i 0 → Over s (To (i + 2)) 0x80 0xBF r → Paid s i r
-  paid_last f g = paid_one (need_last (get_or s i 0) (get_or s (i + 1) 0) f g)
-
-  pub paid_pair : {r : Step} → 0xC0 ≤ get_or s (i + 1) 0 → get_or s (i + 1) 0 < 0xE0 → Over s (To (i + 2)) 0x80 0xBF r → Paid s i r
-  paid_pair f g = paid_one (need_two (get_or s i 0) (get_or s (i + 1) 0) f g)
-
-  pub paid_e0 : {x r : Step} → get_or s (i + 1) 0 ≡ 0xE0 → Over s (To (i + 2)) 0xA0 0xBF x → Over s x 0x80 0xBF r → Paid s i r
-  paid_e0 e = paid_two 0xA0 0xBF (need_e0 (get_or s i 0) (get_or s (i + 1) 0) e)
-
-  pub paid_ed : {x r : Step} → get_or s (i + 1) 0 ≡ 0xED → Over s (To (i + 2)) 0x80 0x9F x → Over s x 0x80 0xBF r → Paid s i r
-  paid_ed e = paid_two 0x80 0x9F (need_ed (get_or s i 0) (get_or s (i + 1) 0) e)
-
-  pub paid_three : {x r : Step} → 0xE0 ≤ get_or s (i + 1) 0 → (get_or s (i + 1) 0 ≡ 0xE0 → ⊥) → (get_or s (i + 1) 0 ≡ 0xED → ⊥)
-      → Over s (To (i + 2)) 0x80 0xBF x → Over s x 0x80 0xBF r → Paid s i r
-  paid_three h f g = paid_two 0x80 0xBF (need_three (get_or s i 0) (get_or s (i + 1) 0) h f g)
-
-pub onward_none : {s : List ℕ} {at : Step} → Onward s at at
-onward_none = record { same = refl; ahead = λ i a. a }
-
-pub onward_paid : (s : List ℕ) (j w : ℕ) {r : Step} → 2 ≤ j → get_or s (j - 1) 0 < 0xC0 → get_or s (j - 2) 0 < 0xE0 → Owed s (j - 2) w → Paid s w r → Onward s (To j) r
+pub onward_paid : (s : List ℕ) (j w : ℕ) {r : Option ℕ} → 2 ≤ j → get_or s (j - 1) 0 < 0xC0 → get_or s (j - 2) 0 < 0xE0 → Owed s (j - 2) w → Paid s w r → Onward s j r
 onward_paid s j w h f g o p =
     let e1 : j - 2 + 1 ≡ j - 1 = omega arith in
     let e2 : j - 2 + 2 ≡ j = omega arith in
     let n : owed s (j - 2) ≡ ends [] (drop j s) = rw (e1, e2, need_none (get_or s (j - 2) 0) (get_or s (j - 1) 0) f g) in
-    record { same = sym n ∙ o.same ∙ p.same; ahead = λ i a. p.ahead i (omega arith) }
+    record { same = sym n ∙ o.same ∙ p.same; ahead = λ k a b. p.ahead k (omega arith) }
 
 -- ---- two rows
 
-pub equal_unlike : (x y : List ℕ) → (length x ≡ length y → ⊥) → equal x y ≡ false
-equal_unlike [] [] h = absurd (h refl)
-equal_unlike [] (b ∷ y) h = refl
-equal_unlike (a ∷ x) [] h = refl
-equal_unlike (a ∷ x) (b ∷ y) h = rw (equal_unlike x y (λ e. h (ap suc e))) (alike (eqb a b))
+pointwise_equal : (x y : List ℕ) → pointwise eqb x y ≡ equal x y
+pointwise_equal [] [] = refl
+pointwise_equal [] (b ∷ y) = refl
+pointwise_equal (a ∷ x) [] = refl
+pointwise_equal (a ∷ x) (b ∷ y) = rw (pointwise_equal x y) (chosen (eqb a b) (equal x y))
+  where
+    chosen : (t u : Bool) → (t && u) ≡ pick t u false
+    chosen true u = refl
+    chosen false u = refl
 
-module _ (x y : List ℕ) (i : ℕ) (g : i < length x) (h : i < length y) where
-  pub equal_ends : (get_or x i 0 ≡ get_or y i 0 → ⊥) → equal (drop i x) (drop i y) ≡ false
-  equal_ends n = rw (drop-cons x i 0 g, drop-cons y i 0 h, ne_eqb (get_or x i 0) (get_or y i 0) n)
+-- what `!=` says of them
+module _ (x y : List ℕ) where
+  pub equal_not : true ≡ not (pointwise eqb x y) → equal x y ≡ false
+  equal_not e = go (equal x y) (rw (pointwise_equal x y) at e)
+    where
+      go : (t : Bool) → true ≡ not t → t ≡ false
+      go true h = absurd (false_true (sym h))
+      go false h = refl
 
-  pub equal_more : get_or x i 0 ≡ get_or y i 0 → equal (drop i x) (drop i y) ≡ equal (drop (i + 1) x) (drop (i + 1) y)
-  equal_more e = rw (drop-cons x i 0 g, drop-cons y i 0 h, eq-eqb (get_or x i 0) (get_or y i 0) e, add-one)
+  pub equal_so : false ≡ not (pointwise eqb x y) → equal x y ≡ true
+  equal_so e = go (equal x y) (rw (pointwise_equal x y) at e)
+    where
+      go : (t : Bool) → false ≡ not t → t ≡ true
+      go true h = refl
+      go false h = absurd (false_true h)

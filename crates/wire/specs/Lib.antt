@@ -1,3 +1,5 @@
+pub mod Answer
+pub mod Refusal
 pub mod Choice
 pub mod Limit
 pub mod Number

@@ -16,6 +16,7 @@ fn store4(out: &mut [u8], to: usize, a: u8, b: u8, c: u8, d: u8)
 
 // Four bytes of the row, from its place i on, to where they stand when the row is laid at `at`.
 // The loads come before the stores: so they are one load and one store of the machine. The same with eight.
+// As one loop over N bytes, or by `copy_from_slice`, they are not: it would be byte after byte, or a call of C's `memmove`.
 fn copy4(out: &mut [u8], at: usize, row: &[u8], i: usize)
     requires { (i + 4 ≤ length row.now) × (at + length row.now ≤ length out.old) }
     ensures { out.new ≡ sets out.old (at + i) (bytes_at 4 row.now i) }
@@ -54,6 +55,7 @@ fn copy_eights(out: &mut [u8], at: usize, row: &[u8])
     requires { (8 ≤ length row.now) × (at + length row.now ≤ length out.old) }
     ensures { out.new ≡ sets out.old at row.now }
 {
+    // A `while`, as in `eights` of utf8.rt, where a `for` by `step_by` has twice the instructions.
     let last = row.len() - 8;
     let mut i: usize = 0;
     while i < last {
@@ -86,26 +88,26 @@ pub fn write_bytes(out: &mut [u8], at: usize, row: &[u8]) -> usize
     ensures value { result ≡ length row.now }
     ensures out_after { out.new ≡ laid row.now at out.old }
 {
-    if at <= out.len() {
-        if row.len() <= out.len() - at {
-            if row.len() < 64 {
-                copy_short(out, at, row);
-                return row.len();
-            }
-            let mut i: usize = 0;
-            while i < row.len() {
-                out[at + i] = row[i];
-                i += 1;
-            }
-        }
+    let n = row.len();
+    if at > out.len() || n > out.len() - at {
+        return n;
     }
-    row.len()
+    if n < 64 {
+        copy_short(out, at, row);
+        return n;
+    }
+    // By `copy_from_slice` this would be a call of C's `memmove`, and of the C library the firmware has `memset` alone (tools/footprint).
+    for i in 0..n {
+        out[at + i] = row[i];
+    }
+    n
 }
 
 // How many decimal digits a number has.
 pub fn decimal_width(n: u32) -> usize
     ensures { (result ≡ length (decimal n)) × (result ≤ 10) }
 {
+    // No plain count: the loop ends when no digit is left.
     let mut w: usize = 1;
     let mut rest = n / 10;
     while 0 < rest {
@@ -121,16 +123,13 @@ pub fn write_decimal(out: &mut [u8], at: usize, n: u32) -> usize
     ensures out_after { out.new ≡ laid (decimal n) at out.old }
 {
     let w = decimal_width(n);
-    if at <= out.len() {
-        if w <= out.len() - at {
-            let mut rest = n;
-            let mut k = w;
-            while 0 < k {
-                k -= 1;
-                out[at + k] = (0x30 + rest % 10) as u8;
-                rest /= 10;
-            }
-        }
+    if at > out.len() || w > out.len() - at {
+        return w;
+    }
+    let mut rest = n;
+    for k in (0..w).rev() {
+        out[at + k] = (0x30 + rest % 10) as u8;
+        rest /= 10;
     }
     w
 }

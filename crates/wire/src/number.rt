@@ -10,10 +10,8 @@ pub(crate) fn number_at(s: &[u8], at: usize, w: usize) -> u64
     ensures { (result ≡ number (bytes_at w s.now at)) × (result < 256 ^ w) }
 {
     let mut n: u64 = 0;
-    let mut i: usize = 0;
-    while i < w {
+    for i in 0..w {
         n = n * 0x100 + (s[at + i] as u64);
-        i += 1;
     }
     n
 }
@@ -44,62 +42,32 @@ pub(crate) fn number8_at(s: &[u8], at: usize) -> u64
     number4_at(s, at) * 0x1_0000_0000 + number4_at(s, at + 4)
 }
 
-// The widths that most fields have, without a loop.
-fn store1(out: &mut [u8], at: usize, n: u64)
-    requires { at + 1 ≤ length out.old }
-    ensures { out.new ≡ sets out.old at (digits 1 n) }
+// The low w bytes of n, from the last one on.
+fn store(out: &mut [u8], at: usize, w: usize, n: u64)
+    requires { at + w ≤ length out.old }
+    ensures { out.new ≡ sets out.old at (digits w n) }
 {
-    out[at] = (n % 0x100) as u8;
-}
-
-fn store2(out: &mut [u8], at: usize, n: u64)
-    requires { at + 2 ≤ length out.old }
-    ensures { out.new ≡ sets out.old at (digits 2 n) }
-{
-    out[at] = (n / 0x100 % 0x100) as u8;
-    out[at + 1] = (n % 0x100) as u8;
-}
-
-fn store3(out: &mut [u8], at: usize, n: u64)
-    requires { at + 3 ≤ length out.old }
-    ensures { out.new ≡ sets out.old at (digits 3 n) }
-{
-    out[at] = (n / 0x10000 % 0x100) as u8;
-    out[at + 1] = (n / 0x100 % 0x100) as u8;
-    out[at + 2] = (n % 0x100) as u8;
+    let mut rest = n;
+    for k in (0..w).rev() {
+        out[at + k] = (rest % 0x100) as u8;
+        rest /= 0x100;
+    }
 }
 
 // Stores the low w bytes of n from a place on, and says whether they have room there; where they have none it stores nothing.
+// The widths that most fields have are named, so that they are compiled without a loop.
 pub fn write_number(out: &mut [u8], at: usize, w: usize, n: u64) -> bool
     ensures value { result ≡ leb (at + w) (length out.old) }
     ensures out_after { out.new ≡ stored w n at out.old }
 {
-    if at <= out.len() {
-        if w <= out.len() - at {
-            if w == 1 {
-                store1(out, at, n);
-                return true;
-            }
-            if w == 2 {
-                store2(out, at, n);
-                return true;
-            }
-            if w == 3 {
-                store3(out, at, n);
-                return true;
-            }
-            let mut rest = n;
-            let mut k = w;
-            while 0 < k {
-                k -= 1;
-                out[at + k] = (rest % 0x100) as u8;
-                rest /= 0x100;
-            }
-            true
-        } else {
-            false
-        }
-    } else {
-        false
+    if at > out.len() || w > out.len() - at {
+        return false;
     }
+    match w {
+        1 => store(out, at, 1, n),
+        2 => store(out, at, 2, n),
+        3 => store(out, at, 3, n),
+        _ => store(out, at, w, n),
+    }
+    true
 }

@@ -5,11 +5,7 @@ ghost use Rattle.wire.specs.Text.{inside_of, part_of, place_of, further};
 pub fn inside(input: &[u8], place: usize, length: usize) -> bool
     ensures { result ≡ inside_of input.now place length }
 {
-    if place <= input.len() {
-        length <= input.len() - place
-    } else {
-        false
-    }
+    place <= input.len() && length <= input.len() - place
 }
 
 // The empty part at the front where the place and the length are not inside.
@@ -17,13 +13,8 @@ pub fn part(input: &[u8], place: usize, length: usize) -> &[u8]
     ensures result_value { result.now ≡ part_of input.now place length }
     ensures ref_ptr_value { result.ref_ptr ≡ further (place_of input.now place length) input.entry.ref_ptr }
 {
-    if place <= input.len() {
-        if length <= input.len() - place {
-            let end = place + length;
-            &input[place..end]
-        } else {
-            &input[0..0]
-        }
+    if inside(input, place, length) {
+        &input[place..place + length]
     } else {
         &input[0..0]
     }

@@ -5,78 +5,47 @@ ghost use Rattle.wire.specs.Code.{Asked, Over, Onward, Stepped, Plain, Run, Fits
 
 // The character that a first byte begins: of how many bytes it is, and from three on the range of the second.
 #[derive(Clone, Copy)]
-pub enum Lead {
+enum Lead {
     One,
     Two,
     Three(u8, u8),
     Four(u8, u8),
-    Bad,
 }
 
-// Where the check goes on behind a byte or a character, or that it found none.
-#[derive(Clone, Copy)]
-pub enum Step {
-    To(usize),
-    Stuck,
-}
-
-fn lead_of(b: u8) -> Lead
+fn lead_of(b: u8) -> Option<Lead>
     ensures { Asked b result }
 {
-    if b < 0x80 {
-        return Lead::One;
+    match b {
+        0x00..=0x7F => Some(Lead::One),
+        0xC2..=0xDF => Some(Lead::Two),
+        0xE0 => Some(Lead::Three(0xA0, 0xBF)),
+        0xE1..=0xEC => Some(Lead::Three(0x80, 0xBF)),
+        0xED => Some(Lead::Three(0x80, 0x9F)),
+        0xEE..=0xEF => Some(Lead::Three(0x80, 0xBF)),
+        0xF0 => Some(Lead::Four(0x90, 0xBF)),
+        0xF1..=0xF3 => Some(Lead::Four(0x80, 0xBF)),
+        0xF4 => Some(Lead::Four(0x80, 0x8F)),
+        _ => None,
     }
-    if b < 0xC2 {
-        return Lead::Bad;
-    }
-    if b < 0xE0 {
-        return Lead::Two;
-    }
-    if b < 0xE1 {
-        return Lead::Three(0xA0, 0xBF);
-    }
-    if b < 0xED {
-        return Lead::Three(0x80, 0xBF);
-    }
-    if b < 0xEE {
-        return Lead::Three(0x80, 0x9F);
-    }
-    if b < 0xF0 {
-        return Lead::Three(0x80, 0xBF);
-    }
-    if b < 0xF1 {
-        return Lead::Four(0x90, 0xBF);
-    }
-    if b < 0xF4 {
-        return Lead::Four(0x80, 0xBF);
-    }
-    if b < 0xF5 {
-        return Lead::Four(0x80, 0x8F);
-    }
-    Lead::Bad
 }
 
-// The step over a byte from low to high, where the step before it came to a place.
-fn over(s: &[u8], at: Step, low: u8, high: u8) -> Step
-    ensures { Over s.now at low high result }
+// The place behind the byte at i, where it is one from low to high.
+fn over(s: &[u8], i: usize, low: u8, high: u8) -> Option<usize>
+    ensures { Over s.now i low high result }
 {
-    if let Step::To(i) = at {
-        if i >= s.len() {
-            return Step::Stuck;
-        }
-        let b = s[i];
-        if low <= b && b <= high {
-            return Step::To(i + 1);
-        }
+    let b = *s.get(i)?;
+    if low <= b && b <= high {
+        Some(i + 1)
+    } else {
+        None
     }
-    Step::Stuck
 }
 
 // UTF8-tail.
-fn tail(s: &[u8], at: Step) -> Step
-    ensures { Over s.now at 0x80 0xBF result }
+fn tail(s: &[u8], i: usize) -> Option<usize>
+    ensures { Over s.now i 0x80 0xBF result }
 {
-    over(s, at, 0x80, 0xBF)
+    over(s, i, 0x80, 0xBF)
 }
 
 // Whether the four bytes at i are ASCII: or-ed together, they are compiled to one test of a word.
@@ -101,10 +70,8 @@ fn ascii64(s: &[u8], i: usize) -> bool
     ensures { result ≡ true → Plain s.now i (i + 64) }
 {
     let mut all: u8 = 0;
-    let mut k: usize = 0;
-    while k < 64 {
+    for k in 0..64 {
         all |= s[i + k];
-        k += 1;
     }
     all < 0x80
 }
@@ -115,12 +82,8 @@ fn wide(s: &[u8], from: usize) -> usize
     ensures { Run s.now from result }
 {
     let mut i = from;
-    while i + 64 <= s.len() {
-        if ascii64(s, i) {
-            i += 64;
-        } else {
-            return i;
-        }
+    while i + 64 <= s.len() && ascii64(s, i) {
+        i += 64;
     }
     i
 }
@@ -131,12 +94,8 @@ fn blocks(s: &[u8], from: usize) -> usize
     ensures { Run s.now from result }
 {
     let mut i = from;
-    while i + 8 <= s.len() {
-        if ascii8(s, i) {
-            i += 8;
-        } else {
-            return i;
-        }
+    while i + 8 <= s.len() && ascii8(s, i) {
+        i += 8;
     }
     i
 }
@@ -146,14 +105,12 @@ fn singles(s: &[u8], from: usize) -> usize
     requires { from ≤ length s.now }
     ensures { Run s.now from result }
 {
-    let mut i = from;
-    while i < s.len() {
+    for i in from..s.len() {
         if s[i] >= 0x80 {
             return i;
         }
-        i += 1;
     }
-    i
+    s.len()
 }
 
 // The place behind the ASCII at `from`.
@@ -182,10 +139,8 @@ fn fits32(s: &[u8], i: usize) -> bool
     ensures { result ≡ true → Owed s.now i (i + 32) }
 {
     let mut ok = true;
-    let mut k: usize = 0;
-    while k < 32 {
+    for k in 0..32 {
         ok = ok & fits(s[i + k], s[i + k + 1], s[i + k + 2]);
-        k += 1;
     }
     ok
 }
@@ -196,79 +151,53 @@ fn windows(s: &[u8], from: usize) -> usize
     ensures { Owed s.now from result }
 {
     let mut i = from;
-    while i + 34 <= s.len() {
-        if fits32(s, i) {
-            i += 32;
-        } else {
-            return i;
-        }
+    while i + 34 <= s.len() && fits32(s, i) {
+        i += 32;
     }
     i
 }
 
-// The step to the end of the character that the two bytes at i leave open, if any.
-fn settle(s: &[u8], i: usize) -> Step
+// The end of the character that the two bytes at i leave open, if any.
+fn settle(s: &[u8], i: usize) -> Option<usize>
     requires { i + 2 ≤ length s.now }
     ensures { Paid s.now i result }
 {
     let q = s[i];
     let p = s[i + 1];
-    let next = Step::To(i + 2);
-    if p < 0xC0 {
-        if q < 0xE0 {
-            return next;
-        }
-        return tail(s, next);
+    let next = i + 2;
+    match p {
+        0x00..=0xBF => { if q < 0xE0 { Some(next) } else { tail(s, next) } }
+        0xC0..=0xDF => tail(s, next),
+        0xE0 => tail(s, over(s, next, 0xA0, 0xBF)?),
+        0xED => tail(s, over(s, next, 0x80, 0x9F)?),
+        _ => tail(s, tail(s, next)?),
     }
-    if p < 0xE0 {
-        return tail(s, next);
-    }
-    if p == 0xE0 {
-        return tail(s, over(s, next, 0xA0, 0xBF));
-    }
-    if p == 0xED {
-        return tail(s, over(s, next, 0x80, 0x9F));
-    }
-    tail(s, tail(s, next))
 }
 
-// The step over the text behind a character, where it is long.
-fn onward(s: &[u8], at: Step) -> Step
-    ensures { Onward s.now at result }
+// The place behind more text at j, right behind a character, where that text is long.
+fn onward(s: &[u8], j: usize) -> Option<usize>
+    ensures { Onward s.now j result }
 {
-    if let Step::To(j) = at {
-        if j < 2 {
-            return at;
-        }
-        if s.len() < j {
-            return at;
-        }
-        if s.len() - j < 32 {
-            return at;
-        }
-        if 0xC0 <= s[j - 1] {
-            return at;
-        }
-        if 0xE0 <= s[j - 2] {
-            return at;
-        }
-        return settle(s, windows(s, j - 2));
+    if j < 2 || s.len() < j || s.len() - j < 32 {
+        return Some(j);
     }
-    Step::Stuck
+    if 0xC0 <= s[j - 1] || 0xE0 <= s[j - 2] {
+        return Some(j);
+    }
+    settle(s, windows(s, j - 2))
 }
 
-// The step over the character at i, and over more text behind it.
-fn after(s: &[u8], i: usize) -> Step
+// The place behind the character at i, and behind more text that follows it; none where no character is there.
+fn after(s: &[u8], i: usize) -> Option<usize>
     requires { i < length s.now }
     ensures { Stepped s.now i result }
 {
-    let next = Step::To(i + 1);
-    match lead_of(s[i]) {
-        Lead::One => Step::To(ascii_run(s, i + 1)),
-        Lead::Two => onward(s, tail(s, next)),
-        Lead::Three(low, high) => onward(s, tail(s, over(s, next, low, high))),
-        Lead::Four(low, high) => tail(s, tail(s, over(s, next, low, high))),
-        Lead::Bad => Step::Stuck,
+    let next = i + 1;
+    match lead_of(s[i])? {
+        Lead::One => Some(ascii_run(s, next)),
+        Lead::Two => onward(s, tail(s, next)?),
+        Lead::Three(low, high) => onward(s, tail(s, over(s, next, low, high)?)?),
+        Lead::Four(low, high) => tail(s, tail(s, over(s, next, low, high)?)?),
     }
 }
 
@@ -279,14 +208,10 @@ fn characters(s: &[u8], start: usize) -> bool
 {
     let mut i = start;
     while i < s.len() {
-        match after(s, i) {
-            Step::To(next) => {
-                i = next;
-            }
-            Step::Stuck => {
-                return false;
-            }
-        }
+        let Some(next) = after(s, i) else {
+            return false;
+        };
+        i = next;
     }
     true
 }
@@ -303,7 +228,7 @@ fn tiny(s: &[u8]) -> bool
     (s[0] | s[n / 2] | s[n - 1]) < 0x80
 }
 
-// Whether eight bytes or more are ASCII: eight at a time, and the last eight. Without the way out, the loop has more than twice the instructions.
+// Whether eight bytes or more are ASCII: eight at a time, and the last eight. Without the way out, or as a `for` by `step_by`, the loop has more than twice the instructions.
 fn eights(s: &[u8]) -> bool
     requires { 8 ≤ length s.now }
     ensures { result ≡ true → Plain s.now 0 (length s.now) }
@@ -311,11 +236,10 @@ fn eights(s: &[u8]) -> bool
     let n = s.len();
     let mut i: usize = 8;
     while i < n {
-        if ascii8(s, i - 8) {
-            i += 8;
-        } else {
+        if !ascii8(s, i - 8) {
             return false;
         }
+        i += 8;
     }
     ascii8(s, n - 8)
 }
@@ -339,12 +263,7 @@ pub fn is_utf8(s: &[u8]) -> bool
     ensures { result ≡ utf8 s.now }
 {
     if s.len() < 64 {
-        if short_ascii(s) {
-            true
-        } else {
-            characters(s, 0)
-        }
-    } else {
-        characters(s, wide(s, 0))
+        return short_ascii(s) || characters(s, 0);
     }
+    characters(s, wide(s, 0))
 }

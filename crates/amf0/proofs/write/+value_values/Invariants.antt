@@ -7,17 +7,18 @@ use Rattle.amf0.proofs.Coming.{coming, Enough}
 use Rattle.amf0.proofs.write.+value_values.Given as goal
 
 abbrev pub invariant-values-loop-due : goal.invariant-values-loop-due
-invariant-values-loop-due l =
-    (s : ℕ) ×
-    (s + owed l.due ≡ owed l.initial.due) ×
-    (l.initial.c.at + s ≤ l.c.at) ×
-    (l.c.at ≤ length l.image) ×
-    (l.count + growth * (l.initial.c.at + s) ≤ l.done + longest * s + growth * l.c.at) ×
-    (length l.out ≡ length l.initial.out) ×
-    (l.k ≤ l.c.at) ×
-    (f : ℕ) ×
-    Enough (value_of l.left l.image l.text) l.image l.text l.due f l.c.at ×
-    (pour (rest_of (value_of l.left l.image l.text) l.image l.text l.initial.due l.initial.c.at) l.done l.initial.out ≡ pour (coming (value_of l.left l.image l.text) l.image l.text l.due f l.k l.c.at) l.count l.out)
+invariant-values-loop-due l = record {
+  behind : ℕ;
+  left : behind + owed l.due ≡ owed l.initial.due;
+  from : l.initial.c.at + behind ≤ l.c.at;
+  fits : l.c.at ≤ length l.image;
+  grown : l.count + growth * (l.initial.c.at + behind) ≤ l.done + longest * behind + growth * l.c.at;
+  kept : length l.out ≡ length l.initial.out;
+  keys : l.k ≤ l.c.at;
+  fuel : ℕ;
+  enough : Enough (value_of l.left l.image l.text) l.image l.text l.due fuel l.c.at;
+  same : pour (rest_of (value_of l.left l.image l.text) l.image l.text l.initial.due l.initial.c.at) l.done l.initial.out ≡ pour (coming (value_of l.left l.image l.text) l.image l.text l.due fuel l.k l.c.at) l.count l.out;
+}
 
 abbrev pub decreases-values-loop-due : goal.decreases-values-loop-due
 decreases-values-loop-due l = length l.image - l.c.at

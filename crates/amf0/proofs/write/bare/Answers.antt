@@ -1,11 +1,7 @@
 -- The marker alone.
-use Rattle.wire.proofs.Kit.{arith, refl}
-use Rattle.amf0.proofs.Begun.{owned_row}
+use Rattle.wire.proofs.Kit.{refl}
+use Rattle.amf0.proofs.Begun.{owned_numbers}
 use Rattle.amf0.proofs.write.bare.Goals as goal
 
 pub returns : goal.returns
-returns c =
-    let a = c.args in
-    λ text x at e.
-    rw c.then.ensures
-    (owned_row text at a.count (a.out.now) x _ a.rest refl e c.requires (omega arith) (c.emit_numbers.ensures.by_index text at) c.emit_numbers.ensures.grown)
+returns c = λ text x at shaped. owned_numbers text _ _ _ x c.args.rest c.then.ensures refl shaped c.requires c.emit_numbers.ensures.by_index c.emit_numbers.ensures.grown

@@ -1,45 +1,28 @@
 -- The eight bytes and the zone behind the marker.
-use Rattle.wire.proofs.Kit.{refl, sym, ◌∙◌, arith}
+use Rattle.wire.proofs.Kit.{refl}
 use Rattle.image.specs.declared.record.Record.TheVariants.{Date}
-use Rattle.image.specs.Taking.{body_at, found, u64, flag, u16, zoned}
+use Rattle.image.specs.Taking.{body_at, u64, flag, u16, zoned}
 use Rattle.amf0.specs.declared.write.Rest.TheVariants.{Nothing}
-use Rattle.amf0.proofs.Begun.{zoned_fits, zoned_bad, owned_row, owned_bad}
+use Rattle.amf0.proofs.Begun.{owned_numbers, owned_bad, owned_unread}
+use Rattle.std.proofs.Common.{rules}
 use Rattle.amf0.proofs.write.date.Goals as goal
 
-pub returns-then-zone_fits : goal.returns-then-zone_fits
+pub returns-in_err-n : goal.returns-in_err-n
 unfolding body_at u64 flag u16
-returns-then-zone_fits c =
-    let a = c.args in
-    let n = c.in-Got.n in
-    let b = c.in-Got-flag_at.present in
-    λ text.
-    rw c.then.ensures
-    (owned_row text a.at a.count (a.out.now) (Date n b c.in-Got-be_u16.zone) _ Nothing (rw (sym c.be_u64.ensures ∙ c.in-Got.is, sym c.flag_at.ensures ∙ c.in-Got-flag_at.is, sym c.be_u16.ensures ∙ c.in-Got-be_u16.is) (zoned_fits b c.in-Got-be_u16.zone (found (Date n b c.in-Got-be_u16.zone)) (a.image.now) c.in-Got-be_u16.f.at (sym c.zone_fits.ensures ∙ c.if-zone_fits.true))) refl c.requires (omega arith) (c.emit_numbers.ensures.by_index text a.at) c.emit_numbers.ensures.grown)
+returns-in_err-n c = λ text. owned_unread text _ _ _ _ c.from_residual.ensures.1 c.in_err-n.ensures (λ e. search rules)
+
+pub returns-in_err-present : goal.returns-in_err-present
+unfolding body_at u64 flag u16
+returns-in_err-present c = λ text. owned_unread text _ _ _ _ c.from_residual-in_err-present.ensures.1 c.in_err-present.ensures (λ e. search rules)
+
+pub returns-in_err-zone : goal.returns-in_err-zone
+unfolding body_at u64 flag u16
+returns-in_err-zone c = λ text. owned_unread text _ _ _ _ c.from_residual-in_err-zone.ensures.1 c.in_err-zone.ensures (λ e. search rules)
 
 pub returns-else-zone_fits : goal.returns-else-zone_fits
-unfolding body_at u64 flag u16
-returns-else-zone_fits c =
-    let a = c.args in
-    let n = c.in-Got.n in
-    let b = c.in-Got-flag_at.present in
-    λ text.
-    owned_bad text a.at a.count (a.out.now) (body_at 0x0B (a.image.now) a.c.at)
-    (rw (sym c.be_u64.ensures ∙ c.in-Got.is, sym c.flag_at.ensures ∙ c.in-Got-flag_at.is, sym c.be_u16.ensures ∙ c.in-Got-be_u16.is) (zoned_bad b c.in-Got-be_u16.zone (found (Date n b c.in-Got-be_u16.zone)) (a.image.now) c.in-Got-be_u16.f.at (sym c.zone_fits.ensures ∙ c.if-zone_fits.false)))
-
-pub returns-in-Stop-be_u16 : goal.returns-in-Stop-be_u16
 unfolding body_at u64 flag u16 zoned
-returns-in-Stop-be_u16 c =
-    let a = c.args in
-    λ text. owned_bad text a.at a.count (a.out.now) (body_at 0x0B (a.image.now) a.c.at) (rw (sym c.be_u64.ensures ∙ c.in-Got.is, sym c.flag_at.ensures ∙ c.in-Got-flag_at.is, sym c.be_u16.ensures ∙ c.in-Stop-be_u16.is))
+returns-else-zone_fits c = λ text. owned_bad text _ _ _ _ c.refuse.ensures (search rules)
 
-pub returns-in-Bad : goal.returns-in-Bad
+pub returns-then-zone_fits : goal.returns-then-zone_fits
 unfolding body_at u64 flag u16 zoned
-returns-in-Bad c =
-    let a = c.args in
-    λ text. owned_bad text a.at a.count (a.out.now) (body_at 0x0B (a.image.now) a.c.at) (rw (sym c.be_u64.ensures ∙ c.in-Got.is, sym c.flag_at.ensures ∙ c.in-Bad.is))
-
-pub returns-in-Stop : goal.returns-in-Stop
-unfolding body_at u64 flag u16 zoned
-returns-in-Stop c =
-    let a = c.args in
-    λ text. owned_bad text a.at a.count (a.out.now) (body_at 0x0B (a.image.now) a.c.at) (rw (sym c.be_u64.ensures ∙ c.in-Stop.is))
+returns-then-zone_fits c = λ text. owned_numbers text _ _ _ (Date c.in_ok-n.n c.in_ok-present.present c.in_ok-zone.zone) Nothing c.then.ensures (search rules) refl c.requires c.emit_numbers.ensures.by_index c.emit_numbers.ensures.grown

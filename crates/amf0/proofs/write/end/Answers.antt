@@ -1,17 +1,11 @@
 -- The end is put out.
 use Rattle.wire.proofs.Kit.{refl, arith}
 use Rattle.image.specs.declared.record.Record.TheVariants.{ObjectEnd}
-use Rattle.image.specs.declared.taking.Taken.TheVariants.{Found}
 use Rattle.amf0.proofs.Begun.{paired_end, paired_end_halt}
 use Rattle.amf0.proofs.write.end.Goals as goal
 
-pub returns-in-Next : goal.returns-in-Next
-returns-in-Next c =
-    let a = c.args in
-    λ text at.
-    paired_end text at a.count (a.out.now) ObjectEnd _ refl refl c.requires (omega arith) (rw c.in-Next.is at (c.emit_numbers.ensures.by_index text at)) (rw c.in-Next.is at c.emit_numbers.ensures.grown)
+pub returns-in_err-g : goal.returns-in_err-g
+returns-in_err-g c = λ text at. paired_end_halt text at _ _ ObjectEnd _ _ c.from_residual.ensures.1 refl refl c.requires (c.in_err-g.ensures.by_index text at)
 
-pub returns-in-Stop : goal.returns-in-Stop
-returns-in-Stop c =
-    let a = c.args in
-    λ text at. paired_end_halt text at a.count (a.out.now) (Found ObjectEnd a.next) ObjectEnd _ refl refl c.requires (rw c.in-Stop.is at (c.emit_numbers.ensures.by_index text at))
+pub returns : goal.returns
+returns c = λ text at. paired_end text at _ _ ObjectEnd _ refl refl c.requires (omega arith) (c.in_ok-g.ensures.by_index text at) c.in_ok-g.ensures.grown

@@ -1,26 +1,23 @@
 -- The key behind its length.
-use Rattle.wire.proofs.Kit.{refl, sym, ◌∙◌, arith}
+use Rattle.wire.proofs.Kit.{refl, arith}
 use Rattle.image.specs.declared.record.Record.TheVariants.{Key}
 use Rattle.image.specs.Taking.{body_at, short}
-use Rattle.amf0.proofs.Begun.{paired_key, paired_key_halt, paired_bad}
+use Rattle.amf0.proofs.Begun.{paired_key, paired_key_halt, paired_unread}
+use Rattle.std.proofs.Common.{rules}
 use Rattle.amf0.proofs.write.key.Goals as goal
 
-pub returns-in-Next : goal.returns-in-Next
+pub returns-in_err-t : goal.returns-in_err-t
 unfolding body_at short
-returns-in-Next c =
-    let a = c.args in
-    let p = c.requires in
-    paired_key (a.text.now) a.at a.count (a.out.now) (Key c.in-Got.p c.in-Got.n) _ (rw (sym c.short_at.ensures ∙ c.in-Got.is)) refl p.1 (omega arith) (rw c.in-Next.is at c.emit_text.ensures.out_after) (rw c.in-Next.is at c.emit_text.ensures.grown)
+returns-in_err-t c = paired_unread _ _ _ _ _ c.from_residual.ensures.1 c.in_err-t.ensures (λ e. search rules)
 
-pub returns-in-Stop-emit_text : goal.returns-in-Stop-emit_text
+pub returns-in_err-g : goal.returns-in_err-g
 unfolding body_at short
-returns-in-Stop-emit_text c =
-    let a = c.args in
-    let p = c.requires in
-    paired_key_halt (a.text.now) a.at a.count (a.out.now) (body_at 0x20 (a.image.now) a.c.at) (Key c.in-Got.p c.in-Got.n) _ (rw (sym c.short_at.ensures ∙ c.in-Got.is)) refl p.1 (rw c.in-Stop-emit_text.is at c.emit_text.ensures.out_after)
+returns-in_err-g c =
+    let t = c.in_ok-t.t in
+    paired_key_halt _ _ _ _ (Key t.place t.length) _ _ c.from_residual-in_err-g.ensures.1 (search rules) refl c.requires.1 c.in_err-g.ensures.out_after
 
-pub returns-in-Stop : goal.returns-in-Stop
+pub returns : goal.returns
 unfolding body_at short
-returns-in-Stop c =
-    let a = c.args in
-    paired_bad (a.text.now) a.at a.count (a.out.now) (body_at 0x20 (a.image.now) a.c.at) (rw (sym c.short_at.ensures ∙ c.in-Stop.is))
+returns c =
+    let t = c.in_ok-t.t in
+    paired_key c.args.text.now c.args.at c.args.count c.args.out.now (Key t.place t.length) _ {t = body_at 0x20 c.args.image.now c.args.c.at} (search rules) refl c.requires.1 (omega arith) c.in_ok-g.ensures.out_after c.in_ok-g.ensures.grown

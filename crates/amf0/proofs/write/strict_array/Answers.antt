@@ -1,21 +1,16 @@
 -- The count behind the marker, and then as many values.
-use Rattle.wire.proofs.Kit.{refl, sym, ◌∙◌, arith}
+use Rattle.wire.proofs.Kit.{refl}
 use Rattle.image.specs.declared.record.Record.TheVariants.{StrictArray}
 use Rattle.image.specs.Taking.{body_at, u32}
 use Rattle.amf0.specs.declared.write.Rest.TheVariants.{Values}
-use Rattle.amf0.proofs.Begun.{owned_row, owned_bad}
+use Rattle.amf0.proofs.Begun.{owned_numbers, owned_unread}
+use Rattle.std.proofs.Common.{rules}
 use Rattle.amf0.proofs.write.strict_array.Goals as goal
 
-pub returns-in-Got : goal.returns-in-Got
+pub returns-in_err-n : goal.returns-in_err-n
 unfolding body_at u32
-returns-in-Got c =
-    let a = c.args in
-    λ text.
-    rw c.then.ensures
-    (owned_row text a.at a.count (a.out.now) (StrictArray c.in-Got.n) _ (Values c.in-Got.n) (rw (sym c.be_u32.ensures ∙ c.in-Got.is)) refl c.requires (omega arith) (c.emit_numbers.ensures.by_index text a.at) c.emit_numbers.ensures.grown)
+returns-in_err-n c = λ text. owned_unread text _ _ _ _ c.from_residual.ensures.1 c.in_err-n.ensures (λ e. search rules)
 
-pub returns-in-Stop : goal.returns-in-Stop
+pub returns : goal.returns
 unfolding body_at u32
-returns-in-Stop c =
-    let a = c.args in
-    λ text. owned_bad text a.at a.count (a.out.now) (body_at 0x0A (a.image.now) a.c.at) (rw (sym c.be_u32.ensures ∙ c.in-Stop.is))
+returns c = λ text. owned_numbers text _ _ _ (StrictArray c.in_ok-n.n) (Values c.in_ok-n.n) c.then.ensures (search rules) refl c.requires c.emit_numbers.ensures.by_index c.emit_numbers.ensures.grown

@@ -1,21 +1,16 @@
 -- The text behind its length and the marker.
-use Rattle.wire.proofs.Kit.{refl, sym, ◌∙◌, arith}
+use Rattle.wire.proofs.Kit.{refl}
 use Rattle.image.specs.declared.record.Record.TheVariants.{Xml}
 use Rattle.image.specs.Taking.{body_at, long}
 use Rattle.amf0.specs.declared.write.Rest.TheVariants.{Nothing}
-use Rattle.amf0.proofs.Begun.{owned_row, owned_bad}
+use Rattle.amf0.proofs.Begun.{owned_text, owned_unread}
+use Rattle.std.proofs.Common.{rules}
 use Rattle.amf0.proofs.write.xml.Goals as goal
 
-pub returns-in-Got : goal.returns-in-Got
+pub returns-in_err-t : goal.returns-in_err-t
 unfolding body_at long
-returns-in-Got c =
-    let a = c.args in
-    let p = c.requires in
-    rw c.then.ensures
-    (owned_row (a.text.now) a.at a.count (a.out.now) (Xml c.in-Got.p c.in-Got.n) _ Nothing (rw (sym c.long_at.ensures ∙ c.in-Got.is)) refl p.1 (omega arith) c.emit_text.ensures.out_after c.emit_text.ensures.grown)
+returns-in_err-t c = owned_unread _ _ _ _ _ c.from_residual.ensures.1 c.in_err-t.ensures (λ e. search rules)
 
-pub returns-in-Stop : goal.returns-in-Stop
+pub returns : goal.returns
 unfolding body_at long
-returns-in-Stop c =
-    let a = c.args in
-    owned_bad (a.text.now) a.at a.count (a.out.now) (body_at 0x0F (a.image.now) a.c.at) (rw (sym c.long_at.ensures ∙ c.in-Stop.is))
+returns c = let t = c.in_ok-t.t in owned_text _ _ _ _ (Xml t.place t.length) Nothing c.then.ensures (search rules) refl c.requires c.emit_text.ensures.out_after c.emit_text.ensures.grown

@@ -14,15 +14,11 @@ returns-then-kind-gt255 c =
 pub returns-then-has : goal.returns-then-has
 unfolding record_of
 returns-then-has c =
-    sure_yes (c.args.kind ∷ c.args.a ∷ c.args.b ∷ c.args.c ∷ c.args.d ∷ []) _ _ (sym c.holder_of-t.ensures ∙ c.in-Is.is)
+    sure_yes (c.args.kind ∷ c.args.a ∷ c.args.b ∷ c.args.c ∷ c.args.d ∷ []) _ _ ((sym c.in_ok-r.ensures))
     c.layout_of.ensures (sym c.has.ensures ∙ c.if-has.true)
 
 pub returns-else-has : goal.returns-else-has
 unfolding record_of
 returns-else-has c =
-    sure_no (c.args.kind ∷ c.args.a ∷ c.args.b ∷ c.args.c ∷ c.args.d ∷ []) _ _ (sym c.holder_of-t.ensures ∙ c.in-Is.is)
+    sure_no (c.args.kind ∷ c.args.a ∷ c.args.b ∷ c.args.c ∷ c.args.d ∷ []) _ _ ((sym c.in_ok-r.ensures))
     c.layout_of.ensures (sym c.has.ensures ∙ c.if-has.false)
-
-pub returns-in-Bad : goal.returns-in-Bad
-unfolding record_of
-returns-in-Bad c = rw (sym c.holder_of-t.ensures ∙ c.in-Bad.is)

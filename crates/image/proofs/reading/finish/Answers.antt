@@ -3,8 +3,8 @@ use Rattle.wire.proofs.Kit.{refl, ◌∙◌}
 use Rattle.image.proofs.Laws.{padded_take}
 use Rattle.image.proofs.reading.finish.Goals as goal
 
-pub returns-in-Next : goal.returns-in-Next
-returns-in-Next c = let image = c.args.image.now in rw c.in-Next.is (record { value = refl; image_after = c.clear.ensures ∙ padded_take c.in-Next.made image })
+pub returns-in-Ok : goal.returns-in-Ok
+returns-in-Ok c = let image = c.args.image.now in rw c.in-Ok.is (record { value = refl; image_after = c.clear.ensures ∙ padded_take c.in-Ok.made image })
 
-pub returns-in-Stop : goal.returns-in-Stop
-returns-in-Stop c = rw c.in-Stop.is (record { value = refl; image_after = c.clear-in-Stop.ensures })
+pub returns-in-Err : goal.returns-in-Err
+returns-in-Err c = rw (c.in-Err.is) (record { value = rw (c.refused.ensures.value, c.from.ensures, c.answer.ensures, c.place.ensures) refl; image_after = c.refused.ensures.image_after })

@@ -4,10 +4,10 @@ use Rattle.image.proofs.Laws.{laid_kind, laid_number, put_laid, put_full, within
 use Rattle.image.proofs.reading.put_four.Goals as goal
 
 pub returns-then-image-made : goal.returns-then-image-made
-returns-then-image-made c = record { image_after = put_full _ _ _ _ _ (omega arith); within = within_stop }
+returns-then-image-made c = rw c.refuse.ensures (record { image_after = put_full _ _ _ _ _ (omega arith); within = within_stop })
 
 pub returns-then-image-made-2 : goal.returns-then-image-made-2
-returns-then-image-made-2 c = record { image_after = put_full _ _ _ _ _ (omega arith); within = within_stop }
+returns-then-image-made-2 c = rw c.refuse-then-image-made-2.ensures (record { image_after = put_full _ _ _ _ _ (omega arith); within = within_stop })
 
 pub returns : goal.returns
 returns c =

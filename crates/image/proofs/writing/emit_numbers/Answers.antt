@@ -6,16 +6,16 @@ use Rattle.image.proofs.Pouring.{bytes_none, length_numbers, named_none, pour_ro
 use Rattle.image.proofs.writing.emit_numbers.Goals as goal
 
 pub returns-then-count-gt-MOST : goal.returns-then-count-gt-MOST
-returns-then-count-gt-MOST c = let a = c.args in record { by_index = λ text place. rw (row_in_count a.count text (row_of (a.u bytes a.l) (a.v bytes a.m) (a.w bytes a.n) 0 0) place (end a.next.at) (omega arith)) (sym (pour_stop _ _ _ _)); grown = grown_stop }
+returns-then-count-gt-MOST c = let a = c.args in rw c.refuse.ensures (record { by_index = λ text place. rw (row_in_count a.count text (row_of (a.u bytes a.l) (a.v bytes a.m) (a.w bytes a.n) 0 0) place (end a.next.at) (omega arith)) (sym (pour_stop _ _ _ _)); grown = grown_stop })
 
 pub returns-then-u-gt8 : goal.returns-then-u-gt8
-returns-then-u-gt8 c = let a = c.args in record { by_index = λ text place. rw (row_in_mark a.count text (row_of (a.u bytes a.l) (a.v bytes a.m) (a.w bytes a.n) 0 0) place (end a.next.at) (omega arith) (omega arith)) (sym (pour_stop _ _ _ _)); grown = grown_stop }
+returns-then-u-gt8 c = let a = c.args in rw c.refuse-then-u-gt8.ensures (record { by_index = λ text place. rw (row_in_mark a.count text (row_of (a.u bytes a.l) (a.v bytes a.m) (a.w bytes a.n) 0 0) place (end a.next.at) (omega arith) (omega arith)) (sym (pour_stop _ _ _ _)); grown = grown_stop })
 
 pub returns-then-v-gt8 : goal.returns-then-v-gt8
-returns-then-v-gt8 c = let a = c.args in record { by_index = λ text place. rw (row_in_a a.count text (row_of (a.u bytes a.l) (a.v bytes a.m) (a.w bytes a.n) 0 0) place (end a.next.at) (omega arith) (omega arith) (omega arith)) (sym (pour_stop _ _ _ _)); grown = grown_stop }
+returns-then-v-gt8 c = let a = c.args in rw c.refuse-then-v-gt8.ensures (record { by_index = λ text place. rw (row_in_a a.count text (row_of (a.u bytes a.l) (a.v bytes a.m) (a.w bytes a.n) 0 0) place (end a.next.at) (omega arith) (omega arith) (omega arith)) (sym (pour_stop _ _ _ _)); grown = grown_stop })
 
 pub returns-then-w-gt8 : goal.returns-then-w-gt8
-returns-then-w-gt8 c = let a = c.args in record { by_index = λ text place. rw (row_in_b a.count text (row_of (a.u bytes a.l) (a.v bytes a.m) (a.w bytes a.n) 0 0) place (end a.next.at) (omega arith) (omega arith) (omega arith) (omega arith)) (sym (pour_stop _ _ _ _)); grown = grown_stop }
+returns-then-w-gt8 c = let a = c.args in rw c.refuse-then-w-gt8.ensures (record { by_index = λ text place. rw (row_in_b a.count text (row_of (a.u bytes a.l) (a.v bytes a.m) (a.w bytes a.n) 0 0) place (end a.next.at) (omega arith) (omega arith) (omega arith) (omega arith)) (sym (pour_stop _ _ _ _)); grown = grown_stop })
 
 pub returns : goal.returns
 returns c =

@@ -6,13 +6,13 @@ use Rattle.image.proofs.Pouring.{inside, pour_row, pour_unnamed, pour_stop, row_
 use Rattle.image.proofs.writing.emit_text.Goals as goal
 
 pub returns-then-count-gt-MOST : goal.returns-then-count-gt-MOST
-returns-then-count-gt-MOST c = let a = c.args in record { out_after = rw (row_in_count a.count (a.text.now) (row_of (a.v bytes a.mark) (a.w bytes a.n) none a.place a.n) a.at (end a.next.at) (omega arith)) (sym (pour_stop _ _ _ _)); grown = grown_stop }
+returns-then-count-gt-MOST c = let a = c.args in rw c.refuse.ensures (record { out_after = rw (row_in_count a.count (a.text.now) (row_of (a.v bytes a.mark) (a.w bytes a.n) none a.place a.n) a.at (end a.next.at) (omega arith)) (sym (pour_stop _ _ _ _)); grown = grown_stop })
 
 pub returns-then-v-gt8 : goal.returns-then-v-gt8
-returns-then-v-gt8 c = let a = c.args in record { out_after = rw (row_in_mark a.count (a.text.now) (row_of (a.v bytes a.mark) (a.w bytes a.n) none a.place a.n) a.at (end a.next.at) (omega arith) (omega arith)) (sym (pour_stop _ _ _ _)); grown = grown_stop }
+returns-then-v-gt8 c = let a = c.args in rw c.refuse-then-v-gt8.ensures (record { out_after = rw (row_in_mark a.count (a.text.now) (row_of (a.v bytes a.mark) (a.w bytes a.n) none a.place a.n) a.at (end a.next.at) (omega arith) (omega arith)) (sym (pour_stop _ _ _ _)); grown = grown_stop })
 
 pub returns-then-w-gt8 : goal.returns-then-w-gt8
-returns-then-w-gt8 c = let a = c.args in record { out_after = rw (row_in_a a.count (a.text.now) (row_of (a.v bytes a.mark) (a.w bytes a.n) none a.place a.n) a.at (end a.next.at) (omega arith) (omega arith) (omega arith)) (sym (pour_stop _ _ _ _)); grown = grown_stop }
+returns-then-w-gt8 c = let a = c.args in rw c.refuse-then-w-gt8.ensures (record { out_after = rw (row_in_a a.count (a.text.now) (row_of (a.v bytes a.mark) (a.w bytes a.n) none a.place a.n) a.at (end a.next.at) (omega arith) (omega arith) (omega arith)) (sym (pour_stop _ _ _ _)); grown = grown_stop })
 
 pub lay_text-requires : goal.lay_text-requires
 lay_text-requires c =
@@ -39,8 +39,7 @@ returns-then-named c =
     }
 
 pub returns-else-named : goal.returns-else-named
-returns-else-named c =
-    let a = c.args in
+returns-else-named c = let a = c.args in
     let t = a.text.now in
     let r = row_of (a.v bytes a.mark) (a.w bytes a.n) none a.place a.n in
-    let e = sym c.named.ensures ∙ c.if-named.false in record { out_after = rw (row_in_row a.count t r a.at (end a.next.at) (omega arith) (omega arith) (omega arith) (omega arith)) (pour_unnamed t r a.at a.next.at a.count (a.out.now) e); grown = grown_stop }
+    let e = sym c.named.ensures ∙ c.if-named.false in rw c.refuse-else-named.ensures (record { out_after = rw (row_in_row a.count t r a.at (end a.next.at) (omega arith) (omega arith) (omega arith) (omega arith)) (pour_unnamed t r a.at a.next.at a.count (a.out.now) e); grown = grown_stop })

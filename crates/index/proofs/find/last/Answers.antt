@@ -11,18 +11,10 @@ returns-then-n-eq0 c =
     let a = c.args in
     last_none a.image.now a.text.now (rows (length a.index.now / 13) a.index.now) a.container a.key.now (length a.index.now / 13) c.upper-n.result (length_rows_at (length a.index.now / 13) 0 a.index.now) c.upper-n.ensures.0 c.if-n-eq0.true
 
-pub returns-then-leads : goal.returns-then-leads
-returns-then-leads c =
-    let a = c.args in
-    let m = c.mark_at-m.ensures.0 ∙ sym (rows_get (length a.index.now / 13) a.index.now (c.upper-n.result - 1) (omega arith)) in
-    rw c.if-leads.true at
-    (last_some a.image.now a.text.now (rows (length a.index.now / 13) a.index.now) a.container a.key.now (length a.index.now / 13) c.upper-n.result (length_rows_at (length a.index.now / 13) 0 a.index.now) c.upper-n.ensures.0
-    c.if-n-eq0.false c.mark_at-m.result m c.leads.result c.leads.ensures)
-
 pub returns : goal.returns
 returns c =
     let a = c.args in
     let m = c.mark_at-m.ensures.0 ∙ sym (rows_get (length a.index.now / 13) a.index.now (c.upper-n.result - 1) (omega arith)) in
-    rw c.if-leads.false at
-    (last_some a.image.now a.text.now (rows (length a.index.now / 13) a.index.now) a.container a.key.now (length a.index.now / 13) c.upper-n.result (length_rows_at (length a.index.now / 13) 0 a.index.now) c.upper-n.ensures.0
-    c.if-n-eq0.false c.mark_at-m.result m c.leads.result c.leads.ensures)
+    c.then_some.ensures
+    ∙ last_some a.image.now a.text.now (rows (length a.index.now / 13) a.index.now) a.container a.key.now (length a.index.now / 13) c.upper-n.result (length_rows_at (length a.index.now / 13) 0 a.index.now) c.upper-n.ensures.0
+    c.if-n-eq0.false c.mark_at-m.result m c.leads.result c.leads.ensures

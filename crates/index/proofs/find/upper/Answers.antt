@@ -10,18 +10,6 @@ use Rattle.index.proofs.find.upper.Goals as goal
 pub loop-low-init : goal.loop-low-init
 loop-low-init c = (omega arith, omega arith, c.args.n, omega arith, refl)
 
-pub overflow_add-mid : goal.overflow_add-mid
-overflow_add-mid c = omega arith
-
-pub overflow_mul-mid : goal.overflow_mul-mid
-overflow_mul-mid c = omega arith
-
-pub mark_at-requires : goal.mark_at-requires
-mark_at-requires c = omega arith
-
-pub loop-low-smaller-then-past : goal.loop-low-smaller-then-past
-loop-low-smaller-then-past c = omega arith
-
 pub loop-low-preserved-then-past : goal.loop-low-preserved-then-past
 loop-low-preserved-then-past c =
     let a = c.args in
@@ -33,12 +21,6 @@ loop-low-preserved-then-past c =
       omega arith,
       l.invariant.4 ∙ upper_left (past_of a.image.now a.text.now a.container a.key.now) (rows a.n a.index.now) l.low l.high c.loop-low-test.true l.invariant.2 l.invariant.3 (rw m at (sym c.past.ensures ∙ c.if-past.true)),
     )
-
-pub overflow_add-low : goal.overflow_add-low
-overflow_add-low c = omega arith
-
-pub loop-low-smaller : goal.loop-low-smaller
-loop-low-smaller c = omega arith
 
 pub loop-low-preserved : goal.loop-low-preserved
 loop-low-preserved c =

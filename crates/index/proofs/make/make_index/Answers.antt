@@ -1,5 +1,5 @@
 -- The sizes, the walk, the room; and then the marks are sorted and what is behind them is cleared.
-use Rattle.index.proofs.Making.{text_over, image_over, stopped, counted, full, fitted, held, emptied, made}
+use Rattle.index.proofs.Making.{text_over, image_over, stopped, counted, full, fitted, held, nothing_held, made}
 use Rattle.index.proofs.Rows.{length_rows_at}
 use Rattle.index.specs.Index.{keys_of, indexing}
 use Rattle.index.specs.declared.make.Indexing.{Indexing}
@@ -9,32 +9,39 @@ use Rattle.std.specs.Prelude.{◌/◌}
 use Rattle.wire.proofs.Kit.{length, arith, sym, ap, ◌∙◌, ℕ}
 use Rattle.index.proofs.make.make_index.Goals as goal
 
-pub returns-then-text-gt-BYTES : goal.returns-then-text-gt-BYTES
-returns-then-text-gt-BYTES c =
+pub returns-then-text-gt-BYTES-clause-holds : goal.returns-then-text-gt-BYTES-clause-holds
+returns-then-text-gt-BYTES-clause-holds c =
     let a = c.args in
-    let e = text_over a.image.now a.text.now (length a.index.now) c.if-text-gt-BYTES.true in record { value = c.refused.ensures.value ∙ ap indexing (sym e); holds = held a.image.now a.text.now _ e (emptied a.image.now a.text.now _ _ c.refused.auto.index c.refused.ensures.index_after) }
+    nothing_held a.image.now a.text.now _ _ _ (text_over a.image.now a.text.now (length a.index.now) c.if-text-gt-BYTES.true) c.refused.auto.index c.refused.ensures.index_after
 
-pub returns-then-image-gt-IMAGE : goal.returns-then-image-gt-IMAGE
-returns-then-image-gt-IMAGE c =
+pub returns-then-image-gt-IMAGE-clause-holds : goal.returns-then-image-gt-IMAGE-clause-holds
+returns-then-image-gt-IMAGE-clause-holds c =
     let a = c.args in
-    let e = image_over a.image.now a.text.now (length a.index.now) c.if-text-gt-BYTES.false c.if-image-gt-IMAGE.true in record { value = c.refused-then-image-gt-IMAGE.ensures.value ∙ ap indexing (sym e); holds = held a.image.now a.text.now _ e (emptied a.image.now a.text.now _ _ c.refused-then-image-gt-IMAGE.auto.index c.refused-then-image-gt-IMAGE.ensures.index_after) }
+    nothing_held a.image.now a.text.now _ _ _ (image_over a.image.now a.text.now (length a.index.now) c.if-text-gt-BYTES.false c.if-image-gt-IMAGE.true) c.refused-then-image-gt-IMAGE.auto.index c.refused-then-image-gt-IMAGE.ensures.index_after
 
 pub returns-then-index-n : goal.returns-then-index-n
 returns-then-index-n c =
     let a = c.args in
-    let y = rw c.in-Next.is at c.gather.ensures in
-    let e = full a.image.now a.text.now (length a.index.now) c.if-text-gt-BYTES.false c.if-image-gt-IMAGE.false a.index.now y (rw c.gather.auto.index at c.if-index-n.true) in record { value = c.refused-then-index-n.ensures.value ∙ ap indexing (sym e); holds = held a.image.now a.text.now _ e (emptied a.image.now a.text.now _ _ c.refused-then-index-n.auto.index c.refused-then-index-n.ensures.index_after) }
+    let e = full a.image.now a.text.now (length a.index.now) c.if-text-gt-BYTES.false c.if-image-gt-IMAGE.false a.index.now (rw c.in-Ok.is at c.gather.ensures) (rw c.gather.auto.index at c.if-index-n.true) in
+    record {
+      value = c.refused-then-index-n.ensures.value ∙ ap indexing (sym e);
+      holds = nothing_held a.image.now a.text.now _ _ _ e c.refused-then-index-n.auto.index c.refused-then-index-n.ensures.index_after;
+    }
 
-pub returns-in-Stop : goal.returns-in-Stop
-returns-in-Stop c =
+pub returns-in-Err : goal.returns-in-Err
+returns-in-Err c =
     let a = c.args in
-    let y = rw c.in-Stop.is at c.gather.ensures in
-    let e = stopped a.image.now a.text.now (length a.index.now) c.if-text-gt-BYTES.false c.if-image-gt-IMAGE.false a.index.now y in record { value = c.refused-in-Stop.ensures.value ∙ ap indexing (sym e); holds = held a.image.now a.text.now _ e (emptied a.image.now a.text.now _ _ c.refused-in-Stop.auto.index c.refused-in-Stop.ensures.index_after) }
+    let of : ℕ → ℕ → Indexing = λ n x. record { answer = n; count = x } in
+    let e = stopped a.image.now a.text.now (length a.index.now) c.if-text-gt-BYTES.false c.if-image-gt-IMAGE.false a.index.now (rw c.in-Err.is at c.gather.ensures) in
+    record {
+      value = c.refused-in-Err.ensures.value ∙ ap (λ (n : ℕ). of n 0) c.answer.ensures ∙ ap indexing (sym e);
+      holds = nothing_held a.image.now a.text.now _ _ _ e c.refused-in-Err.auto.index c.refused-in-Err.ensures.index_after;
+    }
 
 pub returns-else-index-n : goal.returns-else-index-n
 returns-else-index-n c =
     let a = c.args in
-    let y = rw c.in-Next.is at c.gather.ensures in
+    let y = rw c.in-Ok.is at c.gather.ensures in
     let t = c.if-text-gt-BYTES.false in
     let i = c.if-image-gt-IMAGE.false in
     let m = c.gather.auto.index in

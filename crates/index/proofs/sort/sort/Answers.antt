@@ -1,17 +1,7 @@
 -- The heap keeps the marks, and the pass puts them in order.
 use Rattle.index.proofs.Sorting.{mixed_then}
 use Rattle.index.proofs.Rows.{length_rows_at}
-use Rattle.wire.proofs.Kit.{arith, ◌∙◌}
 use Rattle.index.proofs.sort.sort.Goals as goal
-
-pub heap-requires : goal.heap-requires
-heap-requires c = omega arith
-
-pub pass-requires : goal.pass-requires
-pass-requires c = omega (arith, c.heap.auto.index)
-
-pub shape_of-index : goal.shape_of-index
-shape_of-index c = c.pass.auto.index ∙ c.heap.auto.index
 
 pub returns : goal.returns
 returns c =

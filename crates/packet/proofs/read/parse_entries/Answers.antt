@@ -1,97 +1,91 @@
 -- `parse_entries` meets its contract. The invariant: the whole reading from the start is what is left from here.
-use Rattle.std.specs.Prelude.{◌-◌, ◌≤◌, ◌≡◌}
-use Rattle.wire.proofs.Kit.{ℕ, refl, sym, ◌∙◌, le_refl, arith, length}
+use Rattle.std.specs.Prelude.{◌+◌, ◌-◌, ◌≤◌, ◌≡◌}
+use Rattle.std.proofs.lemmas.Result.{err_from_is_err_and}
+use Rattle.wire.proofs.Kit.{ℕ, refl, sym, ◌∙◌, arith, length}
 use Rattle.image.specs.Due.{Due, end, due, ◌>>=◌, run}
-use Rattle.image.proofs.Laws.{run_then, run_halt, run_stop, run_end, within_stop, within_next}
+use Rattle.image.proofs.Laws.{run_then, run_halt, run_stop, run_end}
 use Rattle.amf0.specs.Reading.{top_value}
 use Rattle.packet.specs.Reading.{record_of, entries_at}
 use Rattle.packet.proofs.Laws.{head_begun, value_read}
 use Rattle.packet.proofs.Packing.{entries_done, entries_cut, entries_more}
-use Rattle.packet.proofs.read.parse_entries.Goals.{In-Next}
+use Rattle.packet.proofs.read.parse_entries.Goals.{In_ok-e, In_ok-v}
 use Rattle.packet.proofs.read.parse_entries.Goals as goal
 
--- the entry's record is laid, and its value and the other entries are left to read
-record Laid (c : In-Next) : Type 0 where
-  from : c.loop-k.c.at ≤ c.in-Next.v.at
-  within : c.in-Next.v.at ≤ length c.args.s.now
-  same : let a = c.args in
-      let s = a.s.now in
-      run (entries_at a.kind s a.n a.start.at) a.done a.image.now
-      ≡ run (top_value s c.in-Next.v.at >>= entries_at a.kind s (c.loop-k.k - 1)) c.in-Next.laid c.put.new.image
+-- an entry's record, and what comes behind it: its value and the other entries
+abbrev record_due : In_ok-e → Due
+record_due c = due (record_of c.in_ok-e.e) c.loop.c.at (end c.in_ok-e.d.at)
 
-laid : (c : In-Next) → Laid c
+abbrev behind : In_ok-e → ℕ → Due
+behind c v = top_value c.args.s.now v >>= entries_at c.args.kind c.args.s.now (c.args.n - c.loop.counter - 1)
+
+headed : (c : In_ok-e) → let a = c.args in
+    run (entries_at a.kind a.s.now a.n a.start.at) a.done a.image.now ≡ run (record_due c >>= behind c) c.loop.made c.loop.image
+headed c =
+    let a = c.args in
+    let l = c.loop in
+    rw (l.invariant.3, entries_more a.kind a.s.now (a.n - l.counter) l.c.at (omega arith) (sym c.in_ok-e.ensures))
+
+-- the record is laid, and the rest is left to read
+record Laid (c : In_ok-v) : Type 0 where
+  from : c.loop.c.at ≤ c.in_ok-v.v.at
+  within : c.in_ok-v.v.at ≤ length c.args.s.now
+  same : let a = c.args in
+      run (entries_at a.kind a.s.now a.n a.start.at) a.done a.image.now ≡ run (behind (goal.at.In_ok-v c).In_ok-e c.in_ok-v.v.at) c.in_ok-v.laid c.put.new.image
+
+laid : (c : In_ok-v) → Laid c
 laid c =
     let a = c.args in
-    let l = c.loop-k in
-    let s = a.s.now in
-    let e = sym c.head_at.ensures ∙ c.in-Got.is in
-    let h = head_begun s l.c.at a.kind e in
-    let b = c.put.ensures.within.bounds c.in-Next.v c.in-Next.laid c.in-Next.is in
-    let d = due (record_of c.in-Got.e) l.c.at (end c.in-Got.d.at) in
-    let k : ℕ → Due = λ v. top_value s v >>= entries_at a.kind s (l.k - 1) in
+    let l = c.loop in
+    let g = (goal.at.In_ok-v c).In_ok-e in
+    let h = head_begun a.s.now l.c.at a.kind (sym c.in_ok-e.ensures) in
+    let b = c.in_ok-v.ensures.within.bounds c.in_ok-v.v c.in_ok-v.laid refl in
     record {
       from = omega arith;
       within = omega arith;
-      same =
-          rw (l.invariant.4, entries_more a.kind s l.k l.c.at c.loop-k-test.true e)
-          (run_then d k _ _ (rw (c.record_of.ensures, c.in-Next.is) at c.put.ensures.image_after));
+      same = headed g ∙ run_then (record_due g) (behind g) _ _ (rw c.record_of.ensures at c.in_ok-v.ensures.image_after);
     }
 
-pub loop-k-init : goal.loop-k-init
-loop-k-init c = let p = c.requires in (le_refl _, p.1, p.2, refl, refl)
-
-pub returns-in-Stop : goal.returns-in-Stop
-returns-in-Stop c =
+pub returns-in_err-e-clause-image_after : goal.returns-in_err-e-clause-image_after
+returns-in_err-e-clause-image_after c =
     let a = c.args in
-    let l = c.loop-k in
-    let e = sym c.head_at.ensures ∙ c.in-Stop.is in
-    record { image_after = rw (l.invariant.4, entries_cut a.kind a.s.now l.k l.c.at c.loop-k-test.true e) (sym (run_stop _ _ _ _)); within = within_stop }
+    let l = c.loop in
+    let p = err_from_is_err_and c.from_residual.result c.from_residual.ensures.1 in
+    rw (p.1, p.2, l.invariant.3, entries_cut a.kind a.s.now (a.n - l.counter) l.c.at (omega arith) (sym c.in_err-e.ensures)) (sym (run_stop _ _ _ _))
 
-pub returns-in-Stop-put : goal.returns-in-Stop-put
-returns-in-Stop-put c =
-    let a = c.args in
-    let l = c.loop-k in
-    let s = a.s.now in
-    let e = sym c.head_at.ensures ∙ c.in-Got.is in
-    let d = due (record_of c.in-Got.e) l.c.at (end c.in-Got.d.at) in
-    let k : ℕ → Due = λ v. top_value s v >>= entries_at a.kind s (l.k - 1) in
-    record {
-      image_after = rw (l.invariant.4, entries_more a.kind s l.k l.c.at c.loop-k-test.true e)
-          (sym (run_halt d k _ _ (rw (c.record_of.ensures, c.in-Stop-put.is) at c.put.ensures.image_after)));
-      within = within_stop;
-    }
+pub returns-in_err-v-clause-image_after : goal.returns-in_err-v-clause-image_after
+returns-in_err-v-clause-image_after c =
+    let g = (goal.at.returns-in_err-v-clause-image_after c).In_ok-e in
+    let p = err_from_is_err_and c.from_residual-in_err-v.result c.from_residual-in_err-v.ensures.1 in
+    rw (p.1, p.2, headed g) (sym (run_halt (record_due g) (behind g) _ _ (rw c.record_of.ensures at c.in_err-v.ensures.image_after)))
 
-pub returns-in-Stop-parse_value : goal.returns-in-Stop-parse_value
-returns-in-Stop-parse_value c =
+pub returns-in_err-f-clause-image_after : goal.returns-in_err-f-clause-image_after
+returns-in_err-f-clause-image_after c =
     let a = c.args in
     let s = a.s.now in
-    let k = laid (goal.at.returns-in-Stop-parse_value c).In-Next in
-    let d = top_value s c.in-Next.v.at in
-    let w = value_read s c.in-Next.v.at c.requires.0 k.within in
-    let r = rw (w, c.in-Stop-parse_value.is) at c.parse_value.ensures.image_after in
-    record { image_after = rw k.same (sym (run_halt d (entries_at a.kind s (c.loop-k.k - 1)) _ _ r)); within = within_stop }
+    let k = laid (goal.at.returns-in_err-f-clause-image_after c).In_ok-v in
+    let v = c.in_ok-v.v.at in
+    let p = err_from_is_err_and c.from_residual-in_err-f.result c.from_residual-in_err-f.ensures.1 in
+    rw (p.1, p.2, k.same)
+    (sym (run_halt (top_value s v) (entries_at a.kind s (a.n - c.loop.counter - 1)) _ _ (rw (value_read s v c.requires.0 k.within) at c.in_err-f.ensures.image_after)))
 
-pub loop-k-preserved : goal.loop-k-preserved
-loop-k-preserved c =
+pub loop-preserved : goal.loop-preserved
+loop-preserved c =
     let a = c.args in
-    let l = c.loop-k in
     let s = a.s.now in
-    let k = laid (goal.at.loop-k-preserved c).In-Next in
-    let b = c.parse_value.ensures.within.bounds c.in-Next-parse_value.f c.in-Next-parse_value.total c.in-Next-parse_value.is in
+    let k = laid (goal.at.loop-preserved c).In_ok-v in
+    let v = c.in_ok-v.v.at in
+    let b = c.in_ok-f.ensures.within.bounds c.in_ok-f.f c.in_ok-f.total refl in
     let n = c.parse_value.auto.image in
     let m = c.put.auto.image in
-    let d = top_value s c.in-Next.v.at in
-    let w = value_read s c.in-Next.v.at c.requires.0 k.within in
-    let r = rw (w, c.in-Next-parse_value.is) at c.parse_value.ensures.image_after in (
+    let e : a.n - c.loop.counter - 1 ≡ a.n - (c.loop.counter + 1) = omega arith in (
       omega arith,
       omega arith,
       omega arith,
-      omega arith,
-      rw k.same (run_then d (entries_at a.kind s (l.k - 1)) _ _ r),
+      rw (k.same, ← e) (run_then (top_value s v) (entries_at a.kind s (a.n - c.loop.counter - 1)) _ _ (rw (value_read s v c.requires.0 k.within) at c.in_ok-f.ensures.image_after)),
     )
 
-pub returns : goal.returns
-returns c =
+pub returns-clause-image_after : goal.returns-clause-image_after
+returns-clause-image_after c =
     let a = c.args in
-    let l = c.loop-k in
-    record { image_after = rw (l.invariant.4, entries_done a.kind a.s.now l.k l.c.at c.loop-k-test.false) (sym (run_end _ _ _)); within = within_next l.invariant.0 l.invariant.1 (omega arith) }
+    let l = c.loop in
+    rw (l.invariant.3, entries_done a.kind a.s.now (a.n - l.counter) l.c.at (omega arith)) (sym (run_end _ _ _))

@@ -1,17 +1,7 @@
 -- `parse_incomplete` meets its contract: what the packet's reading comes to in the lent image.
 use Rattle.wire.proofs.Kit.{sym}
 use Rattle.packet.proofs.Packing.{packed_finished}
-use Rattle.std.proofs.Common.{rules}
 use Rattle.packet.proofs.read.parse_incomplete.Goals as goal
-
-pub parse_packet-step-requires : goal.parse_packet-step-requires
-parse_packet-step-requires c = search rules
-
-pub finish-requires : goal.finish-requires
-finish-requires c = search rules
-
-pub shape_of-image : goal.shape_of-image
-shape_of-image c = search rules
 
 pub returns : goal.returns
 returns c =

@@ -1,9 +1,6 @@
--- Printing a row ends and stays within its text.
-use Rattle.std.proofs.Common.{length, ◌-◌, ◌≤◌}
+-- Printing a row stays within its text.
+use Rattle.std.proofs.Common.{◌≤◌}
 use Rattle.replay.proofs.output.row.Given as goal
 
-abbrev pub invariant-loop-i : goal.invariant-loop-i
-invariant-loop-i g l = l.used ≤ 8192
-
-abbrev pub decreases-loop-i : goal.decreases-loop-i
-decreases-loop-i g l = length l.bytes - l.i
+abbrev pub invariant-loop-b : goal.invariant-loop-b
+invariant-loop-b g l = l.used ≤ 8192

@@ -3,39 +3,36 @@ use Rattle.wire.proofs.Kit.{◌∙◌, arith}
 use Rattle.wire.proofs.Steps.{ends_lead}
 use Rattle.wire.proofs.utf8.after.Goals as goal
 
-pub returns-in-One : goal.returns-in-One
-returns-in-One c =
-    let run = c.ascii_run.ensures in
-    record { same = (ends_lead _ _ c.requires c.lead_of.ensures c.in-One.is) ∙ run.same; ahead = (omega arith, run.within) }
-
-pub returns-in-Two : goal.returns-in-Two
-returns-in-Two c =
-    let t = c.tail.ensures in
+pub returns-in_ok-tail-in-Two : goal.returns-in_ok-tail-in-Two
+returns-in_ok-tail-in-Two c =
+    let t = c.in_ok-tail-in-Two.ensures in
+    let a = t.ahead c.args.i (omega arith) in
     let o = c.onward.ensures in
     record {
-      same = (ends_lead _ _ c.requires c.lead_of.ensures c.in-Two.is) ∙ t.same _ ∙ o.same;
-      ahead = o.ahead _ (t.ahead _ (omega arith));
+      same = ends_lead _ _ c.requires (rw c.in-Two.is at c.in_ok-lead_of.ensures) ∙ t.same _ ∙ o.same;
+      ahead = o.ahead _ a.0 a.1;
     }
 
-pub returns-in-Three : goal.returns-in-Three
-returns-in-Three c =
-    let t = c.over.ensures in
-    let u = c.tail-in-Three.ensures in
+pub returns-in_ok-tail-in-Three : goal.returns-in_ok-tail-in-Three
+returns-in_ok-tail-in-Three c =
+    let t = c.in_ok-over-in-Three.ensures in
+    let a = t.ahead c.args.i (omega arith) in
+    let u = c.in_ok-tail-in-Three.ensures in
+    let b = u.ahead c.args.i (omega arith) in
     let o = c.onward-in-Three.ensures in
     record {
-      same = (ends_lead _ _ c.requires c.lead_of.ensures c.in-Three.is) ∙ t.same _ ∙ u.same _ ∙ o.same;
-      ahead = o.ahead _ (u.ahead _ (t.ahead _ (omega arith)));
+      same = ends_lead _ _ c.requires (rw c.in-Three.is at c.in_ok-lead_of.ensures) ∙ t.same _ ∙ u.same _ ∙ o.same;
+      ahead = o.ahead _ b.0 b.1;
     }
 
-pub returns-in-Four : goal.returns-in-Four
-returns-in-Four c =
-    let t = c.over-in-Four.ensures in
-    let u = c.tail-in-Four.ensures in
+pub returns-in_ok-tail-in-Four : goal.returns-in_ok-tail-in-Four
+returns-in_ok-tail-in-Four c =
+    let t = c.in_ok-over-in-Four.ensures in
+    let a = t.ahead c.args.i (omega arith) in
+    let u = c.in_ok-tail-in-Four.ensures in
+    let b = u.ahead c.args.i (omega arith) in
     let v = c.tail-in-Four-2.ensures in
     record {
-      same = (ends_lead _ _ c.requires c.lead_of.ensures c.in-Four.is) ∙ t.same _ ∙ u.same _ ∙ v.same _;
-      ahead = v.ahead _ (u.ahead _ (t.ahead _ (omega arith)));
+      same = ends_lead _ _ c.requires (rw c.in-Four.is at c.in_ok-lead_of.ensures) ∙ t.same _ ∙ u.same _ ∙ v.same _;
+      ahead = v.ahead _ (omega arith);
     }
-
-pub returns-in-Bad : goal.returns-in-Bad
-returns-in-Bad c = record { same = (ends_lead _ _ c.requires c.lead_of.ensures c.in-Bad.is); ahead = tt }

@@ -5,9 +5,3 @@ use Rattle.wire.proofs.utf8.blocks.Goals as goal
 
 pub loop-i-preserved : goal.loop-i-preserved
 loop-i-preserved c = run_on c.loop-i.invariant (plain_run (c.ascii8.ensures c.if-ascii8.true) (omega arith))
-
-pub returns-else-ascii8 : goal.returns-else-ascii8
-returns-else-ascii8 c = c.loop-i.invariant
-
-pub returns : goal.returns
-returns c = c.loop-i.invariant

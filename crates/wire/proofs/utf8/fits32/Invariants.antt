@@ -1,10 +1,7 @@
-use Rattle.std.specs.Prelude.{◌+◌, ◌-◌, ◌≤◌, ◌≡◌}
+use Rattle.std.specs.Prelude.{◌+◌, ◌≡◌}
 use Rattle.wire.proofs.Kit.{true}
 use Rattle.wire.specs.Code.{Owed}
 use Rattle.wire.proofs.utf8.fits32.Given as goal
 
 abbrev pub invariant-loop-k : goal.invariant-loop-k
-invariant-loop-k l = (l.k ≤ 32) × (l.ok ≡ true → Owed l.s l.i (l.i + l.k))
-
-abbrev pub decreases-loop-k : goal.decreases-loop-k
-decreases-loop-k l = 32 - l.k
+invariant-loop-k l = l.ok ≡ true → Owed l.s l.i (l.i + l.k)

@@ -4,7 +4,4 @@ use Rattle.wire.proofs.Steps.{plain_run, run_end}
 use Rattle.wire.proofs.utf8.is_utf8.Goals as goal
 
 pub returns-then-short_ascii : goal.returns-then-short_ascii
-returns-then-short_ascii c = sym (run_end (plain_run (c.short_ascii.ensures c.if-short_ascii.true) (omega arith)) (omega arith))
-
-pub returns-else-s-lt64 : goal.returns-else-s-lt64
-returns-else-s-lt64 c = c.characters-else-s-lt64.ensures ∙ sym c.wide.ensures.same
+returns-then-short_ascii c = c.if-short_ascii.true ∙ sym (run_end (plain_run (c.short_ascii.ensures c.if-short_ascii.true) (omega arith)) (omega arith))

@@ -5,9 +5,3 @@ use Rattle.wire.proofs.utf8.wide.Goals as goal
 
 pub loop-i-preserved : goal.loop-i-preserved
 loop-i-preserved c = run_on c.loop-i.invariant (plain_run (c.ascii64.ensures c.if-ascii64.true) (omega arith))
-
-pub returns-else-ascii64 : goal.returns-else-ascii64
-returns-else-ascii64 c = c.loop-i.invariant
-
-pub returns : goal.returns
-returns c = c.loop-i.invariant

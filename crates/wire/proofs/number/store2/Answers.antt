@@ -1,9 +1,0 @@
--- `store2` meets its contract: the stores are those of the digits.
-use Rattle.wire.proofs.Kit.{div-one, towards_suc, arith, length-set}
-use Rattle.wire.proofs.number.store2.Goals as goal
-
-pub bounds-out-at-2 : goal.bounds-out-at-2
-bounds-out-at-2 c = simp length-set (omega arith)
-
-pub returns : goal.returns
-returns c = simp (div-one, towards_suc)
