@@ -25,18 +25,6 @@ impl<W> Page<W> {
             to: to,
         }
     }
-
-    // Where the page is written out to.
-    pub fn beneath(&mut self) -> &mut W {
-        &mut self.to
-    }
-}
-
-impl<W: Drop> Page<W> {
-    // What is still to be written out, and how many bytes it has.
-    pub fn held(self) -> ([u8; SIZE], usize) {
-        (self.bytes, self.used)
-    }
 }
 
 impl<W: Write> Write for Page<W> {

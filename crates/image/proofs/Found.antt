@@ -151,33 +151,29 @@ module _ (s : List ℕ) (p : ℕ) where
       go (Ok x) = or (eqb x.0 0) (eqb x.0 1) x.1.at
       go (Err r) = refl
 
-  short_as : (k : ℕ → ℕ → Body) → short k s p ≡ got bad (u24_at s p) (λ a q. got bad (u16_at s q) (λ n e. k a n s e))
-  unfolding short short_at
-  short_as k = go (u24_at s p)
+  -- a text's place and then its length, of either width
+  text_as : (f : ℕ → Parsed ℕ) (k : ℕ → ℕ → Body)
+      → got_text bad (got denied (u24_at s p) λ a q. got denied (f q) λ n e. text_to a n (to e)) (λ a n e. k a n s e)
+      ≡ got bad (u24_at s p) (λ a q. got bad (f q) (λ n e. k a n s e))
+  text_as f k = go (u24_at s p)
     where
       then : (a : ℕ) (o : Parsed ℕ) → got_text bad (got denied o λ n e. text_to a n (to e)) (λ a n e. k a n s e) ≡ got bad o (λ n e. k a n s e)
       then a (Ok x) = refl
       then a (Err r) = refl
 
       go : (o : Parsed ℕ)
-          → got_text bad (got denied o λ a q. got denied (u16_at s q) λ n e. text_to a n (to e)) (λ a n e. k a n s e)
-          ≡ got bad o (λ a q. got bad (u16_at s q) (λ n e. k a n s e))
-      go (Ok x) = then x.0 (u16_at s x.1.at)
+          → got_text bad (got denied o λ a q. got denied (f q) λ n e. text_to a n (to e)) (λ a n e. k a n s e)
+          ≡ got bad o (λ a q. got bad (f q) (λ n e. k a n s e))
+      go (Ok x) = then x.0 (f x.1.at)
       go (Err r) = refl
+
+  short_as : (k : ℕ → ℕ → Body) → short k s p ≡ got bad (u24_at s p) (λ a q. got bad (u16_at s q) (λ n e. k a n s e))
+  unfolding short short_at
+  short_as k = text_as (u16_at s) k
 
   long_as : (k : ℕ → ℕ → Body) → long k s p ≡ got bad (u24_at s p) (λ a q. got bad (u24_at s q) (λ n e. k a n s e))
   unfolding long long_at
-  long_as k = go (u24_at s p)
-    where
-      then : (a : ℕ) (o : Parsed ℕ) → got_text bad (got denied o λ n e. text_to a n (to e)) (λ a n e. k a n s e) ≡ got bad o (λ n e. k a n s e)
-      then a (Ok x) = refl
-      then a (Err r) = refl
-
-      go : (o : Parsed ℕ)
-          → got_text bad (got denied o λ a q. got denied (u24_at s q) λ n e. text_to a n (to e)) (λ a n e. k a n s e)
-          ≡ got bad o (λ a q. got bad (u24_at s q) (λ n e. k a n s e))
-      go (Ok x) = then x.0 (u24_at s x.1.at)
-      go (Err r) = refl
+  long_as k = text_as (u24_at s) k
 
 -- what follows from a record that is found
 abbrev Into : Record → Cursor → Type 0 → Taken → Type 0
