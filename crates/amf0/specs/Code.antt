@@ -62,13 +62,14 @@ Owned (Err r) o t text at count out = (k : Rest → ℕ → Out) → pour (opene
 abbrev pub keyed : Taken → List ℕ → ℕ → (ℕ → Out) → Out
 keyed t text at k = taken at t λ r q. paired at (shape_of r) (λ w. row text w at (k q)) (λ w. row text w at (end q))
 
--- a key was put out, and the writing goes on with what follows, whatever that is; or the end was; or it is refused
+-- a key was put out up to a cursor, with so many bytes put out, or the end was
 abbrev pub key_to : Cursor → ℕ → Result Before Verdict
 key_to c n = Ok (Before.Key c n)
 
 abbrev pub end_to : Cursor → ℕ → Result Before Verdict
 end_to c n = Ok (Before.End c n)
 
+-- a key was put out, and the writing goes on with what follows, whatever that is; or the end was; or it is refused
 abbrev pub Paired : Result Before Verdict → List ℕ → Taken → List ℕ → ℕ → ℕ → List ℕ → Type 0
 Paired (Ok (Before.Key c n)) o t text at count out =
     ((k : ℕ → Out) → pour (keyed t text at k) count out ≡ pour (k c.at) n o) × (n ≤ count + longest) × ((r : Record) × (t ≡ taken_to r c))

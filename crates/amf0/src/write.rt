@@ -87,6 +87,7 @@ fn index(out: &mut [u8], count: usize, k: u32) -> usize
 // How far a value's own bytes were put out: up to a cursor, with so many bytes put out, and then this follows; or refused.
 pub type Begun = Result<(Cursor, usize, Rest), Refusal>;
 
+#[inline(always)]
 fn then(x: Step, rest: Rest) -> Begun
     ensures { result ≡ then_of x rest }
 {
@@ -95,6 +96,7 @@ fn then(x: Step, rest: Rest) -> Begun
 }
 
 // What was read of a record's body: where it could not be, no record stands at that place.
+#[inline(always)]
 fn of_record<T>(at: usize, body: Option<T>) -> Result<T, Refusal>
     ensures { result ≡ of_record at body }
 {
@@ -104,7 +106,9 @@ fn of_record<T>(at: usize, body: Option<T>) -> Result<T, Refusal>
     }
 }
 
-// The own bytes of each kind of value, whose body stands at a cursor and whose record at a place.
+// The own bytes of each kind of value, whose body stands at a cursor and whose record at a place. These, with `then`, `of_record` and `own`, are compiled into
+// `values` at once: so each way through a kind goes on to the next value, or out, without asking again whether it was refused.
+#[inline(always)]
 fn number(out: &mut [u8], image: &[u8], c: Cursor, at: usize, count: usize) -> Begun
     requires { count ≤ most }
     ensures { (text : List ℕ) → Owned result out.new (body_at 0x00 image.now c.at) text at count out.old }
@@ -116,6 +120,7 @@ fn number(out: &mut [u8], image: &[u8], c: Cursor, at: usize, count: usize) -> B
     )
 }
 
+#[inline(always)]
 fn boolean(out: &mut [u8], image: &[u8], c: Cursor, at: usize, count: usize) -> Begun
     requires { count ≤ most }
     ensures { (text : List ℕ) → Owned result out.new (body_at 0x01 image.now c.at) text at count out.old }
@@ -127,6 +132,7 @@ fn boolean(out: &mut [u8], image: &[u8], c: Cursor, at: usize, count: usize) -> 
     )
 }
 
+#[inline(always)]
 fn string(out: &mut [u8], image: &[u8], text: &[u8], c: Cursor, at: usize, count: usize) -> Begun
     requires { (length text.now ≤ most_bytes) × (count ≤ most) }
     ensures { Owned result out.new (body_at 0x02 image.now c.at) text.now at count out.old }
@@ -145,6 +151,7 @@ fn string(out: &mut [u8], image: &[u8], text: &[u8], c: Cursor, at: usize, count
     }
 }
 
+#[inline(always)]
 fn reference(out: &mut [u8], image: &[u8], c: Cursor, at: usize, count: usize) -> Begun
     requires { count ≤ most }
     ensures { (text : List ℕ) → Owned result out.new (body_at 0x07 image.now c.at) text at count out.old }
@@ -156,6 +163,7 @@ fn reference(out: &mut [u8], image: &[u8], c: Cursor, at: usize, count: usize) -
     )
 }
 
+#[inline(always)]
 fn ecma_array(out: &mut [u8], image: &[u8], c: Cursor, at: usize, count: usize) -> Begun
     requires { count ≤ most }
     ensures { (text : List ℕ) → Owned result out.new (body_at 0x08 image.now c.at) text at count out.old }
@@ -167,6 +175,7 @@ fn ecma_array(out: &mut [u8], image: &[u8], c: Cursor, at: usize, count: usize) 
     )
 }
 
+#[inline(always)]
 fn strict_array(out: &mut [u8], image: &[u8], c: Cursor, at: usize, count: usize) -> Begun
     requires { count ≤ most }
     ensures { (text : List ℕ) → Owned result out.new (body_at 0x0A image.now c.at) text at count out.old }
@@ -178,6 +187,7 @@ fn strict_array(out: &mut [u8], image: &[u8], c: Cursor, at: usize, count: usize
     )
 }
 
+#[inline(always)]
 fn date(out: &mut [u8], image: &[u8], c: Cursor, at: usize, count: usize) -> Begun
     requires { count ≤ most }
     ensures { (text : List ℕ) → Owned result out.new (body_at 0x0B image.now c.at) text at count out.old }
@@ -195,6 +205,7 @@ fn date(out: &mut [u8], image: &[u8], c: Cursor, at: usize, count: usize) -> Beg
     }
 }
 
+#[inline(always)]
 fn xml(out: &mut [u8], image: &[u8], text: &[u8], c: Cursor, at: usize, count: usize) -> Begun
     requires { (length text.now ≤ most_bytes) × (count ≤ most) }
     ensures { Owned result out.new (body_at 0x0F image.now c.at) text.now at count out.old }
@@ -206,6 +217,7 @@ fn xml(out: &mut [u8], image: &[u8], text: &[u8], c: Cursor, at: usize, count: u
     )
 }
 
+#[inline(always)]
 fn typed_object(
     out: &mut [u8],
     image: &[u8],
@@ -225,6 +237,7 @@ fn typed_object(
 }
 
 // A marker alone.
+#[inline(always)]
 fn bare(out: &mut [u8], count: usize, marker: u64, next: Cursor, rest: Rest) -> Begun
     requires { count ≤ most }
     ensures { (text : List ℕ) → (x : Record) → (at : ℕ) → shape_of x ≡ Value (plain_of marker no_field no_field) rest → Owned result out.new (taken_to x next) text at count out.old }
@@ -233,6 +246,7 @@ fn bare(out: &mut [u8], count: usize, marker: u64, next: Cursor, rest: Rest) -> 
 }
 
 // The own bytes of the value whose record stands at a cursor.
+#[inline(always)]
 #[tactic(auto, unfolding(image::specs::Taking::record_at))]
 fn own(out: &mut [u8], image: &[u8], text: &[u8], c: Cursor, count: usize) -> Begun
     requires { (length text.now ≤ most_bytes) × (count ≤ most) }

@@ -146,11 +146,13 @@ pub held : (image text index : List ℕ) {x y : Indexed} → x ≡ y → Holds i
 held image text index e h = rw e h
 
 -- after a refusal: nothing
+pub emptied : (image text index : List ℕ) (room : ℕ) → length index ≡ room → index ≡ padded [] room → Holds image text [] index
+emptied image text index room n e =
+    record { row = []; sorted = record { same = Shuffled.none; rising = λ k h. absurd (omega arith) }; bytes = e ∙ ap (λ (k : ℕ). padded [] k) (sym n) }
+
 pub nothing_held : (image text index : List ℕ) (room size : ℕ) {a : ℕ} → index_of image text room ≡ unindexed a → length index ≡ size → index ≡ padded [] size
     → Holds image text (index_of image text room).keys index
-nothing_held image text index room size e n b =
-    held image text index e
-    record { row = []; sorted = record { same = Shuffled.none; rising = λ k h. absurd (omega arith) }; bytes = b ∙ ap (λ (k : ℕ). padded [] k) (sym n) }
+nothing_held image text index room size e n b = held image text index e (emptied image text index size n b)
 
 -- what is sorted and then cleared behind
 pub made : (image text b r o s index : List ℕ) (k : ℕ) → k ≡ length b / 13 → o ≡ b ++ r → ((i : ℕ) → get_or index i 0 < 256) → 13 * k ≤ length s

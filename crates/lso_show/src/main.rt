@@ -199,6 +199,8 @@ fn show_page<const N: usize>(
     end(&mut page)
 }
 
+// Never in its caller's frame: where nothing is shown there is no index, and the stack has its room for the words.
+#[inline(never)]
 fn show_settled(rt: &impl Runtime, a: Asked, input: &[u8], image: &mut [u8]) -> io::Result<()> {
     let mut index = [0u8; SIZE * KEYS];
     show_page(rt, a, input, image, &mut index)

@@ -118,11 +118,11 @@ filled es room = es ++ replicate (room - length es) no_entry
 
 -- ---- one entry
 
--- the entry with a number, from 0, headers first
 -- an entry that was looked for, or a refusal
 abbrev pub Found : Type 0
 Found = Result Entry Verdict
 
+-- the entry with a number, from 0, headers first
 abbrev pub found_in : Cut → ℕ → Found
 found_in (found es z) number = pick (ltb number (length es)) (Ok (get_or es number no_entry)) (denied 8 0)
 found_in (stops a p) number = denied a p

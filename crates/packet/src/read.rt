@@ -84,7 +84,7 @@ pub fn parse(input: &[u8], image: &mut [u8]) -> Reading
             if c.at < input.len() {
                 return finish(image, Answer::NotRight.refuse(c.at));
             }
-            finish(image, Ok((c, made)))
+            finish(image, Step::Ok((c, made)))
         }
     }
 }

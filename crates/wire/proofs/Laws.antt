@@ -14,7 +14,7 @@ use Rattle.wire.specs.Choice.{pick}
 use Rattle.wire.specs.Number.{digits, number, Bytes, stored}
 use Rattle.wire.specs.Bytes.{laid}
 use Rattle.wire.specs.Utf8.{utf8}
-use Rattle.wire.specs.Field.{bytes_at, Parsed, got_to, uint_at, u8_at, u16_at, u32_at, u64_at, str_at, text_at, equal, tag_at}
+use Rattle.wire.specs.Field.{bytes_at, Parsed, got_to, uint_at, u8_at, u16_at, u24_at, u32_at, u64_at, str_at, text_at, equal, tag_at}
 
 clash : ◌≡◌ {A = ℕ} 0 1 → ⊥
 clash e = omega arith
@@ -101,6 +101,10 @@ module _ (s : List ℕ) (at : ℕ) where
   pub u16_stop : (a p : ℕ) → u16_at s at ≡ denied a p → Short 2 s at a p
   unfolding u16_at
   u16_stop = short_of 2 s at
+
+  pub u24_next : (n : ℕ) (c : Cursor) → u24_at s at ≡ Ok (n, c) → Read 3 s at n c
+  unfolding u24_at
+  u24_next = read_of 3 s at
 
   pub u32_next : (n : ℕ) (c : Cursor) → u32_at s at ≡ Ok (n, c) → Read 4 s at n c
   unfolding u32_at

@@ -1,6 +1,6 @@
 // The rule "Answers" (docs/DEMANDS.md): a call that is not refused answers 0, and each reason for which one is refused has a number of its own.
 ghost use Rattle.std.specs.Prelude.{◌≡◌};
-ghost use Rattle.wire.specs.Answer.{number_of, Answers, verdict, denied};
+ghost use Rattle.wire.specs.Answer.{number_of, answer_of, Answers, verdict, denied};
 
 use std::marker::Model;
 
@@ -102,7 +102,8 @@ impl Answer {
 
 impl Refusal {
     pub fn answer(self) -> Answer
-        ensures { number_of result ≡ self.answer }
+        ensures value { result ≡ answer_of self.answer }
+        ensures number { number_of result ≡ self.answer }
     {
         self.answer
     }

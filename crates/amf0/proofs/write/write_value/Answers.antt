@@ -9,7 +9,7 @@ pub returns-in-Err : goal.returns-in-Err
 returns-in-Err c =
     let o = c.args.out.now in
     let e = write_halt c.args.image.now c.args.text.now (length o) _ c.in-Err.ensures.out_after in
-    record { value = rw (c.refused_by.ensures, c.answer.ensures, e); out_after = rw (e, no_room c.pour_value.new.out o c.pour_value.auto.out) }
+    record { value = rw (c.refused_by.ensures, c.answer.ensures.number, e); out_after = rw (e, no_room c.pour_value.new.out o c.pour_value.auto.out) }
 
 pub returns-in-Ok : goal.returns-in-Ok
 returns-in-Ok c =

@@ -12,7 +12,7 @@ returns-in-Ok c =
 pub returns-in-Err : goal.returns-in-Err
 returns-in-Err c =
     let e = put_stop _ _ _ _ (sym c.record_of.ensures ∙ c.in-Some.is) 0 0 (rw c.in-Err.is at c.put.ensures.image_after) in
-    rw (c.from.ensures, c.answer.ensures) (record { value = ap (λ (x : Put). x.laying) e; image_after = ap (λ (x : Put). x.image) e })
+    rw (c.from.ensures, c.answer.ensures.number) (record { value = ap (λ (x : Put). x.laying) e; image_after = ap (λ (x : Put). x.image) e })
 
 pub returns-in-None : goal.returns-in-None
 returns-in-None c =

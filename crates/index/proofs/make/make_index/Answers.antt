@@ -34,7 +34,7 @@ returns-in-Err c =
     let of : ℕ → ℕ → Indexing = λ n x. record { answer = n; count = x } in
     let e = stopped a.image.now a.text.now (length a.index.now) c.if-text-gt-BYTES.false c.if-image-gt-IMAGE.false a.index.now (rw c.in-Err.is at c.gather.ensures) in
     record {
-      value = c.refused-in-Err.ensures.value ∙ ap (λ (n : ℕ). of n 0) c.answer.ensures ∙ ap indexing (sym e);
+      value = c.refused-in-Err.ensures.value ∙ ap (λ (n : ℕ). of n 0) c.answer.ensures.number ∙ ap indexing (sym e);
       holds = nothing_held a.image.now a.text.now _ _ _ e c.refused-in-Err.auto.index c.refused-in-Err.ensures.index_after;
     }
 

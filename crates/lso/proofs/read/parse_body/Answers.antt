@@ -26,12 +26,12 @@ loop-d-preserved c =
 pub returns-in-NotWhole-clause-image_after : goal.returns-in-NotWhole-clause-image_after
 returns-in-NotWhole-clause-image_after c =
     let l = c.loop-d in
-    let n = sym c.answer.ensures in
+    let n = sym c.answer.ensures.number in
     sym (l.invariant.6 ∙ body_ends _ l.c.at l.invariant.4 l.invariant.5 _ _ c.in-Err.ensures.image_after (⊎_elim (λ e. inl (n ∙ ap number_of e)) (λ e. inr (n ∙ ap number_of e)) c.in-NotWhole.is))
 
 pub returns-in_default : goal.returns-in_default
 returns-in_default c =
     let l = c.loop-d in
     let d = c.in_default in
-    let n = other_answer c.answer.ensures d.not-NotWhole d.not-NotRight in
+    let n = other_answer c.answer.ensures.number d.not-NotWhole d.not-NotRight in
     record { image_after = sym (l.invariant.6 ∙ body_stops _ l.c.at l.invariant.4 l.invariant.5 _ _ c.in-Err.ensures.image_after n.0 n.1); within = within_stop }

@@ -9,7 +9,7 @@ pub returns-in-Err : goal.returns-in-Err
 returns-in-Err c =
     let o = c.args.out.now in
     let e = write_halt c.args.image.now c.args.text.now (length o) (omega arith) (omega arith) c.in-Err.ensures in
-    record { value = rw (c.refused_by-in-Err.ensures, c.answer.ensures, e); out_after = rw (e, no_room c.write_file.new.out o c.write_file.auto.out) }
+    record { value = rw (c.refused_by-in-Err.ensures, c.answer.ensures.number, e); out_after = rw (e, no_room c.write_file.new.out o c.write_file.auto.out) }
 
 pub returns-then-n-gt-BYTES : goal.returns-then-n-gt-BYTES
 returns-then-n-gt-BYTES c =

@@ -58,7 +58,7 @@ returns-in-Err c =
     let o = a.out.now in
     let u = no_room c.write_packet.new.out o c.write_packet.auto.out in
     let e = write_halt i x a.exact_lengths (length o) (omega arith) (omega arith) [] (halted c.in-Err.ensures) in
-    record { value = rw (c.refused_by-in-Err.ensures, c.answer.ensures, e); out_after = rw (e, u) }
+    record { value = rw (c.refused_by-in-Err.ensures, c.answer.ensures.number, e); out_after = rw (e, u) }
 
 pub returns-else-out-n : goal.returns-else-out-n
 returns-else-out-n c =
