@@ -1,6 +1,5 @@
 -- What a reading in a room comes to: the answer, the counts or the place, and every byte of the image.
 use Rattle.std.specs.Prelude.{ℕ, ◌+◌, ◌-◌, List, [], ◌++◌, length, take, replicate, leb, eqb, Result, Ok, Err}
-use Rattle.wire.specs.Answer.{Verdict}
 use Rattle.wire.specs.Choice.{pick}
 use Rattle.image.specs.declared.reading.Reading.{Reading}
 use Rattle.image.specs.Record.{bytes_of, size}
@@ -46,11 +45,11 @@ all s w = pick (eqb w.reading.answer 0) (pick (leb (length s) w.reading.used) w 
 abbrev pub padded : List ℕ → ℕ → List ℕ
 padded b room = b ++ replicate (room - length b) 0
 
--- what the end of a step makes of an image that it left, where f says what refused the step
-abbrev pub finished_by : {R : Type 0} → (R → Verdict) → Result (Cursor × ℕ) R → List ℕ → Whole
+-- what the end of a step makes of an image that it left, where f tells what refused the step: an answer's number, and a place
+abbrev pub finished_by : {R : Type 0} → (R → ℕ × ℕ) → Result (Cursor × ℕ) R → List ℕ → Whole
 finished_by f (Ok x) image = record { reading = record { answer = 0; used = x.0.at; made = x.1 }; bytes = take x.1 image }
-finished_by f (Err r) image = refused (f r).answer (f r).place
+finished_by f (Err r) image = refused (f r).0 (f r).1
 
 -- the same of a step of the readers
 abbrev pub finished : Step → List ℕ → Whole
-finished = finished_by (λ r. r)
+finished = finished_by (λ r. (r.answer, r.place))

@@ -1,8 +1,7 @@
 // A reading lays its records behind one another, and comes to an answer, two counts and an image.
-ghost use Rattle.std.specs.Prelude.{◌≡◌, ◌+◌, ◌-◌, ◌≤◌, ◌<◌, ◌++◌, length, take, replicate, []};
+ghost use Rattle.std.specs.Prelude.{ℕ, ◌≡◌, ◌+◌, ◌-◌, ◌≤◌, ◌<◌, ◌++◌, length, take, replicate, []};
 ghost use Rattle.std.proofs.lemmas.List.Edits.{sets};
 ghost use Rattle.image.specs.declared.record.Record.TheVariants.{Key, ObjectEnd};
-ghost use Rattle.wire.specs.Answer.{Verdict, verdict};
 ghost use Rattle.image.specs.Record.{field_bytes, lies, none, ◌bytes◌};
 ghost use Rattle.image.specs.Due.{run, ran, due, «end», put, Within};
 ghost use Rattle.image.specs.Whole.{finished_by, padded, refused};
@@ -312,14 +311,14 @@ pub fn refused(image: &mut [u8], answer: u8, place: usize) -> Reading
 
 // What refuses a step, as it is told: the number of an answer, and the place. A `Refusal` tells it; so do two numbers, of which the first may be no answer's.
 pub trait Refusing {
-    ghost verdict_of: { Self → Verdict };
+    ghost numbers: { Self → ℕ × ℕ };
 
     fn told(self) -> (u8, usize)
-        ensures { verdict result.0 result.1 ≡ verdict_of self };
+        ensures { result ≡ numbers self };
 }
 
 impl Refusing for Refusal {
-    ghost verdict_of = { λ r. r };
+    ghost numbers = { λ r. (r.answer, r.place) };
 
     fn told(self) -> (u8, usize) {
         (u8::from(self.answer()), self.place())
@@ -327,7 +326,7 @@ impl Refusing for Refusal {
 }
 
 impl Refusing for (u8, usize) {
-    ghost verdict_of = { λ r. verdict r.0 r.1 };
+    ghost numbers = { λ r. r };
 
     fn told(self) -> (u8, usize) {
         self
@@ -336,8 +335,8 @@ impl Refusing for (u8, usize) {
 
 // The end of a reading: what is past the made part is cleared, all of it where the reading was refused, and the place is then returned for the bytes used.
 pub fn finish<R: Refusing>(image: &mut [u8], x: Result<(Cursor, usize), R>) -> Reading
-    ensures value { result ≡ (finished_by R.verdict_of x image.old).reading }
-    ensures image_after { image.new ≡ padded (finished_by R.verdict_of x image.old).bytes (length image.old) }
+    ensures value { result ≡ (finished_by R.numbers x image.old).reading }
+    ensures image_after { image.new ≡ padded (finished_by R.numbers x image.old).bytes (length image.old) }
 {
     match x {
         Ok((c, made)) => {
